@@ -1,0 +1,3 @@
+pub mod AnswerLemmas
+pub mod ByteLemmas
+pub mod TextLemmas

@@ -1,0 +1,4 @@
+pub mod Answer
+pub mod Bytes
+pub mod Path
+pub mod Text

@@ -1,0 +1,34 @@
+-- The text of a file revision: a metadata block, which may be missing, and the body.
+use Rattle.std.specs.Prelude.{ℕ, List, [], ◌∷◌, ◌++◌, Bool, ◌&&◌, ◌==◌, drop, Option, Some, None, option_map, if◌then◌else◌}
+use Rattle.hgs_bytes.specs.Bytes.{begins_with}
+
+-- the bytes that begin and end a block
+abbrev pub marker : List ℕ
+marker = 1 ∷ 10 ∷ []
+
+-- what stands before the first marker, and after it
+abbrev pub split_at_marker : List ℕ → Option (List ℕ × List ℕ)
+split_at_marker [] = None
+split_at_marker (a ∷ []) = None
+split_at_marker (a ∷ b ∷ bytes) =
+    if a == 1 && b == 10 then Some ([], bytes)
+    else option_map (λ p. (a ∷ p.0, p.1)) (split_at_marker (b ∷ bytes))
+
+-- the block with both its markers, and the body; where the block has no end, all is the body
+abbrev pub with_block : List ℕ → Option (List ℕ × List ℕ) → List ℕ × List ℕ
+with_block text None = ([], text)
+with_block text (Some p) = (marker ++ p.0 ++ marker, p.1)
+
+-- the prefix and the body of a text
+abbrev pub unpacked : List ℕ → List ℕ × List ℕ
+unpacked text = if begins_with text marker then with_block text (split_at_marker (drop 2 text)) else ([], text)
+
+abbrev pub body_of : List ℕ → List ℕ
+body_of text = (unpacked text).1
+
+abbrev pub prefix_of : List ℕ → List ℕ
+prefix_of text = (unpacked text).0
+
+-- the prefix of a body that nothing else asks for: an empty block where the body begins with a marker
+abbrev pub plain_prefix : List ℕ → List ℕ
+plain_prefix body = if begins_with body marker then marker ++ marker else []
