@@ -1,7 +1,8 @@
-// Paths, operations on files, and the traits of what lies outside.
+//! Paths, operations on files, and the traits of what lies outside: files, the place of a repository, and streams.
 #![tactic(auto)]
 
 pub mod files;
+pub mod laws;
 pub mod op;
 pub mod path;
 pub mod streams;

@@ -1,11 +1,12 @@
-// A map from paths to bytes, changed as operations say.
-ghost use Rattle.std.specs.Prelude.{◌≡◌, ℕ, ◌+◌, ◌<◌, ◌≤◌, List, [], ◌∷◌, ◌++◌, length, IfOk, OnOk, OnErr, Some, None, option_copied};
-ghost use Rattle.hgs_files.specs.Tree.{Tree, with_file, apply, after_all, bytes_at};
-ghost use Rattle.std.specs.Prelude.{is_ok, if◌then◌else◌};
+//! A map from paths to bytes, changed as operations say, with the log of these.
+ghost use Rattle.std.specs.Prelude.{◌≡◌, ◌<◌, List, [], ◌∷◌, ◌++◌, take, drop, OnOk, OnErr, Some, None, option_copied, is_ok, if◌then◌else◌};
 ghost use Rattle.hgs_files.specs.declared.op.Op.{Op};
-ghost use Rattle.hgs_files.specs.Files.{IsAppend, IsCreate, appends_of, joined};
+ghost use Rattle.hgs_files.specs.Tree.{with_file, apply};
+ghost use Rattle.hgs_files.specs.Log.{IsDone};
 ghost use Rattle.hgs_mem.specs.Mem.{tree_of};
+ghost use Rattle.hgs_mem.specs.Pieces.{AreSmall};
 
+use crate::pieces::appends;
 use hgs_bytes::bytes::Bytes;
 use hgs_files::op::Op;
 use hgs_files::path::StorePath;
@@ -37,70 +38,22 @@ pub fn bytes_of<'m>(map: &'m Map, path: &StorePath) -> Option<&'m Bytes>
     map.get(path)
 }
 
-/// Adds appends of the pieces of these bytes.
-fn add_appends(
-    alloc: Global,
-    ops: &mut Vec<Op>,
-    path: &StorePath,
-    bytes: &[u8],
-    piece: usize,
-) -> Result<(), AllocError>
-    requires { 0 < piece }
-    ensures { OnOk result ((ps : List (List ℕ)) × (ops.new.items ≡ ops.old.items ++ appends_of path.now ps) × (joined ps ≡ bytes.now)) }
+/// The first bytes, at most so many.
+#[tactic(auto, using(std::proofs::lemmas::List::take_min))]
+pub fn front(bytes: &[u8], most: u64) -> &[u8]
+    ensures { result.now ≡ take most bytes.now }
 {
-    let mut at: usize = 0;
-    while at < bytes.len() {
-        let count = piece.min(bytes.len() - at);
-        let part = Bytes::from_slice(alloc, &bytes[at..at + count])?;
-        ops.push(Op::Append {
-            path: path.copy(alloc)?,
-            bytes: part,
-        })?;
-        at += count;
-    }
-    Ok(())
+    let count = most.min(bytes.len() as u64) as usize;
+    &bytes[..count]
 }
 
-/// The pieces of an append.
-pub fn appends(
-    alloc: Global,
-    path: &StorePath,
-    bytes: &[u8],
-    piece: usize,
-) -> Result<Vec<Op>, AllocError>
-    requires { 0 < piece }
-    ensures { IfOk result (λ ops. IsAppend path.now bytes.now ops.items) }
+/// The bytes from a place on, none where there are no more.
+#[tactic(auto, using(std::proofs::lemmas::List::drop_min))]
+pub fn past(bytes: &[u8], from: u64) -> &[u8]
+    ensures { result.now ≡ drop from bytes.now }
 {
-    let count = piece.min(bytes.len());
-    let first = Op::Append {
-        path: path.copy(alloc)?,
-        bytes: Bytes::from_slice(alloc, &bytes[..count])?,
-    };
-    let mut ops = Vec::new(alloc);
-    ops.push(first)?;
-    add_appends(alloc, &mut ops, path, &bytes[count..], piece)?;
-    Ok(ops)
-}
-
-/// The pieces of a creation.
-pub fn creates(
-    alloc: Global,
-    path: &StorePath,
-    bytes: &[u8],
-    piece: usize,
-) -> Result<Vec<Op>, AllocError>
-    requires { 0 < piece }
-    ensures { IfOk result (λ ops. IsCreate path.now bytes.now ops.items) }
-{
-    let count = piece.min(bytes.len());
-    let first = Op::Create {
-        path: path.copy(alloc)?,
-        bytes: Bytes::from_slice(alloc, &bytes[..count])?,
-    };
-    let mut ops = Vec::new(alloc);
-    ops.push(first)?;
-    add_appends(alloc, &mut ops, path, &bytes[count..], piece)?;
-    Ok(ops)
+    let start = from.min(bytes.len() as u64) as usize;
+    &bytes[start..]
 }
 
 /// Sets a file, and adds these operations, or does nothing.
@@ -122,7 +75,7 @@ fn record(
     }
 }
 
-/// Appends, and adds that to the log, or does nothing.
+/// Appends in pieces of at most `piece` bytes, and adds that to the log, or does nothing.
 pub fn append(
     alloc: Global,
     map: &mut Map,
@@ -132,7 +85,7 @@ pub fn append(
     piece: usize,
 ) -> Result<(), AllocError>
     requires { 0 < piece }
-    ensures ok { OnOk result ((ops : List Op) × IsAppend path.now bytes.now ops × (log.new.items ≡ log.old.items ++ ops)) }
+    ensures ok { OnOk result ((ops : List Op) × (IsDone (Op.Append path.now bytes.now ∷ []) ops [] × AreSmall piece ops) × (log.new.items ≡ log.old.items ++ ops)) }
     ensures tree { OnOk result (tree_of map.new ≡ apply (Op.Append path.now bytes.now) (tree_of map.old)) }
     ensures err { OnErr result ((log.new.items ≡ log.old.items) × (tree_of map.new ≡ tree_of map.old)) }
 {
@@ -145,28 +98,28 @@ pub fn append(
     record(map, log, ops, path.copy(alloc)?, next)
 }
 
-/// Creates, and adds that to the log, or does nothing.
+/// Makes or replaces a file, and adds that to the log, or does nothing.
 pub fn create(
     alloc: Global,
     map: &mut Map,
     log: &mut Vec<Op>,
     path: &StorePath,
     bytes: &[u8],
-    piece: usize,
 ) -> Result<(), AllocError>
-    requires { 0 < piece }
-    ensures ok { OnOk result ((ops : List Op) × IsCreate path.now bytes.now ops × (log.new.items ≡ log.old.items ++ ops)) }
+    ensures ok { OnOk result (log.new.items ≡ log.old.items ++ Op.Create path.now bytes.now ∷ []) }
     ensures tree { OnOk result (tree_of map.new ≡ apply (Op.Create path.now bytes.now) (tree_of map.old)) }
     ensures err { OnErr result ((log.new.items ≡ log.old.items) × (tree_of map.new ≡ tree_of map.old)) }
 {
-    let ops = creates(alloc, path, bytes, piece)?;
-    record(
-        map,
-        log,
-        ops,
-        path.copy(alloc)?,
-        Bytes::from_slice(alloc, bytes)?,
-    )
+    let op = Op::Create {
+        path: path.copy(alloc)?,
+        bytes: Bytes::from_slice(alloc, bytes)?,
+    };
+    log.reserve(1)?;
+    set(map, path.copy(alloc)?, Bytes::from_slice(alloc, bytes)?)?;
+    match log.push(op) {
+        Ok(()) => Ok(()),
+        Err(_) => unreachable!(),
+    }
 }
 
 /// Shortens, and adds that to the log, or does nothing.

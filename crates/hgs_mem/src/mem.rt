@@ -1,215 +1,127 @@
-// Files in memory, with the list of what was done on them.
-ghost use Rattle.std.specs.Prelude.{◌≡◌, ℕ, ◌+◌, ◌-◌, ◌^◌, ◌<◌, ◌≤◌, min, List, [], ◌∷◌, ◌++◌, take, drop, length, IfOk, IfSome, OnOk, OnErr, Some, None, Err, IsSome, Option, Bool, true, refl, option_copied};
-ghost use Rattle.hgs_files.specs.Tree.{Tree, with_file, apply, after_all, bytes_at};
-ghost use Rattle.hgs_files.specs.Reads.{Gives, SizeOf, greatest};
+//! Files in memory.
+ghost use Rattle.std.specs.Prelude.{◌≡◌, ◌==◌, ◌≤◌, ◌<◌, ℕ, min, List, [], ◌∷◌, ◌++◌, take, drop, length, IfOk, OnOk, OnErr, Some, None, true, refl, if◌then◌else◌, IfSome};
 ghost use Rattle.hgs_files.specs.declared.op.Op.{Op};
-ghost use Rattle.hgs_files.specs.Files.{IsAppend, IsCreate};
-ghost use Rattle.hgs_mem.specs.Mem.{tree_of, start_tree, SameCounts};
+ghost use Rattle.hgs_files.specs.Tree.{after_all};
+ghost use Rattle.hgs_files.specs.Log.{append_of_rest};
+ghost use Rattle.hgs_files.specs.Reads.{Counts, ReadsFrom, HasSize, LooksAt, AddsBytes, ReadsPart, greatest};
+ghost use Rattle.hgs_files.specs.Files.{GoesOn, LeavesPieces, LeavesWhole, CreatesNew};
+ghost use Rattle.hgs_mem.specs.Mem.{start_tree};
+ghost use Rattle.hgs_mem.specs.Pieces.{AreSmall, create_of_front};
+ghost use Rattle.hgs_mem.specs.Plan.{failure_at, next_fate, after_call, earlier};
+ghost use Rattle.hgs_mem.specs.MemFiles.{log_of, start_of, tree_now, piece_of, plan_of, tally_of, KeepsFiles, FailsBy, FailsAfter};
 
-use crate::contents;
-use crate::contents::Map;
-use crate::plan::{Fate, Plan};
-use hgs_bytes::bytes::Bytes;
+use crate::contents::{front, past};
+use crate::logged::LoggedFiles;
+use crate::plan::Plan;
+use crate::tally::Tally;
 use hgs_files::files::{Created, FileFault, Files, Reads};
-use hgs_files::op::Op;
 use hgs_files::path::StorePath;
 use std::alloc::{AllocError, Global};
 use std::collections::BTreeMap;
 
-/// Files in memory.
+/// Files in memory, which tell all that was done on them, and can be told to fail or to stop at a call.
+///
+/// Each reading or writing call has a number, from 0. A call that is to fail after some bytes does just these, and then
+/// answers `Failed`; one that brings no bytes does nothing then.
 #[derive(Drop)]
 pub struct MemFiles {
-    alloc: Global,
-    files: Map,
-    first: Option<Map>,
-    log: Vec<Op>,
-    piece: usize,
+    kept: LoggedFiles,
     plan: Plan,
-    faults: u64,
-    denied: u64,
-    given: u64,
-    ghost kept: { tree_of files ≡ after_all log.items (start_tree first files) },
-    ghost some_piece: { 0 < piece },
+    tally: Tally,
 }
 
 impl MemFiles {
     /// No files.
     pub fn new(alloc: Global) -> Result<MemFiles, AllocError>
-        ensures { IfOk result (λ m. (m.log.items ≡ []) × (m.faults ≡ 0) × (m.denied ≡ 0) × (m.given ≡ 0)) }
+        ensures log { IfOk result (λ m. log_of m ≡ []) }
+        ensures start { IfOk result (λ m. (path : List ℕ) → start_of m path ≡ None) }
+        ensures piece { IfOk result (λ m. piece_of m ≡ greatest) }
+        ensures tally { IfOk result (λ m. tally_of m ≡ record { faults = 0; denied = 0; given = 0 }) }
+        ensures calls { IfOk result (λ m. (plan_of m).calls ≡ 0) }
+        ensures stop { IfOk result (λ m. (plan_of m).stop ≡ None) }
+        ensures failures { IfOk result (λ m. (call : ℕ) → failure_at (plan_of m) call ≡ None) }
     {
         Ok(MemFiles {
-            alloc,
-            files: BTreeMap::new(alloc),
-            first: None,
-            log: Vec::new(alloc),
-            piece: usize::MAX,
-            plan: Plan::new(),
-            faults: 0,
-            denied: 0,
-            given: 0,
+            kept: LoggedFiles::from_map(alloc, BTreeMap::new(alloc)),
+            plan: Plan::new(alloc),
+            tally: Tally::new(),
         })
     }
 
-    /// The files as a stop left them, with nothing done yet.
-    pub fn restart(self) -> MemFiles
-        ensures tree { start_tree result.first result.files ≡ tree_of self.files }
-        ensures log { result.log.items ≡ [] }
+    /// Makes each append go in pieces of at most `n` bytes, each an entry of the log.
+    pub fn pieces(&mut self, n: u64)
+        requires { 0 < n }
+        ensures piece { piece_of self.new ≡ n }
+        ensures log { log_of self.new ≡ log_of self.old }
+        ensures start { start_of self.new ≡ start_of self.old }
+        ensures tally { tally_of self.new ≡ tally_of self.old }
+        ensures plan { plan_of self.new ≡ plan_of self.old }
     {
-        let MemFiles {
-            alloc,
-            files,
-            first: _,
-            log: _,
-            piece: _,
-            plan: _,
-            faults: _,
-            denied: _,
-            given: _,
-        } = self;
+        self.kept.set_piece(n as usize);
+    }
+
+    /// Makes the call with this number fail after so many bytes, in place of what was named for it. Several may be named.
+    pub fn fail(&mut self, call: u64, bytes: u64) -> Result<(), AllocError>
+        ensures ok { OnOk result ((k : ℕ) → failure_at (plan_of self.new) k ≡ (if call == k then Some bytes else failure_at (plan_of self.old) k)) }
+        ensures err { OnErr result ((k : ℕ) → failure_at (plan_of self.new) k ≡ failure_at (plan_of self.old) k) }
+        ensures calls { (plan_of self.new).calls ≡ (plan_of self.old).calls }
+        ensures stop { (plan_of self.new).stop ≡ (plan_of self.old).stop }
+        ensures files { KeepsFiles self.old self.new }
+    {
+        self.plan.fail(call, bytes)
+    }
+
+    /// Makes everything stop at the call with this number, after so many bytes: it and each later call answer `Failed`. Of
+    /// two stops the earlier counts.
+    pub fn stop(&mut self, call: u64, bytes: u64)
+        ensures plan { plan_of self.new ≡ record (plan_of self.old) { stop = Some (earlier (plan_of self.old).stop (record { call = call; bytes = bytes })) } }
+        ensures files { KeepsFiles self.old self.new }
+    {
+        self.plan.stop(call, bytes);
+    }
+
+    /// The number of the next call, at most the greatest `u64`.
+    pub fn calls(&self) -> u64
+        ensures { result ≡ (plan_of self.now).calls }
+    {
+        self.plan.calls
+    }
+
+    /// The files as they stand, as those that a session begins with: nothing done yet, nothing counted, nothing to fail,
+    /// and appends whole again. Takes no memory.
+    pub fn restart(self) -> MemFiles
+        ensures tree { start_of result ≡ tree_now self }
+        ensures log { log_of result ≡ [] }
+        ensures piece { piece_of result ≡ greatest }
+        ensures tally { tally_of result ≡ record { faults = 0; denied = 0; given = 0 } }
+        ensures calls { (plan_of result).calls ≡ 0 }
+        ensures stop { (plan_of result).stop ≡ None }
+        ensures failures { (call : ℕ) → failure_at (plan_of result) call ≡ None }
+    {
+        let kept = self.kept.restart();
+        let plan = Plan::new(kept.alloc);
         MemFiles {
-            alloc,
-            files,
-            first: None,
-            log: Vec::new(alloc),
-            piece: usize::MAX,
-            plan: Plan::new(),
-            faults: 0,
-            denied: 0,
-            given: 0,
+            kept,
+            plan,
+            tally: Tally::new(),
         }
     }
 }
 
-/// Keeps a copy of the files, if there is none.
-fn keep(files: &Map, first: &mut Option<Map>) -> Result<(), AllocError>
-    ensures same { start_tree first.new files.now ≡ start_tree first.old files.now }
-    ensures some { OnOk result (IsSome first.new) }
-{
-    if first.is_none() {
-        *first = Some(files.clone()?);
-    }
-    Ok(())
-}
-
-impl MemFiles {
-    fn do_append(&mut self, path: &StorePath, bytes: &[u8]) -> Result<(), AllocError>
-        ensures ok { OnOk result ((ops : List Op) × IsAppend path.now bytes.now ops × (self.new.log.items ≡ self.old.log.items ++ ops)) }
-        ensures err { OnErr result (self.new.log.items ≡ self.old.log.items) }
-        ensures start { start_tree self.new.first self.new.files ≡ start_tree self.old.first self.old.files }
-        ensures counts { SameCounts self.old.faults self.new.faults self.old.denied self.new.denied self.old.given self.new.given }
-    {
-        keep(&self.files, &mut self.first)?;
-        contents::append(
-            self.alloc,
-            &mut self.files,
-            &mut self.log,
-            path,
-            bytes,
-            self.piece,
-        )
-    }
-
-    fn do_create(&mut self, path: &StorePath, bytes: &[u8]) -> Result<(), AllocError>
-        ensures ok { OnOk result ((ops : List Op) × IsCreate path.now bytes.now ops × (self.new.log.items ≡ self.old.log.items ++ ops)) }
-        ensures err { OnErr result (self.new.log.items ≡ self.old.log.items) }
-        ensures start { start_tree self.new.first self.new.files ≡ start_tree self.old.first self.old.files }
-        ensures counts { SameCounts self.old.faults self.new.faults self.old.denied self.new.denied self.old.given self.new.given }
-    {
-        keep(&self.files, &mut self.first)?;
-        contents::create(
-            self.alloc,
-            &mut self.files,
-            &mut self.log,
-            path,
-            bytes,
-            self.piece,
-        )
-    }
-
-    fn do_cut(&mut self, path: &StorePath, len: u64) -> Result<(), AllocError>
-        ensures ok { OnOk result (self.new.log.items ≡ self.old.log.items ++ Op.Cut path.now len ∷ []) }
-        ensures err { OnErr result (self.new.log.items ≡ self.old.log.items) }
-        ensures start { start_tree self.new.first self.new.files ≡ start_tree self.old.first self.old.files }
-        ensures counts { SameCounts self.old.faults self.new.faults self.old.denied self.new.denied self.old.given self.new.given }
-    {
-        keep(&self.files, &mut self.first)?;
-        contents::cut(self.alloc, &mut self.files, &mut self.log, path, len)
-    }
-
-    fn do_sync(&mut self, path: &StorePath) -> Result<(), AllocError>
-        ensures ok { OnOk result (self.new.log.items ≡ self.old.log.items ++ Op.Sync path.now ∷ []) }
-        ensures err { OnErr result (self.new.log.items ≡ self.old.log.items) }
-        ensures start { start_tree self.new.first self.new.files ≡ start_tree self.old.first self.old.files }
-        ensures counts { SameCounts self.old.faults self.new.faults self.old.denied self.new.denied self.old.given self.new.given }
-    {
-        let op = Op::Sync {
-            path: path.copy(self.alloc)?,
-        };
-        contents::note(&mut self.log, op)
-    }
-
-    fn do_settle(&mut self) -> Result<(), AllocError>
-        ensures ok { OnOk result (self.new.log.items ≡ self.old.log.items ++ Op.Settle ∷ []) }
-        ensures err { OnErr result (self.new.log.items ≡ self.old.log.items) }
-        ensures start { start_tree self.new.first self.new.files ≡ start_tree self.old.first self.old.files }
-        ensures counts { SameCounts self.old.faults self.new.faults self.old.denied self.new.denied self.old.given self.new.given }
-    {
-        contents::note(&mut self.log, Op::Settle)
-    }
-
-    fn do_rename(&mut self, from: &StorePath, to: &StorePath) -> Result<(), AllocError>
-        ensures ok { OnOk result (self.new.log.items ≡ self.old.log.items ++ Op.Rename from.now to.now ∷ []) }
-        ensures err { OnErr result (self.new.log.items ≡ self.old.log.items) }
-        ensures start { start_tree self.new.first self.new.files ≡ start_tree self.old.first self.old.files }
-        ensures counts { SameCounts self.old.faults self.new.faults self.old.denied self.new.denied self.old.given self.new.given }
-    {
-        keep(&self.files, &mut self.first)?;
-        contents::rename(self.alloc, &mut self.files, &mut self.log, from, to)
-    }
-
-    fn do_remove(&mut self, path: &StorePath) -> Result<(), AllocError>
-        ensures ok { OnOk result (self.new.log.items ≡ self.old.log.items ++ Op.Remove path.now ∷ []) }
-        ensures err { OnErr result (self.new.log.items ≡ self.old.log.items) }
-        ensures start { start_tree self.new.first self.new.files ≡ start_tree self.old.first self.old.files }
-        ensures counts { SameCounts self.old.faults self.new.faults self.old.denied self.new.denied self.old.given self.new.given }
-    {
-        keep(&self.files, &mut self.first)?;
-        contents::remove(self.alloc, &mut self.files, &mut self.log, path)
-    }
-}
-
-/// The first bytes, at most so many.
-#[tactic(auto, using(std::proofs::lemmas::List::take_min))]
-fn front(bytes: &[u8], most: u64) -> &[u8]
-    ensures { result.now ≡ take most bytes.now }
-{
-    let count = most.min(bytes.len() as u64) as usize;
-    &bytes[..count]
-}
-
-/// The bytes from a place on.
-#[tactic(auto, using(std::proofs::lemmas::List::drop_min))]
-fn past(bytes: &[u8], from: u64) -> &[u8]
-    ensures { result.now ≡ drop from bytes.now }
-{
-    let start = from.min(bytes.len() as u64) as usize;
-    &bytes[start..]
-}
-
-/// Adds what a read gives.
+/// Adds to `into` the part of a file from a place, at most so many bytes of it, and answers how many.
 fn read_into(
-    map: &Map,
+    kept: &LoggedFiles,
     path: &StorePath,
     from: u64,
     most: u64,
     into: &mut Vec<u8>,
 ) -> Result<Option<u64>, AllocError>
-    ensures ok { IfOk result (λ r. Gives (tree_of map.now path.now) from most into.old.items into.new.items r) }
-    ensures same { IfOk result (λ r. r ≡ None → into.new.items ≡ into.old.items) }
+    ensures ok { IfOk result (λ part. ReadsPart (after_all kept.now.log.items (start_tree kept.now.first kept.now.files) path.now) from most into.old.items into.new.items part) }
+    ensures same { IfOk result (λ part. part ≡ None → into.new.items ≡ into.old.items) }
+    ensures most { IfOk result (λ part. IfSome part (λ k. k ≤ most)) }
     ensures err { OnErr result (into.new.items ≡ into.old.items) }
-    ensures most { IfOk result (λ r. IfSome r (λ k. k ≤ most)) }
 {
-    match contents::bytes_of(map, path) {
+    match kept.bytes_of(path) {
         Some(bytes) => {
             let part = front(past(bytes.as_slice(), from), most);
             into.extend_from_slice(part)?;
@@ -220,15 +132,15 @@ fn read_into(
 }
 
 impl Reads for MemFiles {
-    ghost faults = { λ m. m.faults };
+    ghost faults = { λ m. (tally_of m).faults };
 
-    ghost denied = { λ m. m.denied };
+    ghost denied = { λ m. (tally_of m).denied };
 
-    ghost given = { λ m. m.given };
+    ghost given = { λ m. (tally_of m).given };
 
-    ghost seen = { λ m. Some m.log.items };
+    ghost seen = { λ m. Some (log_of m) };
 
-    ghost start = { λ m. start_tree m.first m.files };
+    ghost start = { λ m. start_of m };
 
     ghost alone = { true };
 
@@ -238,33 +150,44 @@ impl Reads for MemFiles {
         from: u64,
         most: u64,
         into: &mut Vec<u8>,
-    ) -> Result<Option<u64>, FileFault> {
+    ) -> Result<Option<u64>, FileFault>
+        ensures answer { ReadsFrom (Some (log_of self.new)) (start_of self.new) path.now from most into.old.items into.new.items result }
+        ensures bytes { AddsBytes (tally_of self.old).given (tally_of self.new).given most into.old.items into.new.items result }
+        ensures seen { LooksAt (Some (log_of self.old)) (Some (log_of self.new)) result }
+        ensures same_start { start_of self.new ≡ start_of self.old }
+        ensures still { log_of self.new ≡ log_of self.old }
+        ensures counts { Counts (tally_of self.old).faults (tally_of self.new).faults (tally_of self.old).denied (tally_of self.new).denied result }
+        ensures fate { FailsBy (next_fate (plan_of self.old)) result }
+        ensures plan { plan_of self.new ≡ after_call (plan_of self.old) }
+        ensures piece { piece_of self.new ≡ piece_of self.old }
+    {
         match self.plan.next() {
-            Fate::FailsAfter(_) => {
-                self.faults = self.faults.saturating_add(1);
-                Err(FileFault::Failed)
-            }
-            Fate::Whole => match read_into(&self.files, path, from, most, into) {
+            Some(_) => Err(self.tally.failed()),
+            None => match read_into(&self.kept, path, from, most, into) {
                 Ok(Some(count)) => {
-                    self.given = self.given.saturating_add(count);
+                    self.tally.give(count);
                     Ok(Some(count))
                 }
                 Ok(None) => Ok(None),
-                Err(_) => {
-                    self.denied = self.denied.saturating_add(1);
-                    Err(FileFault::Memory)
-                }
+                Err(_) => Err(self.tally.denied()),
             },
         }
     }
 
-    fn size(&mut self, path: &StorePath) -> Result<Option<u64>, FileFault> {
+    fn size(&mut self, path: &StorePath) -> Result<Option<u64>, FileFault>
+        ensures answer { HasSize (Some (log_of self.new)) (start_of self.new) path.now result }
+        ensures given { (tally_of self.new).given ≡ (tally_of self.old).given }
+        ensures seen { LooksAt (Some (log_of self.old)) (Some (log_of self.new)) result }
+        ensures same_start { start_of self.new ≡ start_of self.old }
+        ensures still { log_of self.new ≡ log_of self.old }
+        ensures counts { Counts (tally_of self.old).faults (tally_of self.new).faults (tally_of self.old).denied (tally_of self.new).denied result }
+        ensures fate { FailsBy (next_fate (plan_of self.old)) result }
+        ensures plan { plan_of self.new ≡ after_call (plan_of self.old) }
+        ensures piece { piece_of self.new ≡ piece_of self.old }
+    {
         match self.plan.next() {
-            Fate::FailsAfter(_) => {
-                self.faults = self.faults.saturating_add(1);
-                Err(FileFault::Failed)
-            }
-            Fate::Whole => match contents::bytes_of(&self.files, path) {
+            Some(_) => Err(self.tally.failed()),
+            None => match self.kept.bytes_of(path) {
                 Some(bytes) => Ok(Some(bytes.len() as u64)),
                 None => Ok(None),
             },
@@ -273,168 +196,168 @@ impl Reads for MemFiles {
 }
 
 impl Files for MemFiles {
-    ghost log = { λ m. Some m.log.items };
+    ghost log = { λ m. Some (log_of m) };
 
-    ghost allows = { λ m l. Unit {0} };
+    ghost allows = { λ start log. Unit {0} };
 
-    ghost latest = { λ x. refl };
+    ghost latest = { λ m. refl };
 
     ghost only_writer = { refl };
 
-    fn append(&mut self, path: &StorePath, bytes: &[u8]) -> Result<(), FileFault> {
+    fn append(&mut self, path: &StorePath, bytes: &[u8]) -> Result<(), FileFault>
+        ensures done { GoesOn (Some (log_of self.old)) (Some (log_of self.new)) (LeavesPieces (Op.Append path.now bytes.now) result) }
+        ensures same_start { start_of self.new ≡ start_of self.old }
+        ensures given { (tally_of self.new).given ≡ (tally_of self.old).given }
+        ensures counts { Counts (tally_of self.old).faults (tally_of self.new).faults (tally_of self.old).denied (tally_of self.new).denied result }
+        ensures fate { GoesOn (Some (log_of self.old)) (Some (log_of self.new)) (FailsAfter (next_fate (plan_of self.old)) (λ n. append_of_rest path.now (take n bytes.now)) result) }
+        ensures small { GoesOn (Some (log_of self.old)) (Some (log_of self.new)) (AreSmall (piece_of self.old)) }
+        ensures plan { plan_of self.new ≡ after_call (plan_of self.old) }
+        ensures piece { piece_of self.new ≡ piece_of self.old }
+    {
         match self.plan.next() {
-            Fate::Whole => match self.do_append(path, bytes) {
+            None => match self.kept.append(path, bytes) {
                 Ok(()) => Ok(()),
-                Err(_) => {
-                    self.denied = self.denied.saturating_add(1);
-                    Err(FileFault::Memory)
-                }
+                Err(_) => Err(self.tally.denied()),
             },
-            Fate::FailsAfter(count) => {
-                if count == 0 {
-                    self.faults = self.faults.saturating_add(1);
-                    return Err(FileFault::Failed);
-                }
-                match self.do_append(path, front(bytes, count)) {
-                    Ok(()) => {
-                        self.faults = self.faults.saturating_add(1);
-                        Err(FileFault::Failed)
-                    }
-                    Err(_) => {
-                        self.denied = self.denied.saturating_add(1);
-                        Err(FileFault::Memory)
-                    }
-                }
-            }
+            Some(count) => match self.kept.append_front(path, bytes, count) {
+                Ok(()) => Err(self.tally.failed()),
+                Err(_) => Err(self.tally.denied()),
+            },
         }
     }
 
-    fn put(&mut self, path: &StorePath, bytes: &[u8]) -> Result<(), FileFault> {
+    fn put(&mut self, path: &StorePath, bytes: &[u8]) -> Result<(), FileFault>
+        ensures done { GoesOn (Some (log_of self.old)) (Some (log_of self.new)) (LeavesPieces (Op.Create path.now bytes.now) result) }
+        ensures same_start { start_of self.new ≡ start_of self.old }
+        ensures given { (tally_of self.new).given ≡ (tally_of self.old).given }
+        ensures counts { Counts (tally_of self.old).faults (tally_of self.new).faults (tally_of self.old).denied (tally_of self.new).denied result }
+        ensures fate { GoesOn (Some (log_of self.old)) (Some (log_of self.new)) (FailsAfter (next_fate (plan_of self.old)) (λ n. create_of_front path.now (take n bytes.now)) result) }
+        ensures whole { OnOk result (log_of self.new ≡ log_of self.old ++ Op.Create path.now bytes.now ∷ []) }
+        ensures plan { plan_of self.new ≡ after_call (plan_of self.old) }
+        ensures piece { piece_of self.new ≡ piece_of self.old }
+    {
         match self.plan.next() {
-            Fate::Whole => match self.do_create(path, bytes) {
+            None => match self.kept.create(path, bytes) {
                 Ok(()) => Ok(()),
-                Err(_) => {
-                    self.denied = self.denied.saturating_add(1);
-                    Err(FileFault::Memory)
-                }
+                Err(_) => Err(self.tally.denied()),
             },
-            Fate::FailsAfter(count) => {
-                if count == 0 {
-                    self.faults = self.faults.saturating_add(1);
-                    return Err(FileFault::Failed);
-                }
-                match self.do_create(path, front(bytes, count)) {
-                    Ok(()) => {
-                        self.faults = self.faults.saturating_add(1);
-                        Err(FileFault::Failed)
-                    }
-                    Err(_) => {
-                        self.denied = self.denied.saturating_add(1);
-                        Err(FileFault::Memory)
-                    }
-                }
-            }
+            Some(count) => match self.kept.create_front(path, bytes, count) {
+                Ok(()) => Err(self.tally.failed()),
+                Err(_) => Err(self.tally.denied()),
+            },
         }
     }
 
-    fn create_new(&mut self, path: &StorePath, bytes: &[u8]) -> Result<Created, FileFault> {
+    fn create_new(&mut self, path: &StorePath, bytes: &[u8]) -> Result<Created, FileFault>
+        ensures done { CreatesNew (Some (log_of self.old)) (Some (log_of self.new)) (start_of self.old) path.now bytes.now result }
+        ensures same_start { start_of self.new ≡ start_of self.old }
+        ensures given { (tally_of self.new).given ≡ (tally_of self.old).given }
+        ensures counts { Counts (tally_of self.old).faults (tally_of self.new).faults (tally_of self.old).denied (tally_of self.new).denied result }
+        ensures fate { FailsBy (next_fate (plan_of self.old)) result }
+        ensures plan { plan_of self.new ≡ after_call (plan_of self.old) }
+        ensures piece { piece_of self.new ≡ piece_of self.old }
+    {
         match self.plan.next() {
-            Fate::Whole => {
-                if contents::bytes_of(&self.files, path).is_some() {
+            Some(_) => Err(self.tally.failed()),
+            None => {
+                if self.kept.bytes_of(path).is_some() {
                     return Ok(Created::There);
                 }
-                match self.do_create(path, bytes) {
+                match self.kept.create(path, bytes) {
                     Ok(()) => Ok(Created::Made),
-                    Err(_) => {
-                        self.denied = self.denied.saturating_add(1);
-                        Err(FileFault::Memory)
-                    }
+                    Err(_) => Err(self.tally.denied()),
                 }
-            }
-            Fate::FailsAfter(_) => {
-                self.faults = self.faults.saturating_add(1);
-                Err(FileFault::Failed)
             }
         }
     }
 
-    fn cut(&mut self, path: &StorePath, len: u64) -> Result<(), FileFault> {
+    fn cut(&mut self, path: &StorePath, len: u64) -> Result<(), FileFault>
+        ensures done { GoesOn (Some (log_of self.old)) (Some (log_of self.new)) (LeavesWhole (Op.Cut path.now len) result) }
+        ensures same_start { start_of self.new ≡ start_of self.old }
+        ensures given { (tally_of self.new).given ≡ (tally_of self.old).given }
+        ensures counts { Counts (tally_of self.old).faults (tally_of self.new).faults (tally_of self.old).denied (tally_of self.new).denied result }
+        ensures fate { FailsBy (next_fate (plan_of self.old)) result }
+        ensures plan { plan_of self.new ≡ after_call (plan_of self.old) }
+        ensures piece { piece_of self.new ≡ piece_of self.old }
+    {
         match self.plan.next() {
-            Fate::Whole => match self.do_cut(path, len) {
+            Some(_) => Err(self.tally.failed()),
+            None => match self.kept.cut(path, len) {
                 Ok(()) => Ok(()),
-                Err(_) => {
-                    self.denied = self.denied.saturating_add(1);
-                    Err(FileFault::Memory)
-                }
+                Err(_) => Err(self.tally.denied()),
             },
-            Fate::FailsAfter(_) => {
-                self.faults = self.faults.saturating_add(1);
-                Err(FileFault::Failed)
-            }
         }
     }
 
-    fn rename(&mut self, from: &StorePath, to: &StorePath) -> Result<(), FileFault> {
+    fn rename(&mut self, from: &StorePath, to: &StorePath) -> Result<(), FileFault>
+        ensures done { GoesOn (Some (log_of self.old)) (Some (log_of self.new)) (LeavesWhole (Op.Rename from.now to.now) result) }
+        ensures same_start { start_of self.new ≡ start_of self.old }
+        ensures given { (tally_of self.new).given ≡ (tally_of self.old).given }
+        ensures counts { Counts (tally_of self.old).faults (tally_of self.new).faults (tally_of self.old).denied (tally_of self.new).denied result }
+        ensures fate { FailsBy (next_fate (plan_of self.old)) result }
+        ensures plan { plan_of self.new ≡ after_call (plan_of self.old) }
+        ensures piece { piece_of self.new ≡ piece_of self.old }
+    {
         match self.plan.next() {
-            Fate::Whole => match self.do_rename(from, to) {
+            Some(_) => Err(self.tally.failed()),
+            None => match self.kept.rename(from, to) {
                 Ok(()) => Ok(()),
-                Err(_) => {
-                    self.denied = self.denied.saturating_add(1);
-                    Err(FileFault::Memory)
-                }
+                Err(_) => Err(self.tally.denied()),
             },
-            Fate::FailsAfter(_) => {
-                self.faults = self.faults.saturating_add(1);
-                Err(FileFault::Failed)
-            }
         }
     }
 
-    fn remove(&mut self, path: &StorePath) -> Result<(), FileFault> {
+    fn remove(&mut self, path: &StorePath) -> Result<(), FileFault>
+        ensures done { GoesOn (Some (log_of self.old)) (Some (log_of self.new)) (LeavesWhole (Op.Remove path.now) result) }
+        ensures same_start { start_of self.new ≡ start_of self.old }
+        ensures given { (tally_of self.new).given ≡ (tally_of self.old).given }
+        ensures counts { Counts (tally_of self.old).faults (tally_of self.new).faults (tally_of self.old).denied (tally_of self.new).denied result }
+        ensures fate { FailsBy (next_fate (plan_of self.old)) result }
+        ensures plan { plan_of self.new ≡ after_call (plan_of self.old) }
+        ensures piece { piece_of self.new ≡ piece_of self.old }
+    {
         match self.plan.next() {
-            Fate::Whole => match self.do_remove(path) {
+            Some(_) => Err(self.tally.failed()),
+            None => match self.kept.remove(path) {
                 Ok(()) => Ok(()),
-                Err(_) => {
-                    self.denied = self.denied.saturating_add(1);
-                    Err(FileFault::Memory)
-                }
+                Err(_) => Err(self.tally.denied()),
             },
-            Fate::FailsAfter(_) => {
-                self.faults = self.faults.saturating_add(1);
-                Err(FileFault::Failed)
-            }
         }
     }
 
-    fn sync(&mut self, path: &StorePath) -> Result<(), FileFault> {
+    fn sync(&mut self, path: &StorePath) -> Result<(), FileFault>
+        ensures done { GoesOn (Some (log_of self.old)) (Some (log_of self.new)) (LeavesWhole (Op.Sync path.now) result) }
+        ensures same_start { start_of self.new ≡ start_of self.old }
+        ensures given { (tally_of self.new).given ≡ (tally_of self.old).given }
+        ensures counts { Counts (tally_of self.old).faults (tally_of self.new).faults (tally_of self.old).denied (tally_of self.new).denied result }
+        ensures fate { FailsBy (next_fate (plan_of self.old)) result }
+        ensures plan { plan_of self.new ≡ after_call (plan_of self.old) }
+        ensures piece { piece_of self.new ≡ piece_of self.old }
+    {
         match self.plan.next() {
-            Fate::Whole => match self.do_sync(path) {
+            Some(_) => Err(self.tally.failed()),
+            None => match self.kept.sync(path) {
                 Ok(()) => Ok(()),
-                Err(_) => {
-                    self.denied = self.denied.saturating_add(1);
-                    Err(FileFault::Memory)
-                }
+                Err(_) => Err(self.tally.denied()),
             },
-            Fate::FailsAfter(_) => {
-                self.faults = self.faults.saturating_add(1);
-                Err(FileFault::Failed)
-            }
         }
     }
 
-    fn settle(&mut self) -> Result<(), FileFault> {
+    fn settle(&mut self) -> Result<(), FileFault>
+        ensures done { GoesOn (Some (log_of self.old)) (Some (log_of self.new)) (LeavesWhole Op.Settle result) }
+        ensures same_start { start_of self.new ≡ start_of self.old }
+        ensures given { (tally_of self.new).given ≡ (tally_of self.old).given }
+        ensures counts { Counts (tally_of self.old).faults (tally_of self.new).faults (tally_of self.old).denied (tally_of self.new).denied result }
+        ensures fate { FailsBy (next_fate (plan_of self.old)) result }
+        ensures plan { plan_of self.new ≡ after_call (plan_of self.old) }
+        ensures piece { piece_of self.new ≡ piece_of self.old }
+    {
         match self.plan.next() {
-            Fate::Whole => match self.do_settle() {
+            Some(_) => Err(self.tally.failed()),
+            None => match self.kept.settle() {
                 Ok(()) => Ok(()),
-                Err(_) => {
-                    self.denied = self.denied.saturating_add(1);
-                    Err(FileFault::Memory)
-                }
+                Err(_) => Err(self.tally.denied()),
             },
-            Fate::FailsAfter(_) => {
-                self.faults = self.faults.saturating_add(1);
-                Err(FileFault::Failed)
-            }
         }
     }
 }

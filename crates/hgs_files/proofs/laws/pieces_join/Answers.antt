@@ -1,0 +1,5 @@
+use Rattle.hgs_files.proofs.LogLemmas.{after-done}
+use Rattle.hgs_files.proofs.laws.pieces_join.Goals as goal
+
+pub returns : goal.returns
+returns c = after-done

@@ -1,0 +1,5 @@
+use Rattle.hgs_files.proofs.LogLemmas.{stop-leaves-done}
+use Rattle.hgs_files.proofs.laws.stops_leave_logs_done_in_part.Goals as goal
+
+pub returns : goal.returns
+returns c = stop-leaves-done
