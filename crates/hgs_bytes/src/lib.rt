@@ -4,3 +4,5 @@
 pub mod bytes;
 pub mod names;
 pub mod parts;
+#[cfg(test)]
+mod tests;
