@@ -1,6 +1,6 @@
 -- What an entry's bytes read as.
-use Rattle.std.proofs.Common.{◌≡◌, ℕ, ◌+◌, ◌*◌, ◌/◌, ◌%◌, ◌^◌, ◌<◌, Bool, true, false, cond, List, [], ◌∷◌, drop, Option, Some, None, Result, Ok, Err, IsSome, refl, sym, ap, ◌∙◌, arith}
-use Rattle.std.specs.Prelude.{◌||◌, ◌==◌, nat_lt, IfSome, replicate}
+use Rattle.std.proofs.Common.{◌≡◌, ℕ, ◌+◌, ◌*◌, ◌/◌, ◌%◌, ◌^◌, ◌<◌, Bool, true, false, cond, List, [], ◌∷◌, take, drop, Option, Some, None, Result, Ok, Err, IsSome, refl, sym, ap, ◌∙◌, arith}
+use Rattle.std.specs.Prelude.{◌||◌, ◌==◌, IfSome, replicate}
 use Rattle.std.specs.Int.{w16, w32, w64, from_be_bytes, to_be_bytes}
 use Rattle.std.proofs.Common.{inl, inr}
 use Rattle.std.proofs.lemmas.Bool.{cases_eq}
@@ -10,7 +10,7 @@ use Rattle.hgs_index.specs.declared.entry.Entry.{Entry}
 use Rattle.hgs_index.specs.declared.entry.Header.{Header}
 use Rattle.hgs_index.specs.declared.entry.EntryFault.{EntryFault}
 use Rattle.hgs_index.specs.declared.entry.EntryFault.TheVariants.{Version, HeaderFlags, Negative, Padding}
-use Rattle.hgs_index.specs.Entry.{Fits, bit, parent_number, entry_bytes, is_negative, is_no_parent, parent_of, has_negative, has_padding, has_bad_header, fields_of, entry_at}
+use Rattle.hgs_index.specs.Entry.{Fits, bit, parent_number, entry_bytes, is_negative, is_no_parent, parent_of, has_negative, has_padding, has_bad_header, fields_of, entry_at, header_at}
 
 apart_test : (n : ℕ) → (n ≡ 0 → ⊥) → (n == 0) ≡ false
 apart_test n h = grind arith
@@ -25,7 +25,7 @@ no_fault a b c d x p q r s = rw (p, q, r, s)
 none_of : (a b c d e f : Bool) → a ≡ false → b ≡ false → c ≡ false → d ≡ false → e ≡ false → f ≡ false → (a || b || c || d || e || f) ≡ false
 none_of a b c d e f p q r s t u = rw (p, q, r, s, t, u)
 
-parent_back : (p : Option ℕ) → IfSome p (λ r. r < 2 ^ 31) → (parent_of (parent_number p) ≡ p) × (is_no_parent (parent_number p) ≡ false) × (parent_number p < 2 ^ 32)
+pub parent_back : (p : Option ℕ) → IfSome p (λ r. r < 2 ^ 31) → (parent_of (parent_number p) ≡ p) × (is_no_parent (parent_number p) ≡ false) × (parent_number p < 2 ^ 32)
 parent_back None h = (refl, refl, omega arith)
 parent_back (Some r) h =
     let far : (r == 0xffff_ffff) ≡ false = grind arith in
@@ -104,3 +104,11 @@ none_there h = cc
 pub entry_again : (e : Entry) (h : Option Header) (rev : ℕ) → Fits e h → IfSome h (λ x. x.inline ≡ false) → (IsSome h → rev ≡ 0) → (rev ≡ 0 → IsSome h) → entry_at (entry_bytes e h) rev ≡ Ok e
 entry_again e None rev fits separate a b = later_again e fits rev (elim (cases_eq rev 0) [ inl same ↦ absurd (none_there (b same)) | inr apart ↦ apart_test rev apart ])
 entry_again e (Some h) rev fits separate a b = ap (entry_at (entry_bytes e (Some h))) (a refl) ∙ first_again e h fits separate
+
+header_back : (a b : Bool) → a ≡ false → header_at (0 ∷ (bit a + 2 * bit b) ∷ 0 ∷ 1 ∷ []) ≡ Ok (record { inline = a; generaldelta = b })
+header_back true b h = cc
+header_back false true h = refl
+header_back false false h = refl
+
+pub header_again : (e : Entry) (h : Header) → h.inline ≡ false → header_at (take 4 (entry_bytes e (Some h))) ≡ Ok h
+header_again e h separate = header_back h.inline h.generaldelta separate

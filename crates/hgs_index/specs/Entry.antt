@@ -1,5 +1,5 @@
 -- The 64 bytes of an index entry.
-use Rattle.std.specs.Prelude.{◌≡◌, ℕ, ◌+◌, ◌-◌, ◌*◌, ◌^◌, ◌<◌, Bool, true, false, ◌&&◌, ◌||◌, not, ◌==◌, nat_lt, nat_le, List, [], ◌∷◌, ◌++◌, length, take, drop, replicate, Option, Some, None, Result, Ok, Err, IfSome, IsSome, if◌then◌else◌}
+use Rattle.std.specs.Prelude.{◌≡◌, ℕ, ◌+◌, ◌-◌, ◌*◌, ◌/◌, ◌%◌, ◌^◌, ◌<◌, Bool, true, false, ◌&&◌, ◌||◌, not, ◌==◌, nat_lt, nat_le, List, [], ◌∷◌, ◌++◌, length, take, drop, replicate, Option, Some, None, Result, Ok, Err, IfSome, IsSome, if◌then◌else◌}
 use Rattle.std.specs.List.{list_any}
 use Rattle.std.specs.Int.{w16, w32, w64, from_be_bytes, to_be_bytes}
 use Rattle.hgs_index.specs.declared.entry.Entry.{Entry}
@@ -76,6 +76,21 @@ fields_of bytes rev =
 -- of the header's high bits only bit 17, generaldelta, may be set; bit 16, inline data, is not read yet
 abbrev pub has_bad_header : ℕ → Bool
 has_bad_header flags = not (flags == 0) && not (flags == 2)
+
+-- the low two of the header's high bits: 16, inline data, and 17, generaldelta
+abbrev pub header_of : ℕ → Header
+header_of flags = record { inline = flags % 2 == 1; generaldelta = flags / 2 % 2 == 1 }
+
+-- the header that an index begins with, or its first fault
+abbrev pub header_at : List ℕ → Result Header EntryFault
+header_at bytes =
+    if not (from_be_bytes w16 (part 2 2 bytes) == 1) then Err Version
+    else if has_bad_header (from_be_bytes w16 (part 0 2 bytes)) then Err HeaderFlags
+    else Ok (header_of (from_be_bytes w16 (part 0 2 bytes)))
+
+-- the header that stands in the entry of revision 0, none in a later one
+abbrev pub header_within : List ℕ → ℕ → Option Header
+header_within bytes rev = if rev == 0 then Some (header_of (from_be_bytes w16 (part 0 2 bytes))) else None
 
 -- the entry, or the first fault
 abbrev pub entry_at : List ℕ → ℕ → Result Entry EntryFault

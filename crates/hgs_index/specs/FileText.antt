@@ -1,5 +1,5 @@
 -- The text of a file revision: a metadata block, which may be missing, and the body.
-use Rattle.std.specs.Prelude.{ℕ, List, [], ◌∷◌, ◌++◌, Bool, ◌&&◌, ◌==◌, drop, Option, Some, None, option_map, if◌then◌else◌}
+use Rattle.std.specs.Prelude.{◌≡◌, ℕ, List, [], ◌∷◌, ◌++◌, ◌&&◌, ◌==◌, drop, Option, Some, None, option_map, if◌then◌else◌}
 use Rattle.hgs_bytes.specs.Bytes.{begins_with}
 
 -- the bytes that begin and end a block
@@ -18,6 +18,10 @@ split_at_marker (a ∷ b ∷ bytes) =
 abbrev pub with_block : List ℕ → Option (List ℕ × List ℕ) → List ℕ × List ℕ
 with_block text None = ([], text)
 with_block text (Some p) = (marker ++ p.0 ++ marker, p.1)
+
+-- A whole metadata block: between its two markers no other begins.
+abbrev pub IsBlock : List ℕ → Type 0
+IsBlock block = (inner : List ℕ) × (split_at_marker inner ≡ None) × (block ≡ marker ++ inner ++ marker)
 
 -- the prefix and the body of a text
 abbrev pub unpacked : List ℕ → List ℕ × List ℕ

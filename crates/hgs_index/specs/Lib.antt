@@ -1,6 +1,10 @@
 pub mod Ancestor
+pub mod ChangeText
 pub mod Entry
 pub mod FileText
+pub mod Hex
+pub mod Limit
+pub mod Manifest
 pub mod Node
 pub mod Revision
 pub mod Revlog

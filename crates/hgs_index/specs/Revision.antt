@@ -1,6 +1,5 @@
 -- Revisions, their nodes and their ancestors.
-use Rattle.std.specs.Prelude.{◌≡◌, ◌≢◌, ◌⊎◌, ◌↔◌, ℕ, zero, suc, ◌+◌, ◌-◌, ◌*◌, ◌/◌, ◌%◌, ◌^◌, ◌<◌, ◌≤◌, min, max, List, [], ◌∷◌, ◌++◌, Bool, true, false, ◌&&◌, ◌||◌, not, ◌==◌, nat_le, nat_lt, length, take, drop, map, replicate, slice_get, slice_index, slice_index_or, slice_set, Option, Some, None, Result, Ok, Err, IfSome, IfNone, IsSome, IsTrue, is_some, is_none, unwrap_or, option_map, option_and_then, if◌then◌else◌, codes, decimal, filter, find, position, flat_map, filter_map, Contains, IsUtf8, ℤ, pos, negsuc, ◌≤ℤ◌, ⊤}
-use Rattle.std.specs.List.{list_any}
+use Rattle.std.specs.Prelude.{ℕ, suc, ◌<◌, List, [], ◌∷◌, ◌++◌, Bool, true, false, ◌&&◌, ◌||◌, ◌==◌, length, slice_index_or, Option, Some, None, IfSome, unwrap_or, position}
 use Rattle.hgs_bytes.specs.Bytes.{same}
 use Rattle.hgs_index.specs.Node.{null_node, node_hash}
 

@@ -1,11 +1,12 @@
 -- Which bytes hold a list of revisions.
-use Rattle.std.specs.Prelude.{◌≡◌, ◌≢◌, ◌⊎◌, ◌↔◌, ℕ, zero, suc, ◌+◌, ◌-◌, ◌*◌, ◌/◌, ◌%◌, ◌^◌, ◌<◌, ◌≤◌, min, max, List, [], ◌∷◌, ◌++◌, Bool, true, false, ◌&&◌, ◌||◌, not, ◌==◌, nat_le, nat_lt, length, take, drop, map, replicate, slice_get, slice_index, slice_index_or, slice_set, Option, Some, None, Result, Ok, Err, IfSome, IfNone, IsSome, IsTrue, is_some, is_none, unwrap_or, option_map, option_and_then, if◌then◌else◌, codes, decimal, filter, find, position, flat_map, filter_map, Contains, IsUtf8, ℤ, pos, negsuc, ◌≤ℤ◌, ⊤}
+use Rattle.std.specs.Prelude.{◌≡◌, ℕ, ◌+◌, List, [], ◌∷◌, ◌++◌, Bool, true, false, ◌&&◌, not, ◌==◌, length, map, Option, Some, None, if◌then◌else◌, flat_map}
 use Rattle.std.specs.List.{AllByRecursion, concat}
 use Rattle.hgs_index.specs.declared.entry.Entry.{Entry}
 use Rattle.hgs_index.specs.declared.entry.Header.{Header}
 use Rattle.hgs_bytes.specs.Bytes.{among, IsPrefixOf}
 use Rattle.hgs_index.specs.Entry.{entry_bytes, Fits}
-use Rattle.hgs_index.specs.Revision.{Revision, Parents, node_after, nodes, ParentsBefore}
+use Rattle.hgs_index.specs.Node.{null_node}
+use Rattle.hgs_index.specs.Revision.{Revision, node_after, nodes, ParentsBefore}
 
 -- the text that a chunk stands for, none where it is compressed
 abbrev pub chunk_text : List ℕ → Option (List ℕ)
@@ -60,12 +61,19 @@ abbrev pub index_bytes : Header → List Item → List ℕ
 index_bytes h [] = []
 index_bytes h (i ∷ more) = item_bytes h (Some h) i ++ flat_map (item_bytes h None) more
 
--- no node stands twice
+-- none of them stands twice
 abbrev pub all_different : List (List ℕ) → Bool
 all_different [] = true
 all_different (x ∷ xs) = not (among x xs) && all_different xs
 
--- The index and the data hold these revisions. Inline revlogs are not read yet.
+-- The header that the next entry begins with: only the first entry of an index has one.
+abbrev pub next_header : List Revision → Header → Option Header
+next_header [] h = Some h
+next_header (r ∷ revisions) h = None
+
+-- The index bytes are the entries of these revisions and nothing else, and the data bytes are their chunks and nothing
+-- else. A chunk may be spelled in any way that stands for its text. No two revisions have one node, and none has the
+-- null node. Inline revlogs are not read yet.
 pub record HoldsRevisions (index data_bytes : List ℕ) (revisions : List Revision) : Type 0 where
   pub header : Header
   pub stored : List Stored
@@ -74,11 +82,12 @@ pub record HoldsRevisions (index data_bytes : List ℕ) (revisions : List Revisi
   pub earlier : ParentsBefore 0 (map (λ r. r.parents) revisions)
   pub fits : AllByRecursion (λ (i : Item). Fits i.entry None) (items stored)
   pub different : all_different (nodes revisions) ≡ true
+  pub not_null : among null_node (nodes revisions) ≡ false
   pub separate : header.inline ≡ false
   pub index_is : index ≡ index_bytes header (items stored)
   pub data_is : data_bytes ≡ concat (map (λ s. s.chunk) stored)
 
--- The index and the data begin with bytes that hold these revisions.
+-- the index and the data begin with bytes that hold these revisions
 pub record BeginsWithRevisions (index data_bytes : List ℕ) (revisions : List Revision) : Type 0 where
   pub index_front : List ℕ
   pub data_front : List ℕ

@@ -1,56 +1,54 @@
-// Index entries.
-ghost use Rattle.std.specs.Prelude.{◌≡◌, false, ℕ, ◌+◌, ◌<◌, ◌≤◌, ◌^◌, List, length, take, drop, Some, None, Ok, IsSome, IfSome, Option};
+//! Index entries: 64 bytes for each revision, all numbers big-endian (Mercurial's help page `internals.revlogs`).
+ghost use Rattle.std.specs.Prelude.{◌≡◌, ℕ, ◌+◌, ◌<◌, ◌≤◌, ◌^◌, List, length, take, drop, Some, None};
 ghost use Rattle.std.specs.Int.{w16, w64, from_be_bytes};
 ghost use Rattle.hgs_index.specs.declared.entry.Entry.{Entry};
 ghost use Rattle.hgs_index.specs.declared.entry.Header.{Header};
-ghost use Rattle.hgs_index.specs.Entry.{Fits, head_bytes, parent_number, entry_at, entry_bytes, number_at, part, has_negative, has_padding, is_negative, is_no_parent, is_nonzero, parent_of, offset_of, has_bad_header};
+ghost use Rattle.hgs_index.specs.Entry.{Fits, head_bytes, parent_number, entry_at, entry_bytes, number_at, part, has_negative, has_padding, is_negative, is_no_parent, is_nonzero, parent_of, offset_of};
 
+use crate::fields::{u16_at, u32_at};
+use crate::head::has_bad_flags;
 use crate::node::Node;
 
 /// An entry of an index.
 #[derive(Clone, Copy, Debug, PartialEq, Eq)]
 pub struct Entry {
+    /// Where the chunk begins among the bytes of all chunks; 48 bits.
     pub offset: u64,
     pub flags: u16,
+    /// The length of the chunk in bytes.
     pub stored: u32,
+    /// The length of the text in bytes.
     pub size: u32,
+    /// The revision that the chunk is a difference to; the revision's own number for a whole text.
     pub base: u32,
+    /// The changeset that first used the revision.
     pub link: u32,
     pub p1: Option<u32>,
     pub p2: Option<u32>,
     pub node: Node,
 }
 
-/// What the first four bytes of an index say.
+/// What the first four bytes of an index say beside the version, which is 1. They stand in place of the first four
+/// bytes of the offset of revision 0, which is 0.
 #[derive(Clone, Copy, Debug, PartialEq, Eq)]
 pub struct Header {
+    /// Each entry is followed by its chunk.
     pub inline: bool,
+    /// A base may be any earlier revision.
     pub generaldelta: bool,
 }
 
-/// Why 64 bytes are no entry.
+/// Why bytes are no entry. Of several faults the first of this list is named.
 #[derive(Clone, Copy, Debug, PartialEq, Eq)]
 pub enum EntryFault {
+    /// The version in the header is not 1.
     Version,
+    /// The header has a bit that is not read.
     HeaderFlags,
+    /// A length, the base or the link has its sign set, or a parent is below -1.
     Negative,
+    /// A byte is not zero that has no meaning.
     Padding,
-}
-
-fn u16_at(bytes: &[u8], at: usize) -> u16
-    requires { at + 2 ≤ length bytes.now }
-    ensures { result ≡ from_be_bytes w16 (part at 2 bytes.now) }
-{
-    let (front, _) = bytes[at..].split_at(2);
-    u16::from_be_bytes([front[0], front[1]])
-}
-
-fn u32_at(bytes: &[u8], at: usize) -> u32
-    requires { at + 4 ≤ length bytes.now }
-    ensures { result ≡ number_at at bytes.now }
-{
-    let (front, _) = bytes[at..].split_at(4);
-    u32::from_be_bytes([front[0], front[1], front[2], front[3]])
 }
 
 fn negative(number: u32) -> bool
@@ -118,13 +116,6 @@ fn node_in(bytes: &[u8; 64]) -> Node
     Node(node)
 }
 
-/// Whether a bit of the header is set that this profile does not read.
-fn has_bad_flags(flags: u16) -> bool
-    ensures { result ≡ has_bad_header flags }
-{
-    flags != 0 && flags != 2
-}
-
 /// The entry that stands in 64 bytes, or the first fault.
 pub fn decode(bytes: &[u8; 64], rev: u32) -> Result<Entry, EntryFault>
     ensures { result ≡ entry_at bytes.now rev }
@@ -154,7 +145,7 @@ pub fn decode(bytes: &[u8; 64], rev: u32) -> Result<Entry, EntryFault>
     })
 }
 
-// The offset's six bytes, or the header's four and two zeros.
+/// The offset's six bytes, or the header's four and two zeros.
 fn head(offset: u64, header: Option<Header>) -> [u8; 6]
     requires { offset < 2 ^ 48 }
     ensures { result ≡ head_bytes offset header }
@@ -184,7 +175,7 @@ fn parent_value(parent: Option<u32>) -> u32
     }
 }
 
-/// The 64 bytes of an entry.
+/// The 64 bytes of an entry. The entry of revision 0 is written with the header of the index, each other without one.
 pub fn encode(entry: &Entry, header: Option<Header>) -> [u8; 64]
     requires { Fits entry.now header }
     ensures { result ≡ entry_bytes entry.now header }
@@ -202,48 +193,107 @@ pub fn encode(entry: &Entry, header: Option<Header>) -> [u8; 64]
     bytes
 }
 
-/// What is written is read again.
-pub fn encode_then_decode()
-    ensures { (e : Entry) (h : Option Header) (rev : ℕ) → Fits e h → IfSome h (λ x. x.inline ≡ false) → (IsSome h → rev ≡ 0) → (rev ≡ 0 → IsSome h) → entry_at (entry_bytes e h) rev ≡ Ok e }
-{}
-
 #[cfg(test)]
 mod tests {
     use super::*;
-    use crate::node::node_of;
+    use hex::FromHex;
     use std::test::Fail;
 
-    const N0: [u8; 20] = [
-        0xcb, 0x9a, 0x9f, 0x31, 0x4b, 0x8b, 0x07, 0xba, 0x71, 0x01, 0x2f, 0xcd, 0xbc, 0x54, 0x4b,
-        0x5a, 0x4d, 0x82, 0xff, 0x5b,
+    /// Digits that an index has, and what they say: offset, stored length, text length, base and link, first parent, node.
+    struct Row(&'static str, u64, u32, u32, u32, Option<u32>, &'static str);
+
+    // The first is of a store with one changeset, the others are the first and the third of a store that Mercurial made.
+    const ROWS: [Row; 3] = [
+        Row(
+            "000000010000000000000037000000360000000000000000ffffffffffffffffcb9a9f314b8b07ba71012fcdbc544b5a4d82ff5b000000000000000000000000",
+            0,
+            55,
+            54,
+            0,
+            None,
+            "cb9a9f314b8b07ba71012fcdbc544b5a4d82ff5b",
+        ),
+        Row(
+            "0000000100000000000000a5000000a40000000000000000ffffffffffffffff3f96c076ae9cef57ed0d71fd2e0f9f7a80c3643e000000000000000000000000",
+            0,
+            165,
+            164,
+            0,
+            None,
+            "3f96c076ae9cef57ed0d71fd2e0f9f7a80c3643e",
+        ),
+        Row(
+            "00000000011700000000006100000060000000020000000200000001ffffffff2ac2ecd314a54d7c896fc5e4c2f83aff6a0ea28e000000000000000000000000",
+            279,
+            97,
+            96,
+            2,
+            Some(1),
+            "2ac2ecd314a54d7c896fc5e4c2f83aff6a0ea28e",
+        ),
     ];
 
-    #[test]
-    fn first_changeset(rt: HostRuntime) -> Result<(), Fail> {
-        let null = Node([0; 20]);
-        let text = b"a0c8bcbbb45c63b90b70ad007bf38961f64f2af0\ntest\n0 0\na\n\na";
-        assert_eq!(rt; node_of(&null, &null, text), Node(N0));
-        let entry = Entry {
-            offset: 0,
+    fn entry_of(row: &Row) -> Result<Entry, Fail> {
+        let Row(_, offset, stored, size, rev, p1, node) = row;
+        Ok(Entry {
+            offset: *offset,
             flags: 0,
-            stored: 0x37,
-            size: 0x36,
-            base: 0,
-            link: 0,
-            p1: None,
+            stored: *stored,
+            size: *size,
+            base: *rev,
+            link: *rev,
+            p1: *p1,
             p2: None,
-            node: Node(N0),
-        };
+            node: Node(<[u8; 20] as FromHex>::from_hex(*node)?),
+        })
+    }
+
+    #[test]
+    fn entries_of_stores(rt: HostRuntime) -> Result<(), Fail> {
+        for row in &ROWS {
+            let bytes = <[u8; 64] as FromHex>::from_hex(row.0)?;
+            assert_eq!(rt; decode(&bytes, row.4), Ok(entry_of(row)?), "{}", row.0);
+        }
+        Ok(())
+    }
+
+    #[test]
+    fn first_entry_written(rt: HostRuntime) -> Result<(), Fail> {
         let header = Header {
             inline: false,
             generaldelta: false,
         };
-        let bytes = encode(&entry, Some(header));
-        assert_eq!(rt; bytes[3], 1);
-        assert_eq!(rt; bytes[11], 0x37);
-        assert_eq!(rt; bytes[24], 0xff);
-        assert_eq!(rt; bytes[32], 0xcb);
-        assert_eq!(rt; decode(&bytes, 0), Ok(entry));
+        let entry = Entry {
+            offset: 0,
+            flags: 0,
+            stored: 165,
+            size: 164,
+            base: 0,
+            link: 0,
+            p1: None,
+            p2: None,
+            node: Node(<[u8; 20] as FromHex>::from_hex(ROWS[1].6)?),
+        };
+        let bytes = <[u8; 64] as FromHex>::from_hex(ROWS[1].0)?;
+        assert_eq!(rt; encode(&entry, Some(header)), bytes);
+        Ok(())
+    }
+
+    #[test]
+    fn later_entry_written(rt: HostRuntime) -> Result<(), Fail> {
+        let entry = Entry {
+            offset: 279,
+            flags: 0,
+            stored: 97,
+            size: 96,
+            base: 2,
+            link: 2,
+            p1: Some(1),
+            p2: None,
+            node: Node(<[u8; 20] as FromHex>::from_hex(ROWS[2].6)?),
+        };
+        let bytes = <[u8; 64] as FromHex>::from_hex(ROWS[2].0)?;
+        assert_eq!(rt; encode(&entry, None), bytes);
         Ok(())
     }
 }

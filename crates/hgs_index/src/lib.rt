@@ -1,6 +1,10 @@
 //! Nodes, index entries, and the definitions of the texts that the history stands on.
 #![tactic(auto)]
 
+mod fields;
 pub mod entry;
+pub mod head;
 pub mod kinds;
+pub mod laws;
 pub mod node;
+pub mod texts;

@@ -1,0 +1,152 @@
+//! Changesets and their text.
+ghost use Rattle.hgs_bytes.specs.Answer.{Gives};
+ghost use Rattle.hgs_index.specs.ChangeText.{read_change, is_memory};
+ghost use Rattle.hgs_changelog.specs.View.{view_change};
+
+use crate::date::{is_text, when_from};
+use crate::header::{ascending, header_and_description, header_from, lines_from};
+use hgs_bytes::bytes::Bytes;
+use hgs_bytes::names::Names;
+use hgs_index::node::Node;
+use hgs_index::texts::{ChangeFault, node_from};
+use std::alloc::Global;
+
+/// What a changeset says.
+#[derive(Debug, Drop)]
+pub struct ChangeText {
+    /// The node of the manifest.
+    pub manifest: Node,
+    pub user: Bytes,
+    /// Seconds since 1970 began, in UTC.
+    pub seconds: i64,
+    /// The seconds by which the time zone is west of UTC.
+    pub offset: i32,
+    /// What the date line says besides; empty where that is nothing.
+    pub extras: Bytes,
+    /// The changed files, in the order of their bytes.
+    pub files: Names,
+    pub description: Bytes,
+}
+
+impl ChangeText {
+    /// The changeset of a text, or the first of its faults in the order of `ChangeFault`.
+    pub fn read(alloc: Global, text: &[u8]) -> Result<ChangeText, ChangeFault>
+        ensures { Gives is_memory view_change result (read_change text.now) }
+    {
+        let Some((header, description)) = header_and_description(text) else {
+            return Err(ChangeFault::Shape);
+        };
+        let Some(header) = header_from(header) else {
+            return Err(ChangeFault::Shape);
+        };
+        let Some(manifest) = node_from(header.node) else {
+            return Err(ChangeFault::Node);
+        };
+        let Some(when) = when_from(alloc, header.date)? else {
+            return Err(ChangeFault::Date);
+        };
+        let files = lines_from(alloc, header.files)?;
+        if !ascending(files.as_slice()) {
+            return Err(ChangeFault::Files);
+        }
+        if !is_text(header.user) || !is_text(description) {
+            return Err(ChangeFault::Utf8);
+        }
+        Ok(ChangeText {
+            manifest,
+            user: Bytes::from_slice(alloc, header.user)?,
+            seconds: when.seconds,
+            offset: when.offset,
+            extras: when.extras,
+            files,
+            description: Bytes::from_slice(alloc, description)?,
+        })
+    }
+}
+
+#[cfg(test)]
+mod tests {
+    use super::*;
+    use hgs_index::node::node_of;
+    use std::test::Fail;
+
+    const NULL: Node = Node([0; 20]);
+
+    /// The first changeset of a repository: its node is what Mercurial gives it.
+    const FIRST: &[u8; 54] = b"a0c8bcbbb45c63b90b70ad007bf38961f64f2af0\ntest\n0 0\na\n\na";
+
+    const NODE: [u8; 20] = [
+        0xcb, 0x9a, 0x9f, 0x31, 0x4b, 0x8b, 0x07, 0xba, 0x71, 0x01, 0x2f, 0xcd, 0xbc, 0x54, 0x4b,
+        0x5a, 0x4d, 0x82, 0xff, 0x5b,
+    ];
+
+    #[test]
+    fn the_first_changeset(rt: HostRuntime) -> Result<(), Fail> {
+        assert_eq!(rt; node_of(&NULL, &NULL, FIRST).0, NODE);
+        let change = ChangeText::read(rt.alloc(), FIRST)?;
+        assert_eq!(rt; change.manifest.0[0], 0xa0);
+        assert_eq!(rt; change.user.as_slice(), b"test".as_slice());
+        assert_eq!(rt; change.seconds, 0);
+        assert_eq!(rt; change.files.len(), 1);
+        assert_eq!(rt; change.description.as_slice(), b"a".as_slice());
+        let mut text = Vec::new(rt.alloc());
+        change.print(&mut text)?;
+        assert_eq!(rt; text.as_slice(), FIRST.as_slice());
+        Ok(())
+    }
+
+    #[test]
+    fn dates_west_and_before(rt: HostRuntime) -> Result<(), Fail> {
+        let text = b"0000000000000000000000000000000000000000\ntest\n-1 50400 branch:x\n\n\n";
+        let change = ChangeText::read(rt.alloc(), text)?;
+        assert_eq!(rt; change.seconds, -1);
+        assert_eq!(rt; change.offset, 50400);
+        assert_eq!(rt; change.extras.as_slice(), b"branch:x".as_slice());
+        assert_eq!(rt; change.files.len(), 0);
+        assert_eq!(rt; change.description.as_slice(), b"\n".as_slice());
+        Ok(())
+    }
+
+    const FAULTS: [(&[u8], ChangeFault); 9] = [
+        (b"", ChangeFault::Shape),
+        (
+            b"a0c8bcbbb45c63b90b70ad007bf38961f64f2af0\ntest\n\n0 0",
+            ChangeFault::Shape,
+        ),
+        (
+            b"A0c8bcbbb45c63b90b70ad007bf38961f64f2af0\ntest\n00 0\n\n",
+            ChangeFault::Node,
+        ),
+        (
+            b"a0c8bcbbb45c63b90b70ad007bf38961f64f2af0\n\xff\n00 0\n\n",
+            ChangeFault::Date,
+        ),
+        (
+            b"a0c8bcbbb45c63b90b70ad007bf38961f64f2af0\ntest\n-0 0\n\n",
+            ChangeFault::Date,
+        ),
+        (
+            b"a0c8bcbbb45c63b90b70ad007bf38961f64f2af0\ntest\n0 0 \n\n",
+            ChangeFault::Date,
+        ),
+        (
+            b"a0c8bcbbb45c63b90b70ad007bf38961f64f2af0\ntest\n1099511627777 0\n\n",
+            ChangeFault::Date,
+        ),
+        (
+            b"a0c8bcbbb45c63b90b70ad007bf38961f64f2af0\n\xff\n0 0\nb\na\n\n",
+            ChangeFault::Files,
+        ),
+        (
+            b"a0c8bcbbb45c63b90b70ad007bf38961f64f2af0\n\xff\n0 0\na\nb\n\n",
+            ChangeFault::Utf8,
+        ),
+    ];
+
+    #[test]
+    fn first_faults(rt: HostRuntime) {
+        for (text, fault) in FAULTS {
+            assert_eq!(rt; ChangeText::read(rt.alloc(), text).err(), Some(fault));
+        }
+    }
+}

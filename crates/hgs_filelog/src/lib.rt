@@ -1,0 +1,4 @@
+//! The text of a file revision: a metadata block, which may be missing, and the body.
+#![tactic(auto)]
+
+pub mod file_text;

@@ -1,0 +1,5 @@
+use Rattle.hgs_index.proofs.AncestorTestLemmas.{is_ancestor-decides}
+use Rattle.hgs_index.proofs.laws.ancestor_test.Goals as goal
+
+pub returns : goal.returns
+returns c = λ history a b earlier lt. is_ancestor-decides history earlier a b lt

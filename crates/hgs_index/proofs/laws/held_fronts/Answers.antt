@@ -1,0 +1,5 @@
+use Rattle.hgs_index.proofs.RevlogFrontLemmas.{held-front}
+use Rattle.hgs_index.proofs.laws.held_fronts.Goals as goal
+
+pub returns : goal.returns
+returns c = held-front

@@ -1,0 +1,5 @@
+use Rattle.hgs_index.proofs.UniqueLemmas.{held-unique}
+use Rattle.hgs_index.proofs.laws.held_once.Goals as goal
+
+pub returns : goal.returns
+returns c = held-unique

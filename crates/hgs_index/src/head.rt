@@ -1,0 +1,57 @@
+//! The header, which the first four bytes of an index are.
+ghost use Rattle.std.specs.Prelude.{◌≡◌};
+ghost use Rattle.hgs_index.specs.Entry.{has_bad_header, header_at};
+
+use crate::entry::{EntryFault, Header};
+use crate::fields::u16_at;
+
+/// Whether a bit of the header is set that this profile does not read.
+pub(crate) fn has_bad_flags(flags: u16) -> bool
+    ensures { result ≡ has_bad_header flags }
+{
+    flags != 0 && flags != 2
+}
+
+/// The header that an index begins with, or its first fault.
+///
+/// Only `Version` and `HeaderFlags` come. Bit 17, generaldelta, changes nothing for texts that are stored whole.
+pub fn header(bytes: &[u8; 4]) -> Result<Header, EntryFault>
+    ensures { result ≡ header_at bytes.now }
+{
+    if u16_at(bytes, 2) != 1 {
+        return Err(EntryFault::Version);
+    }
+    let flags = u16_at(bytes, 0);
+    if has_bad_flags(flags) {
+        return Err(EntryFault::HeaderFlags);
+    }
+    Ok(Header {
+        inline: flags % 2 == 1,
+        generaldelta: flags / 2 % 2 == 1,
+    })
+}
+
+#[cfg(test)]
+mod tests {
+    use super::*;
+
+    const fn with_generaldelta(generaldelta: bool) -> Header {
+        Header {
+            inline: false,
+            generaldelta,
+        }
+    }
+
+    #[test]
+    fn headers(rt: HostRuntime) {
+        for (bytes, want) in [
+            ([0, 0, 0, 1], Ok(with_generaldelta(false))),
+            ([0, 2, 0, 1], Ok(with_generaldelta(true))),
+            ([0, 1, 0, 1], Err(EntryFault::HeaderFlags)),
+            ([0, 4, 0, 1], Err(EntryFault::HeaderFlags)),
+            ([0, 4, 0, 2], Err(EntryFault::Version)),
+        ] {
+            assert_eq!(rt; header(&bytes), want, "{bytes:?}");
+        }
+    }
+}

@@ -1,0 +1,76 @@
+//! What the definitions of this crate imply. Each function is one law; none does anything.
+ghost use Rattle.std.specs.Prelude.{◌≡◌, ◌⊎◌, ◌↔◌, false, true, ℕ, ◌<◌, ◌++◌, List, [], ◌∷◌, length, take, map, None, Some, Ok, IsSome, IfSome, Option};
+ghost use Rattle.hex.specs.Hex.{IsBytes};
+ghost use Rattle.hgs_bytes.specs.Bytes.{among, begins_with};
+ghost use Rattle.hgs_index.specs.declared.entry.Entry.{Entry};
+ghost use Rattle.hgs_index.specs.declared.entry.Header.{Header};
+ghost use Rattle.hgs_index.specs.Ancestor.{IsAncestor, is_ancestor};
+ghost use Rattle.hgs_index.specs.Entry.{Fits, entry_at, entry_bytes, header_at, header_within};
+ghost use Rattle.hgs_index.specs.FileText.{IsBlock, marker, plain_prefix, prefix_of, body_of, unpacked};
+ghost use Rattle.hgs_index.specs.Node.{null_node};
+ghost use Rattle.hgs_index.specs.Revision.{Parents, ParentsBefore, Revision, node_after, nodes};
+ghost use Rattle.hgs_index.specs.Revlog.{BeginsWithRevisions, HoldsRevisions, Stored, chunk_of, chunk_text, entry_after, next_header};
+
+/// An entry that is written is read again.
+pub fn encode_then_decode()
+    ensures { (e : Entry) (h : Option Header) (rev : ℕ) → Fits e h → IfSome h (λ x. x.inline ≡ false) → (IsSome h → rev ≡ 0) → (rev ≡ 0 → IsSome h) → entry_at (entry_bytes e h) rev ≡ Ok e }
+{}
+
+/// Bytes that read as an entry are the bytes that are written of it.
+pub fn decode_then_encode()
+    ensures { (bytes : List ℕ) (rev : ℕ) (e : Entry) → IsBytes bytes → length bytes ≡ 64 → entry_at bytes rev ≡ Ok e → (bytes ≡ entry_bytes e (header_within bytes rev)) × Fits e (header_within bytes rev) }
+{}
+
+/// The header of an index that is written is read again.
+pub fn encode_then_header()
+    ensures { (e : Entry) (h : Header) → h.inline ≡ false → header_at (take 4 (entry_bytes e (Some h))) ≡ Ok h }
+{}
+
+/// Prefix and body are the whole text, and the prefix is empty or a whole metadata block.
+pub fn file_text_parts()
+    ensures { (text : List ℕ) → (prefix_of text ++ body_of text ≡ text) × ((prefix_of text ≡ []) ⊎ IsBlock (prefix_of text)) }
+{}
+
+/// A whole block before any body is found again, and so is a body without one that does not begin with a marker.
+pub fn joined_then_unpacked()
+    ensures block { (block body : List ℕ) → IsBlock block → unpacked (block ++ body) ≡ (block, body) }
+    ensures bare { (body : List ℕ) → begins_with body marker ≡ false → unpacked body ≡ ([], body) }
+    ensures plain { (body : List ℕ) → unpacked (plain_prefix body ++ body) ≡ (plain_prefix body, body) }
+{}
+
+/// Each revision is its own ancestor, and an ancestor of an ancestor is an ancestor.
+pub fn ancestor_order()
+    ensures reflexive { (history : List Parents) (a : ℕ) → IsAncestor history a a }
+    ensures transitive { (history : List Parents) (a b c : ℕ) → IsAncestor history a b → IsAncestor history b c → IsAncestor history a c }
+{}
+
+/// Where parents stand before their children, the test of ancestors is exact.
+pub fn ancestor_test()
+    ensures { (history : List Parents) (a b : ℕ) → ParentsBefore 0 history → b < length history → (is_ancestor history a b ≡ true ↔ IsAncestor history a b) }
+{}
+
+/// The chunk that is written of a text stands for it.
+pub fn chunk_then_text()
+    ensures { (text : List ℕ) → chunk_text (chunk_of text) ≡ Some text }
+{}
+
+/// Bytes hold at most one list of revisions.
+pub fn held_once()
+    ensures { (index data_bytes : List ℕ) (revisions others : List Revision) → HoldsRevisions index data_bytes revisions → HoldsRevisions index data_bytes others → revisions ≡ others }
+{}
+
+/// Bytes that hold a list begin with bytes that hold each front of it.
+pub fn held_fronts()
+    ensures { (index data_bytes : List ℕ) (front more : List Revision) → HoldsRevisions index data_bytes (front ++ more) → BeginsWithRevisions index data_bytes front }
+{}
+
+/// The entry and the chunk of one more revision, behind bytes that hold a list, hold the list with it.
+pub fn held_and_one_more()
+    ensures { (index data_bytes : List ℕ) (revisions : List Revision) (new : Stored) (header : Header) →
+        HoldsRevisions index data_bytes revisions → header.inline ≡ false →
+        chunk_text new.chunk ≡ Some new.revision.text →
+        IfSome new.revision.parents.0 (λ p. p < length revisions) → IfSome new.revision.parents.1 (λ p. p < length revisions) →
+        Fits (entry_after (length data_bytes) (nodes revisions) new) None →
+        among (node_after (nodes revisions) new.revision) (null_node ∷ nodes revisions) ≡ false →
+        HoldsRevisions (index ++ entry_bytes (entry_after (length data_bytes) (nodes revisions) new) (next_header revisions header)) (data_bytes ++ new.chunk) (revisions ++ new.revision ∷ []) }
+{}

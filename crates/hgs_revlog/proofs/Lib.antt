@@ -1,0 +1,11 @@
+pub mod AddLemmas
+pub mod AddedLemmas
+pub mod HeldLemmas
+pub mod LoadLemmas
+pub mod LogLemmas
+pub mod ReadLemmas
+pub mod SpanLemmas
+pub mod StandingLemmas
+pub mod TailHeldLemmas
+pub mod TailLemmas
+pub mod TestLemmas

@@ -1,0 +1,5 @@
+use Rattle.hgs_revlog.proofs.TailHeldLemmas.{standing-added}
+use Rattle.hgs_revlog.proofs.laws.standing_revision.Goals as goal
+
+pub returns : goal.returns
+returns c = standing-added

@@ -1,0 +1,26 @@
+use Rattle.std.proofs.Common.{◌≡◌, ◌<◌, ◌+◌, None, Some, cond, length, arith, rules, sym, ◌∙◌, ap, subst}
+use Rattle.std.specs.Ordering.{nat_cmp}
+use Rattle.std.specs.BTreeMap.{get, is_at}
+use Rattle.std.specs.Cmp.Lexicographic.{slice_cmp}
+use Rattle.std.proofs.lemmas.List.{length_push}
+use Rattle.hgs_revlog.specs.Log.{place_of, stored_sum}
+use Rattle.hgs_revlog.specs.Load.{fault_of, most_revisions}
+use Rattle.hgs_revlog.proofs.LogLemmas.{place_push, sum_push}
+use Rattle.hgs_revlog.proofs.LoadLemmas.{faultless}
+use Rattle.hgs_revlog.proofs.revlog.Revlog.append.Goals as goal
+
+pub invariant_of-self-in-Ok : goal.invariant_of-self-in-Ok
+invariant_of-self-in-Ok c =
+    let items = c.in_ok-push.ensures.items in
+    let old = c.self.inside.entries.items in
+    let entry = c.args.entry in
+    let was : c.args.self.now.entries ≡ old = ap (λ log. log.entries) (sym c.self.view_is) in
+    let none : fault_of old entry ≡ None = ap (λ es. fault_of es entry) (sym was) ∙ c.requires.faultless in
+    let fine = faultless old entry none in
+    let few : length old < most_revisions = subst (λ es. length es < most_revisions) was c.requires.few in
+    record {
+      few = (let len = ap length items in omega (arith, len, few, length_push old entry));
+      sum = ap (λ n. n + entry.stored) c.self.invariant.sum ∙ sym (sum_push old entry) ∙ ap stored_sum (sym items);
+      short = (let offset = fine.offset in let fits = fine.data_end in let sum = c.self.invariant.sum in omega (arith, offset, fits, sum));
+      places = λ q. place_push old entry (get (slice_cmp nat_cmp) c.self.inside.revs) (get (slice_cmp nat_cmp) c.insert.new.self) c.self.invariant.places fine.fresh (λ r. c.in-Ok.ensures.updates.0 r ∙ ap (λ n. cond (is_at (slice_cmp nat_cmp entry.node.0) r) (Some n) (get (slice_cmp nat_cmp) c.self.inside.revs r)) (search rules)) q ∙ ap (λ es. place_of es q) (sym items);
+    }

@@ -1,0 +1,6 @@
+use Rattle.std.proofs.Common.{sym}
+use Rattle.hgs_revlog.proofs.LoadLemmas.{taken_entry}
+use Rattle.hgs_revlog.proofs.revlog.Revlog.push.Goals as goal
+
+pub append-requires-clause-faultless : goal.append-requires-clause-faultless
+append-requires-clause-faultless c = (taken_entry c.args.self.now.entries c.args.entry.now c.in_ok-entry.entry (sym c.in_ok-entry.ensures)).1

@@ -1,0 +1,11 @@
+//! Revlogs over bytes: an index of 64-byte entries, and the chunks of the texts in a file of their own.
+//!
+//! Each text is stored whole (Mercurial's help page `internals.revlogs`).
+#![tactic(auto)]
+
+pub mod add;
+pub mod fault;
+pub mod laws;
+pub mod revlog;
+#[cfg(test)]
+mod tests;

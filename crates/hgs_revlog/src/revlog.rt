@@ -1,0 +1,324 @@
+//! A loaded index.
+ghost use Rattle.std.specs.Prelude.{◌≡◌, ◌<◌, ◌≤◌, not, [], length, slice_get, IfSome, IfErr, IsOk, OnOk, OnErr};
+ghost use Rattle.std.specs.Option.{option_map};
+ghost use Rattle.std.specs.Result.{result_map_both};
+ghost use Rattle.hgs_bytes.specs.Answer.{Gives};
+ghost use Rattle.hgs_bytes.specs.Bytes.{same};
+ghost use Rattle.hgs_index.specs.Revision.{parent_node};
+ghost use Rattle.hgs_index.specs.Revlog.{chunk_text};
+ghost use Rattle.hgs_revlog.specs.declared.fault.RevFault.TheVariants.{Memory};
+ghost use Rattle.hgs_revlog.specs.Fault.{is_memory};
+ghost use Rattle.hgs_revlog.specs.Log.{place_of, nodes_of, new_header, stored_sum, with_entry};
+ghost use Rattle.hgs_revlog.specs.Load.{loaded, is_taken, entry_behind, fault_of, is_above, ends_at, at_end, most_data, most_revisions, pushed};
+ghost use Rattle.hgs_revlog.specs.Text.{span_of, node_with, text_of};
+
+use crate::fault::{RevFault, Tail};
+use hgs_index::entry::{Entry, Header, decode};
+use hgs_index::kinds::{Span, Which};
+use hgs_index::node::{Node, node_of};
+use std::alloc::Global;
+use std::collections::BTreeMap;
+use std::marker::Model;
+
+pub(crate) const MOST_REVISIONS: u32 = 1_000_000;
+
+pub(crate) const MOST_TEXT: u32 = 33_554_432;
+
+pub(crate) const MOST_DATA: u64 = 0xffff_ffff_ffff;
+
+/// The entries of a revlog, and the revision of each node.
+#[derive(Drop)]
+pub struct Revlog {
+    inline: bool,
+    entries: Vec<Entry>,
+    /// The revision of each node.
+    revs: BTreeMap<[u8; 20], u32>,
+    /// Where the next chunk begins: the sum of the stored lengths.
+    end: u64,
+}
+
+impl Model for Revlog {
+    ghost use Rattle.hgs_revlog.specs.Log.{Log};
+
+    ghost Value = { Log };
+
+    ghost view = { λ a. record { inline = a.inline; entries = a.entries.items } };
+
+    ghost use Rattle.hgs_revlog.specs.Indexed.{IsIndexed};
+
+    ghost invariant = { IsIndexed };
+}
+
+fn above(rev: u32, parent: Option<u32>) -> bool
+    ensures { result ≡ is_above rev parent }
+{
+    match parent {
+        None => false,
+        Some(parent) => rev <= parent,
+    }
+}
+
+fn ends(tail: &Tail, entry: &Entry) -> bool
+    ensures { result ≡ ends_at tail.now entry.now }
+{
+    match tail {
+        Tail::Ignore => false,
+        Tail::Refuse => false,
+        Tail::Until(node) => entry.node == *node,
+    }
+}
+
+impl Revlog {
+    /// A revlog without revisions. Takes no memory.
+    pub fn empty(alloc: Global, inline: bool) -> Revlog
+        ensures { result ≡ record { inline = inline; entries = [] } }
+    {
+        Revlog {
+            inline,
+            entries: Vec::new(alloc),
+            revs: BTreeMap::new(alloc),
+            end: 0,
+        }
+    }
+
+    /// The revlog of an index whose chunks stand in a data file, or its first fault in the order of revisions.
+    ///
+    /// The index is not copied. The time is that of a search among the nodes for each entry.
+    pub fn load(alloc: Global, index: &[u8], tail: Tail) -> Result<Revlog, RevFault>
+        ensures { Gives is_memory (λ log. log) result (loaded tail index.now) }
+    {
+        let mut log = Revlog::empty(alloc, false);
+        let mut rest = index;
+        while let Some((bytes, behind)) = rest.split_first_chunk::<64>() {
+            let entry = match log.next_entry(bytes) {
+                Ok(entry) => entry,
+                Err(fault) => return Err(fault),
+            };
+            log.append(entry)?;
+            if ends(&tail, &entry) {
+                return Ok(log);
+            }
+            rest = behind;
+        }
+        log.ended(tail, rest)
+    }
+
+    // What is answered where no whole entry is left.
+    fn ended(self, tail: Tail, rest: &[u8]) -> Result<Revlog, RevFault>
+        ensures { result ≡ at_end tail self rest.now }
+    {
+        match tail {
+            Tail::Ignore => Ok(self),
+            Tail::Refuse => {
+                if rest.is_empty() {
+                    Ok(self)
+                } else {
+                    Err(RevFault::Tail(self.len()))
+                }
+            }
+            Tail::Until(_) => Err(RevFault::Missing),
+        }
+    }
+
+    /// Takes as the next revision the entry that `add` gave, and changes nothing where there is no memory.
+    pub fn push(&mut self, entry: &[u8; 64]) -> Result<(), RevFault>
+        requires { IsOk (entry_behind self.old.entries entry.now) }
+        ensures ok { OnOk result (Ok self.new ≡ pushed self.old entry.now) }
+        ensures err { IfErr result (λ fault. fault ≡ Memory) }
+        ensures kept { OnErr result (self.new ≡ self.old) }
+    {
+        let entry = self.next_entry(entry)?;
+        self.append(entry)
+    }
+
+    // Takes an entry without fault as the next one, or changes nothing where there is no memory.
+    fn append(&mut self, entry: Entry) -> Result<(), RevFault>
+        requires few { length self.old.entries < most_revisions }
+        requires faultless { fault_of self.old.entries entry ≡ None }
+        ensures ok { OnOk result (self.new ≡ with_entry self.old entry) }
+        ensures err { IfErr result (λ fault. fault ≡ Memory) }
+        ensures kept { OnErr result (self.new ≡ self.old) }
+    {
+        let rev = self.entries.len() as u32;
+        self.entries.push(entry)?;
+        match self.revs.insert(entry.node.0, rev) {
+            Ok(_) => {
+                self.end += entry.stored as u64;
+                Ok(())
+            }
+            Err(_) => {
+                self.entries.pop();
+                Err(RevFault::Memory)
+            }
+        }
+    }
+
+    /// How many revisions there are.
+    pub fn len(&self) -> u32
+        ensures { result ≡ length self.now.entries }
+    {
+        self.entries.len() as u32
+    }
+
+    /// The entry of a revision.
+    pub fn entry(&self, rev: u32) -> &Entry
+        requires { rev < length self.now.entries }
+        ensures { slice_get self.now.entries rev ≡ Some result.now }
+    {
+        &self.entries[rev as usize]
+    }
+
+    /// The revision that has this node.
+    pub fn rev_of(&self, node: &Node) -> Option<u32>
+        ensures { result ≡ place_of self.now.entries node.now.0 }
+    {
+        self.revs.get(&node.0).copied()
+    }
+
+    /// Where the chunk of a revision stands in the data file, in bytes.
+    pub fn text_span(&self, rev: u32) -> Span
+        requires { rev < length self.now.entries }
+        ensures { option_map span_of (slice_get self.now.entries rev) ≡ Some result }
+    {
+        let entry = self.entry(rev);
+        Span {
+            from: entry.offset,
+            len: entry.stored as u64,
+        }
+    }
+
+    // Where the next chunk begins.
+    pub(crate) fn end(&self) -> u64
+        ensures sum { result ≡ stored_sum self.now.entries }
+        ensures fits { result ≤ most_data }
+    {
+        self.end
+    }
+
+    // What the entry of the next revision begins with: the header, in the first one.
+    pub(crate) fn header(&self) -> Option<Header>
+        ensures { result ≡ new_header self.now }
+    {
+        if self.entries.is_empty() {
+            Some(Header {
+                inline: self.inline,
+                generaldelta: false,
+            })
+        } else {
+            None
+        }
+    }
+
+    // The node of a parent; the null node where there is none.
+    pub(crate) fn parent_node(&self, parent: Option<u32>) -> Node
+        ensures { result.0 ≡ parent_node (nodes_of self.now.entries) parent }
+    {
+        match parent {
+            None => Node([0; 20]),
+            Some(rev) => match self.entries.get(rev as usize) {
+                None => Node([0; 20]),
+                Some(entry) => entry.node,
+            },
+        }
+    }
+
+    // Whether the node is another than that of the text with the entry's parents.
+    fn has_other_hash(&self, entry: &Entry, text: &[u8]) -> bool
+        ensures { result ≡ not (same (node_with self.now.entries entry.now text.now) entry.now.node.0) }
+    {
+        let first = self.parent_node(entry.p1);
+        let second = self.parent_node(entry.p2);
+        node_of(&first, &second, text) != entry.node
+    }
+
+    /// The text of a revision in the bytes that were read at its span, or the first fault.
+    ///
+    /// Fewer bytes than the span are refused as `Short`. The text is a part of the chunk and is not copied.
+    pub fn text<'a>(&self, rev: u32, chunk: &'a [u8]) -> Result<&'a [u8], RevFault>
+        requires stands { rev < length self.now.entries }
+        requires within { IfSome (slice_get self.now.entries rev) (λ e. length chunk.now ≤ e.stored) }
+        ensures { result_map_both (λ text. text.now) (λ fault. fault) result ≡ text_of self.now.entries rev chunk.now }
+    {
+        let entry = self.entry(rev);
+        if entry.flags != 0 {
+            return Err(RevFault::Flagged(rev));
+        }
+        if entry.base != rev {
+            return Err(RevFault::Delta(rev));
+        }
+        if chunk.len() < entry.stored as usize {
+            return Err(RevFault::Short(rev));
+        }
+        let text = match plain_text(chunk) {
+            None => return Err(RevFault::Compressed(rev)),
+            Some(text) => text,
+        };
+        if text.len() != entry.size as usize {
+            return Err(RevFault::Length(rev));
+        }
+        if self.has_other_hash(entry, text) {
+            return Err(RevFault::Hash(rev));
+        }
+        Ok(text)
+    }
+
+    // Whether a revision has this node. None has the null node, so it counts as taken.
+    fn is_node_taken(&self, node: &Node) -> bool
+        ensures { result ≡ is_taken self.now.entries node.now.0 }
+    {
+        Node([0; 20]) == *node || self.rev_of(node).is_some()
+    }
+
+    // The first fault of an entry as the next one.
+    fn fault(&self, entry: &Entry) -> Option<RevFault>
+        ensures { result ≡ fault_of self.now.entries entry.now }
+    {
+        let rev = self.len();
+        if entry.offset != self.end {
+            return Some(RevFault::Offset(rev));
+        }
+        if above(rev, entry.p1) || above(rev, entry.p2) {
+            return Some(RevFault::Parent(rev));
+        }
+        if self.is_node_taken(&entry.node) {
+            return Some(RevFault::Twice(rev));
+        }
+        if entry.size > MOST_TEXT {
+            return Some(RevFault::Limit(Which::Text));
+        }
+        if entry.offset + entry.stored as u64 > MOST_DATA {
+            return Some(RevFault::Limit(Which::Data));
+        }
+        None
+    }
+
+    // The entry that these bytes are as the next one, or its first fault.
+    pub(crate) fn next_entry(&self, bytes: &[u8; 64]) -> Result<Entry, RevFault>
+        ensures { result ≡ entry_behind self.now.entries bytes.now }
+    {
+        let rev = self.len();
+        if rev >= MOST_REVISIONS {
+            return Err(RevFault::Limit(Which::Changesets));
+        }
+        let entry = match decode(bytes, rev) {
+            Ok(entry) => entry,
+            Err(fault) => return Err(RevFault::Entry(rev, fault)),
+        };
+        match self.fault(&entry) {
+            None => Ok(entry),
+            Some(fault) => Err(fault),
+        }
+    }
+}
+
+// The text in a chunk, none where it is compressed.
+fn plain_text(chunk: &[u8]) -> Option<&[u8]>
+    ensures { option_map (λ text. text.now) result ≡ chunk_text chunk.now }
+{
+    match chunk {
+        [] => Some(chunk),
+        [0, ..] => Some(chunk),
+        [b'u', text @ ..] => Some(text),
+        [_, ..] => None,
+    }
+}
