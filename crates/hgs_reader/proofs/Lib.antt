@@ -1,0 +1,5 @@
+pub mod AskLemmas
+pub mod ChunkLemmas
+pub mod FeedLemmas
+pub mod RestLemmas
+pub mod StepLemmas

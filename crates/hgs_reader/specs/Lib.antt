@@ -1,0 +1,5 @@
+pub mod Answer
+pub mod Asks
+pub mod Line
+pub mod Load
+pub mod View

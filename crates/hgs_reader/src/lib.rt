@@ -1,0 +1,11 @@
+//! Reading a repository without locks, while others may write.
+#![tactic(auto)]
+
+pub mod answer;
+pub mod ask;
+pub mod line;
+pub mod load;
+pub mod paths;
+pub mod refusal;
+pub mod session;
+pub mod step;

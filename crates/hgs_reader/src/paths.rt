@@ -1,0 +1,49 @@
+//! The paths of the files that a reader reads.
+ghost use Rattle.std.specs.Prelude.{◌≡◌, true, IfOk};
+ghost use Rattle.hgs_files.specs.Path.{is_store_path};
+ghost use Rattle.hgs_reader.specs.View.{changelog_index, changelog_data};
+
+use hgs_files::path::{NameFault, StorePath};
+use std::alloc::{AllocError, Global};
+
+/// The path of these bytes, which are one.
+pub fn path_of(alloc: Global, bytes: &[u8]) -> Result<StorePath, AllocError>
+    requires { is_store_path bytes.now ≡ true }
+    ensures { IfOk result (λ path. path ≡ bytes.now) }
+{
+    match StorePath::new(alloc, bytes) {
+        Ok(path) => Ok(path),
+        Err(NameFault::Memory) => Err(AllocError),
+        Err(NameFault::Shape) => unreachable!(),
+    }
+}
+
+/// The two files of the changelog.
+#[derive(Drop)]
+pub struct ChangelogPaths {
+    index: StorePath,
+    chunks: StorePath,
+    ghost names_index: { index ≡ changelog_index },
+    ghost names_data: { chunks ≡ changelog_data },
+}
+
+impl ChangelogPaths {
+    pub fn new(alloc: Global) -> Result<ChangelogPaths, AllocError> {
+        Ok(ChangelogPaths {
+            index: path_of(alloc, b"store/00changelog.i")?,
+            chunks: path_of(alloc, b"store/00changelog.d")?,
+        })
+    }
+
+    pub fn index(&self) -> &StorePath
+        ensures { result.now ≡ changelog_index }
+    {
+        &self.index
+    }
+
+    pub fn chunks(&self) -> &StorePath
+        ensures { result.now ≡ changelog_data }
+    {
+        &self.chunks
+    }
+}

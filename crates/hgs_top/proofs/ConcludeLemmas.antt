@@ -1,0 +1,63 @@
+-- A question that was told and concluded was answered.
+use Rattle.std.proofs.Common.{◌≡◌, ℕ, List, [], ◌∷◌, ◌++◌, length, take, Bool, true, false, Option, Some, None, Result, Ok, Err, refl, sym, ◌∙◌, ap, subst, arith, append_assoc, append-nil, inl, inr}
+use Rattle.std.specs.Prelude.{⊤, ◌⊎◌}
+use Rattle.std.specs.Bool.{MatchBool}
+use Rattle.std.proofs.lemmas.List.{take_all, take_at}
+use Rattle.hgs_files.specs.declared.streams.IoFault.{IoFault}
+use Rattle.hgs_files.specs.declared.streams.IoFault.TheVariants as io_faults
+use Rattle.hgs_files.specs.Streams.{IsWritten}
+use Rattle.hgs_reader.specs.declared.answer.ReadAnswer.{ReadAnswer}
+use Rattle.hgs_reader.specs.declared.answer.ReadAnswer.TheVariants.{Damaged, Fault, Limit, UnknownPath, NotARepository, Requirement, Memory}
+use Rattle.hgs_reader.specs.Answer.{status_of, refusal_line, is_of_outside}
+use Rattle.hgs_top.specs.declared.stopped.Stopped.{Stopped}
+use Rattle.hgs_top.specs.declared.stopped.Stopped.TheVariants.{Refused, Unwritten}
+use Rattle.hgs_top.specs.Outcome.{Outcome}
+use Rattle.hgs_top.specs.Run.{IsTold, IsFrontWritten, IsCutShort, Answered, EndsLine, Concludes, status_of_ending, ending_of, status_of_sink}
+use Rattle.hgs_top.proofs.Written.{adds_on, front_on}
+
+-- written, and then a front of a line
+cut_short : (text : List ℕ) (first old new : Option (List ℕ)) (n : ℕ) (e : ReadAnswer) → IsWritten first old (take n text) → IsFrontWritten old new (refusal_line e) → IsCutShort text first new
+cut_short text first old new n e w f =
+    (n, e, front_on first old new (take n text) (refusal_line e) [] (take n text ++ refusal_line e) w f (ap (λ l. take n text ++ l) (append-nil (refusal_line e))))
+
+whole_front : (old new : Option (List ℕ)) (bytes : List ℕ) → IsWritten old new bytes → IsFrontWritten old new bytes
+whole_front old new bytes w = let P : List ℕ → Type 0 = λ b. IsWritten old new b in (length bytes, subst P (sym (take_all (length bytes) bytes (omega arith))) w)
+
+-- the refusal is the repository's
+of_inside : (o : Outcome) (first old new : Option (List ℕ)) (status : ℕ) (e : ReadAnswer) → o.refusal ≡ Some e → IsWritten first old o.text → EndsLine (refusal_line e) (status_of e) status old new → Answered o status first new
+of_inside o first old new status e r w (inl l) =
+    inl (l.0 ∙ sym (ap status_of_ending r), adds_on first old new o.text (refusal_line e) (o.text ++ ending_of o.refusal) w l.1 (ap (λ q. o.text ++ ending_of q) (sym r)))
+of_inside o first old new status e r w (inr l) =
+    let P : List ℕ → Type 0 = λ b. IsWritten first old b in
+    inr (inr (l.0, cut_short o.text first old new (length o.text) e (subst P (sym (take_all (length o.text) o.text (omega arith))) w) l.1))
+
+-- it is the files'
+of_fault : (o : Outcome) (first old new : Option (List ℕ)) (status n : ℕ) → IsWritten first old (take n o.text) → EndsLine (refusal_line Fault) 16 status old new → Answered o status first new
+of_fault o first old new status n w (inl l) = inr (inl (l.0, (n, adds_on first old new (take n o.text) (refusal_line Fault) (take n o.text ++ refusal_line Fault) w l.1 refl)))
+of_fault o first old new status n w (inr l) = inr (inr (l.0, cut_short o.text first old new n Fault w l.1))
+
+-- there was no memory
+of_memory : (o : Outcome) (first old new : Option (List ℕ)) (status n : ℕ) → IsWritten first old (take n o.text) → EndsLine (refusal_line Memory) 30 status old new → Answered o status first new
+of_memory o first old new status n w (inl l) = inr (inr (inr l.0, cut_short o.text first old new n Memory w (whole_front old new (refusal_line Memory) l.1)))
+of_memory o first old new status n w (inr l) = inr (inr (l.0, cut_short o.text first old new n Memory w l.1))
+
+sink_status : (f : IoFault) (status : ℕ) → status ≡ status_of_sink f → (status ≡ 19) ⊎ (status ≡ 30)
+sink_status io_faults.Failed status e = inl e
+sink_status io_faults.Memory status e = inr e
+
+pub concluded : (o : Outcome) (first old new : Option (List ℕ)) (status : ℕ) (r : Result Unit Stopped) → IsTold o first old r → Concludes r old new status → Answered o status first new
+concluded o first old new status (Ok x) h c =
+    let P : Option (List ℕ) → Type 0 = λ n. IsWritten first n (o.text ++ ending_of o.refusal) in
+    let Q : List ℕ → Type 0 = λ b. IsWritten first old b in
+    inl (c.0 ∙ sym (ap status_of_ending h.0), subst P (sym c.1) (subst Q (sym (ap (λ q. o.text ++ ending_of q) h.0 ∙ append-nil o.text)) h.1))
+concluded o first old new status (Err (Refused (Damaged d))) h c = of_inside o first old new status (Damaged d) h.0 h.1 c
+concluded o first old new status (Err (Refused Fault)) h c = of_fault o first old new status h.0 h.1 c
+concluded o first old new status (Err (Refused (Limit w))) h c = of_inside o first old new status (Limit w) h.0 h.1 c
+concluded o first old new status (Err (Refused UnknownPath)) h c = of_inside o first old new status UnknownPath h.0 h.1 c
+concluded o first old new status (Err (Refused NotARepository)) h c = of_inside o first old new status NotARepository h.0 h.1 c
+concluded o first old new status (Err (Refused (Requirement w))) h c = of_inside o first old new status (Requirement w) h.0 h.1 c
+concluded o first old new status (Err (Refused Memory)) h c = of_memory o first old new status h.0 h.1 c
+concluded o first old new status (Err (Unwritten f)) h c =
+    let P : Option (List ℕ) → Type 0 = λ n. IsFrontWritten first n (take h.0 o.text ++ refusal_line Fault) in
+    let Q : List ℕ → Type 0 = λ b. IsWritten first old b in
+    inr (inr (sink_status f status c.0, (h.0, Fault, subst P (sym c.1) (length (take h.0 o.text), subst Q (sym (take_at (take h.0 o.text) (refusal_line Fault) (length (take h.0 o.text)) refl)) h.1))))

@@ -1,0 +1,3 @@
+pub mod ConcludeLemmas
+pub mod LogLemmas
+pub mod Written

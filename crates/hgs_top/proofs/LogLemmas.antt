@@ -1,0 +1,187 @@
+-- The lines so far and those to come are all lines.
+use Rattle.std.proofs.Common.{◌≡◌, ℕ, zero, suc, ◌-◌, ◌<◌, List, [], ◌∷◌, ◌++◌, length, take, Bool, true, false, Option, Some, None, Result, Ok, Err, OnOk, OnErr, refl, sym, ◌∙◌, ap, subst, arith, append_assoc, append-nil}
+use Rattle.std.specs.Prelude.{⊤, IfErr, IsErr, IfSome}
+use Rattle.std.specs.Bool.{MatchBool}
+use Rattle.std.proofs.lemmas.List.{take_all, take_at}
+use Rattle.hgs_files.specs.declared.op.Op.{Op}
+use Rattle.hgs_files.specs.Streams.{IsWritten}
+use Rattle.hgs_files.specs.Tree.{Tree, after_all}
+use Rattle.hgs_reader.specs.declared.answer.ReadAnswer.{ReadAnswer}
+use Rattle.hgs_reader.specs.Answer.{is_of_outside}
+use Rattle.hgs_reader.specs.Asks.{at_rest, Answers, AddsAnswer}
+use Rattle.hgs_reader.specs.Line.{line_asks}
+use Rattle.hgs_reader.specs.View.{View, open_asks}
+use Rattle.hgs_reader.proofs.AskLemmas.{either}
+use Rattle.hgs_reader.proofs.RestLemmas.{answers_at_rest, refused_at_rest, adds_at_rest, adds_refused_at_rest}
+use Rattle.hgs_top.specs.declared.stopped.Stopped.{Stopped}
+use Rattle.hgs_top.specs.declared.stopped.Stopped.TheVariants.{Refused, Unwritten}
+use Rattle.hgs_top.specs.Outcome.{Outcome, refused, line_then, lines_down, lines_of_view, log_of_view, log_outcome}
+use Rattle.hgs_top.specs.Run.{OfTree, IsTold, IsFrontWritten, IsGathered, IsUnwritten, StopsAt}
+use Rattle.hgs_top.proofs.Written.{adds_on, front_on}
+
+-- of the view's lines so many are left; those before were written or gathered
+pub record IsHalfWay (t : Tree) (view : View) (left : ℕ) (old new : Option (List ℕ)) (gathered : List ℕ) : Type 0 where
+  pub done : List ℕ
+  pub written : IsWritten old new done
+  pub text : done ++ gathered ++ (lines_down (λ rev. at_rest t (line_asks view rev)) left).text ≡ (lines_of_view t view).text
+  pub refusal : (lines_down (λ rev. at_rest t (line_asks view rev)) left).refusal ≡ (lines_of_view t view).refusal
+
+pub nothing_written : (o : Option (List ℕ)) → IsWritten o o []
+nothing_written None = refl
+nothing_written (Some l) = ap (λ x. Some x) (sym (append-nil l))
+
+-- nothing was written, and all lines are left
+pub at_first : (t : Tree) (view : View) (left : ℕ) (o : Option (List ℕ)) (gathered : List ℕ) → left ≡ length view.changelog.entries → gathered ≡ [] → IsHalfWay t view left o o gathered
+at_first t view left o gathered l e = record {
+  done = [];
+  written = nothing_written o;
+  text = ap (λ g. g ++ (lines_down (λ rev. at_rest t (line_asks view rev)) left).text) e ∙ ap (λ n. (lines_down (λ rev. at_rest t (line_asks view rev)) n).text) l;
+  refusal = ap (λ n. (lines_down (λ rev. at_rest t (line_asks view rev)) n).refusal) l;
+}
+
+next_line : (line : ℕ → Result (List ℕ) ReadAnswer) (left : ℕ) → 0 < left → lines_down line left ≡ line_then (line (left - 1)) (lines_down line (left - 1))
+next_line line zero h = absurd (omega arith)
+next_line line (suc n) h = let e : n ≡ suc n - 1 = omega arith in ap (λ k. line_then (line k) (lines_down line k)) e
+
+-- one more line was gathered, and some of them written
+pub half_on : (t : Tree) (view : View) (left : ℕ) (old mid new : Option (List ℕ)) (g0 g1 g2 text : List ℕ) → 0 < left → IsHalfWay t view left old mid g0 → at_rest t (line_asks view (left - 1)) ≡ Ok text → g1 ≡ g0 ++ text →
+    (d : List ℕ) × IsWritten mid new d × (d ++ g2 ≡ g1) → IsHalfWay t view (left - 1) old new g2
+half_on t view left old mid new g0 g1 g2 text pos h line g w =
+    let lines : ℕ → Result (List ℕ) ReadAnswer = λ rev. at_rest t (line_asks view rev) in
+    let rest = (lines_down lines (left - 1)).text in
+    let next : lines_down lines left ≡ line_then (Ok text) (lines_down lines (left - 1)) = next_line lines left pos ∙ ap (λ r. line_then r (lines_down lines (left - 1))) line in
+    record {
+      done = h.done ++ w.0;
+      written = adds_on old mid new h.done w.0 (h.done ++ w.0) h.written w.1 refl;
+      text = ap (λ l. l ++ rest) (append_assoc h.done w.0 g2 ∙ ap (λ l. h.done ++ l) (w.2 ∙ g)) ∙ ap (λ l. l ++ rest) (sym (append_assoc h.done g0 text)) ∙ append_assoc (h.done ++ g0) text rest
+          ∙ ap (λ (o : Outcome). h.done ++ g0 ++ o.text) (sym next) ∙ h.text;
+      refusal = ap (λ (o : Outcome). o.refusal) (sym next) ∙ h.refusal;
+    }
+
+-- a line was refused
+pub half_refused : (t : Tree) (view : View) (left : ℕ) (old mid : Option (List ℕ)) (g0 g1 : List ℕ) (e : ReadAnswer) → 0 < left → IsHalfWay t view left old mid g0 → g1 ≡ g0 → MatchBool (is_of_outside e) ⊤ (at_rest t (line_asks view (left - 1)) ≡ Err e) →
+    IsGathered (lines_of_view t view) old mid g1 (Err (Refused e))
+half_refused t view left old mid g0 g1 e pos h g line =
+    let lines : ℕ → Result (List ℕ) ReadAnswer = λ rev. at_rest t (line_asks view rev) in
+    let rest = (lines_down lines left).text in (
+      h.done,
+      h.written,
+      rest,
+      ap (λ l. h.done ++ l ++ rest) g ∙ h.text,
+      either (is_of_outside e) _ _
+          (λ r. let next : lines_down lines left ≡ refused e = next_line lines left pos ∙ ap (λ q. line_then q (lines_down lines (left - 1))) r in (
+            ap (λ (o : Outcome). o.text) next,
+            sym h.refusal ∙ ap (λ (o : Outcome). o.refusal) next,
+          ))
+          line,
+    )
+
+-- the sink took a front of what was gathered
+pub half_unwritten : (t : Tree) (view : View) (left : ℕ) (old mid new : Option (List ℕ)) (g0 g1 text : List ℕ) → 0 < left → IsHalfWay t view left old mid g0 → at_rest t (line_asks view (left - 1)) ≡ Ok text → g1 ≡ g0 ++ text →
+    IsFrontWritten mid new g1 → IsFrontWritten old new (lines_of_view t view).text
+half_unwritten t view left old mid new g0 g1 text pos h line g f =
+    let lines : ℕ → Result (List ℕ) ReadAnswer = λ rev. at_rest t (line_asks view rev) in
+    let rest = (lines_down lines (left - 1)).text in
+    let next : lines_down lines left ≡ line_then (Ok text) (lines_down lines (left - 1)) = next_line lines left pos ∙ ap (λ r. line_then r (lines_down lines (left - 1))) line in
+    front_on old mid new h.done g1 rest (lines_of_view t view).text h.written f
+    (ap (λ l. h.done ++ (l ++ rest)) g ∙ ap (λ l. h.done ++ l) (append_assoc g0 text rest) ∙ sym (append_assoc h.done g0 (text ++ rest)) ∙ ap (λ (o : Outcome). h.done ++ g0 ++ o.text) (sym next) ∙ h.text)
+
+-- ---- where the log is told
+
+module _ (seen0 seen1 seen2 : Option (List Op)) (start0 start1 : Tree) (view view1 : View) (left : ℕ) (old mid : Option (List ℕ)) (g0 g1 : List ℕ) (pos : 0 < left) (s1 : seen1 ≡ seen0) (s2 : seen2 ≡ seen1) (st : start1 ≡ start0) (v : view1 ≡ view) where
+  here : (r : Result Unit ReadAnswer) → AddsAnswer seen1 start1 seen2 (line_asks view1 (left - 1)) g0 g1 r → AddsAnswer seen0 start0 seen2 (line_asks view (left - 1)) g0 g1 r
+  here r a =
+      let P : Option (List Op) → Type 0 = λ o. AddsAnswer o start1 seen2 (line_asks view1 (left - 1)) g0 g1 r in
+      let Q : Tree → Type 0 = λ t. AddsAnswer seen0 t seen2 (line_asks view1 (left - 1)) g0 g1 r in
+      let V : View → Type 0 = λ w. AddsAnswer seen0 start0 seen2 (line_asks w (left - 1)) g0 g1 r in
+      subst V v (subst Q st (subst P s1 a))
+
+  pub refused_told : (e : ReadAnswer) → OfTree seen0 start0 (λ t. IsHalfWay t view left old mid g0) → AddsAnswer seen1 start1 seen2 (line_asks view1 (left - 1)) g0 g1 (Err e) →
+      OfTree seen0 start0 (λ t. IsGathered (lines_of_view t view) old mid g1 (Err (Refused e)))
+  refused_told e h a = refused_by seen0 refl h (here (Err e) a)
+    where
+      refused_by : (seen : Option (List Op)) → seen ≡ seen0 → OfTree seen start0 (λ t. IsHalfWay t view left old mid g0) → AddsAnswer seen0 start0 seen2 (line_asks view (left - 1)) g0 g1 (Err e) →
+          OfTree seen start0 (λ t. IsGathered (lines_of_view t view) old mid g1 (Err (Refused e)))
+      refused_by None q h b = tt
+      refused_by (Some l) q h b =
+          let k = adds_refused_at_rest seen0 seen2 l start0 (line_asks view (left - 1)) g0 g1 e (sym q) (s2 ∙ s1) b in
+          half_refused (after_all l start0) view left old mid g0 g1 e pos h k.0 k.1
+
+  pub next_told : (new : Option (List ℕ)) (g2 : List ℕ) (u : Unit) → OfTree seen0 start0 (λ t. IsHalfWay t view left old mid g0) → AddsAnswer seen1 start1 seen2 (line_asks view1 (left - 1)) g0 g1 (Ok u) →
+      (d : List ℕ) × IsWritten mid new d × (d ++ g2 ≡ g1) → OfTree seen0 start0 (λ t. IsHalfWay t view (left - 1) old new g2)
+  next_told new g2 u h a w = next_by seen0 refl h (here (Ok u) a)
+    where
+      next_by : (seen : Option (List Op)) → seen ≡ seen0 → OfTree seen start0 (λ t. IsHalfWay t view left old mid g0) → AddsAnswer seen0 start0 seen2 (line_asks view (left - 1)) g0 g1 (Ok u) →
+          OfTree seen start0 (λ t. IsHalfWay t view (left - 1) old new g2)
+      next_by None q h b = tt
+      next_by (Some l) q h b =
+          let k = adds_at_rest seen0 seen2 l start0 (line_asks view (left - 1)) g0 g1 u (sym q) (s2 ∙ s1) b in
+          half_on (after_all l start0) view left old mid new g0 g1 g2 k.0 pos h k.2 k.1 w
+
+  pub unwritten_told : (new : Option (List ℕ)) (u : Unit) → OfTree seen0 start0 (λ t. IsHalfWay t view left old mid g0) → AddsAnswer seen1 start1 seen2 (line_asks view1 (left - 1)) g0 g1 (Ok u) →
+      IsFrontWritten mid new g1 → OfTree seen0 start0 (λ t. IsFrontWritten old new (lines_of_view t view).text)
+  unwritten_told new u h a w = unwritten_by seen0 refl h (here (Ok u) a)
+    where
+      unwritten_by : (seen : Option (List Op)) → seen ≡ seen0 → OfTree seen start0 (λ t. IsHalfWay t view left old mid g0) → AddsAnswer seen0 start0 seen2 (line_asks view (left - 1)) g0 g1 (Ok u) →
+          OfTree seen start0 (λ t. IsFrontWritten old new (lines_of_view t view).text)
+      unwritten_by None q h b = tt
+      unwritten_by (Some l) q h b =
+          let k = adds_at_rest seen0 seen2 l start0 (line_asks view (left - 1)) g0 g1 u (sym q) (s2 ∙ s1) b in
+          half_unwritten (after_all l start0) view left old mid new g0 g1 k.0 pos h k.2 k.1 w
+
+pub of_each : (seen : Option (List Op)) (start : Tree) (P Q : Tree → Type 0) → ((t : Tree) → P t → Q t) → OfTree seen start P → OfTree seen start Q
+of_each None start P Q f h = tt
+of_each (Some l) start P Q f h = f (after_all l start) h
+
+pub of_all : (seen : Option (List Op)) (start : Tree) (P : Tree → Type 0) → ((t : Tree) → P t) → OfTree seen start P
+of_all None start P f = tt
+of_all (Some l) start P f = f (after_all l start)
+
+-- ---- the whole of `log`
+
+-- what holds of the lines of the opened view holds of the outcome
+pub opened : (seen0 seen1 : Option (List Op)) (start0 start1 : Tree) (view : View) (P : Outcome → Type 0) → seen1 ≡ seen0 → start1 ≡ start0 → Answers (λ (s : View). s) seen0 start0 seen1 open_asks (Ok view) →
+    OfTree seen1 start1 (λ t. P (lines_of_view t view)) → OfTree seen0 start0 (λ t. P (log_outcome t))
+opened None seen1 start0 start1 view P s st a h = tt
+opened (Some l) seen1 start0 start1 view P s st a h =
+    let t = after_all l start0 in
+    let S : Option (List Op) → Type 0 = λ o. OfTree o start1 (λ t. P (lines_of_view t view)) in
+    let T : Tree → Type 0 = λ q. P (lines_of_view (after_all l q) view) in
+    let found : at_rest t open_asks ≡ Ok view = answers_at_rest (λ (v : View). v) (Some l) seen1 l start0 open_asks view refl s a in
+    subst P (sym (ap (log_of_view t) found)) (subst T st (subst S s h))
+
+-- the loading was refused
+pub unopened : (seen0 seen1 : Option (List Op)) (start : Tree) (e : ReadAnswer) (o : Option (List ℕ)) → seen1 ≡ seen0 → Answers (λ (s : View). s) seen0 start seen1 open_asks (Err e) → OfTree seen0 start (λ t. IsTold (log_outcome t) o o (Err (Refused e)))
+unopened None seen1 start e o s a = tt
+unopened (Some l) seen1 start e o s a =
+    let t = after_all l start in
+    told_by (is_of_outside e) (refused_at_rest (λ (v : View). v) (Some l) seen1 l start open_asks e refl s a)
+  where
+    told_by : (b : Bool) → MatchBool b ⊤ (at_rest (after_all l start) open_asks ≡ Err e) → MatchBool b (IsFrontWritten o o (log_outcome (after_all l start)).text) (((log_outcome (after_all l start)).refusal ≡ Some e) × IsWritten o o (log_outcome (after_all l start)).text)
+    told_by true m = (0, nothing_written o)
+    told_by false m =
+        let is = ap (log_of_view (after_all l start)) m in
+        let P : List ℕ → Type 0 = λ x. IsWritten o o x in
+        (ap (λ (q : Outcome). q.refusal) is, subst P (sym (ap (λ (q : Outcome). q.text) is)) (nothing_written o))
+
+-- the last of the lines were written, or a front of them
+pub last_told : (o : Outcome) (old mid new : Option (List ℕ)) (g : List ℕ) (u : Unit) (r : Result Unit Stopped) → IsGathered o old mid g (Ok u) → OnOk r (IsWritten mid new g) → IfErr r (λ e. IsUnwritten e × IsFrontWritten mid new g) → IsTold o old new r
+last_told o old mid new g u (Ok x) h a b = (h.3, adds_on old mid new h.0 g o.text h.1 a h.2)
+last_told o old mid new g u (Err (Refused e)) h a b = absurd b.0
+last_told o old mid new g u (Err (Unwritten f)) h a b = front_on old mid new h.0 g [] o.text h.1 b.1 (ap (λ l. h.0 ++ l) (append-nil g) ∙ h.2)
+
+front_of_whole : (x y z : List ℕ) → x ++ y ≡ z → take (length x) z ≡ x
+front_of_whole x y z e = ap (take (length x)) (sym e) ∙ take_at x y (length x) refl
+
+before_by : (b : Bool) (o : Outcome) (old mid new : Option (List ℕ)) (g done rest : List ℕ) (e : ReadAnswer) → IsWritten old mid done → done ++ g ++ rest ≡ o.text → MatchBool b ⊤ ((rest ≡ []) × (o.refusal ≡ Some e)) → IsWritten mid new g →
+    MatchBool b (IsFrontWritten old new o.text) ((o.refusal ≡ Some e) × IsWritten old new o.text)
+before_by true o old mid new g done rest e w t m a = (length (done ++ g), adds_on old mid new done g (take (length (done ++ g)) o.text) w a (sym (front_of_whole (done ++ g) rest o.text t)))
+before_by false o old mid new g done rest e w t m a = (m.1, adds_on old mid new done g o.text w a (sym (append-nil (done ++ g)) ∙ ap (λ l. done ++ g ++ l) (sym m.0) ∙ t))
+
+-- the lines before the refusal were written, or a front of them
+pub before_told : (o : Outcome) (old mid new : Option (List ℕ)) (g : List ℕ) (e : ReadAnswer) (r : Result Unit Stopped) → IsGathered o old mid g (Err (Refused e)) → IfErr r (λ s. StopsAt s e mid new g) → IsErr r → IsTold o old new r
+before_told o old mid new g e (Ok x) h a b = cc
+before_told o old mid new g e (Err (Refused f)) h a b =
+    let P : ReadAnswer → Type 0 = λ q. IsTold o old new (Err (Refused q)) in
+    subst P (sym a.0) (before_by (is_of_outside e) o old mid new g h.0 h.2 e h.1 h.3 h.4 a.1)
+before_told o old mid new g e (Err (Unwritten f)) h a b = front_on old mid new h.0 g h.2 o.text h.1 a (sym (append_assoc h.0 g h.2) ∙ h.3)

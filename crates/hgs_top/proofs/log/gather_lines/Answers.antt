@@ -1,0 +1,59 @@
+use Rattle.std.proofs.Common.{◌≡◌, ◌<◌, ◌-◌, length, true, arith, refl, sym, ap, ◌∙◌, subst}
+use Rattle.hgs_reader.specs.View.{View}
+use Rattle.hgs_reader.proofs.AskLemmas.{grows-refl, grows-trans}
+use Rattle.hgs_top.proofs.LogLemmas.{at_first, refused_told, next_told, unwritten_told, of_all}
+use Rattle.hgs_top.proofs.log.gather_lines.Goals as goal
+
+pub log_line-requires : goal.log_line-requires
+log_line-requires g c =
+    let i = c.loop-left.invariant in
+    let pos = c.loop-left-test.true in
+    let P : View → Type 0 = λ v. c.loop-left.left - 1 < length v.changelog.entries in
+    subst P (sym i.same_session) (omega (arith, pos, i.within))
+
+pub loop-left-init : goal.loop-left-init
+loop-left-init g c = record {
+  told = λ alone. of_all _ _ _ (λ t. at_first t c.args.session.now c.len-left.result (g.K.Sink.written c.args.out.now) c.args.gathered.now.items c.len-left.ensures c.requires);
+  within = (let l = c.len-left.ensures in omega (arith, l));
+  same_session = refl;
+  grown = grows-refl (g.R.Reads.seen c.args.files.now);
+  same_start = refl;
+  still = λ alone. refl;
+  later = omega arith;
+  later_sink = omega arith;
+}
+
+pub returns-in-Err-clause-gathered : goal.returns-in-Err-clause-gathered
+returns-in-Err-clause-gathered g c = λ alone.
+    let i = c.loop-left.invariant in
+    let e = c.in-Err.ensures in
+    refused_told (g.R.Reads.seen c.args.files.now) (g.R.Reads.seen c.loop-left.files) (g.R.Reads.seen c.log_line.new.files) (g.R.Reads.start c.args.files.now) (g.R.Reads.start c.loop-left.files)
+    c.args.session.now c.loop-left.session c.loop-left.left (g.K.Sink.written c.args.out.now) (g.K.Sink.written c.loop-left.out) c.loop-left.gathered.items c.log_line.new.into.items
+    c.loop-left-test.true (i.still alone) (e.still alone) i.same_start i.same_session c.in-Err.refusal (i.told alone) e.answer
+
+pub loop-left-preserved : goal.loop-left-preserved
+loop-left-preserved g c =
+    let i = c.loop-left.invariant in
+    let e = c.in-Ok.ensures in
+    let w = c.in-Ok-write_large.ensures in
+    record {
+      told = λ alone.
+          next_told (g.R.Reads.seen c.args.files.now) (g.R.Reads.seen c.loop-left.files) (g.R.Reads.seen c.log_line.new.files) (g.R.Reads.start c.args.files.now) (g.R.Reads.start c.loop-left.files)
+          c.args.session.now c.loop-left.session c.loop-left.left (g.K.Sink.written c.args.out.now) (g.K.Sink.written c.loop-left.out) c.loop-left.gathered.items c.log_line.new.into.items
+          c.loop-left-test.true (i.still alone) (e.still alone) i.same_start i.same_session (g.K.Sink.written c.write_large.new.out) c.write_large.new.gathered.items c.in-Ok.field-0 (i.told alone) e.answer w.ok;
+      within = (let l = i.within in omega (arith, l));
+      same_session = e.kept ∙ i.same_session;
+      grown = grows-trans (g.R.Reads.seen c.args.files.now) (g.R.Reads.seen c.loop-left.files) (g.R.Reads.seen c.log_line.new.files) i.grown e.seen;
+      same_start = e.same_start ∙ i.same_start;
+      still = λ alone. e.still alone ∙ i.still alone;
+      later = (let l = e.cause.later in let k = i.later in omega (arith, l, k));
+      later_sink = (let l = w.later in let k = i.later_sink in omega (arith, l, k));
+    }
+
+pub returns-in-Err-write_large-clause-gathered : goal.returns-in-Err-write_large-clause-gathered
+returns-in-Err-write_large-clause-gathered g c = λ alone.
+    let i = c.loop-left.invariant in
+    let e = c.in-Ok.ensures in
+    unwritten_told (g.R.Reads.seen c.args.files.now) (g.R.Reads.seen c.loop-left.files) (g.R.Reads.seen c.log_line.new.files) (g.R.Reads.start c.args.files.now) (g.R.Reads.start c.loop-left.files)
+    c.args.session.now c.loop-left.session c.loop-left.left (g.K.Sink.written c.args.out.now) (g.K.Sink.written c.loop-left.out) c.loop-left.gathered.items c.log_line.new.into.items
+    c.loop-left-test.true (i.still alone) (e.still alone) i.same_start i.same_session (g.K.Sink.written c.write_large.new.out) c.in-Ok.field-0 (i.told alone) e.answer c.in-Err-write_large.ensures.err

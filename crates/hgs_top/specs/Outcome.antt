@@ -1,0 +1,39 @@
+-- What a question writes, and whether it ends in a refusal.
+use Rattle.std.specs.Prelude.{◌≡◌, ◌⊎◌, ℕ, zero, suc, List, [], ◌∷◌, ◌++◌, take, length, Option, Some, None, Result, Ok, Err, codes, decimal}
+use Rattle.hgs_files.specs.Streams.{IsWritten}
+use Rattle.hgs_files.specs.Tree.{Tree}
+use Rattle.hgs_reader.specs.declared.answer.ReadAnswer.{ReadAnswer}
+use Rattle.hgs_reader.specs.declared.answer.ReadAnswer.TheVariants.{Fault, Memory}
+use Rattle.hgs_reader.specs.Answer.{status_of, refusal_line}
+use Rattle.hgs_reader.specs.Asks.{at_rest}
+use Rattle.hgs_reader.specs.Line.{line_asks}
+use Rattle.hgs_reader.specs.View.{View, open_asks}
+
+-- the text of a question, up to its end or its first refusal, and that refusal
+pub record Outcome : Type 0 where
+  pub text : List ℕ
+  pub refusal : Option ReadAnswer
+
+abbrev pub refused : ReadAnswer → Outcome
+refused e = record { text = []; refusal = Some e }
+
+-- a line, and what comes after it; nothing comes after a refusal
+abbrev pub line_then : Result (List ℕ) ReadAnswer → Outcome → Outcome
+line_then (Ok line) rest = record { text = line ++ rest.text; refusal = rest.refusal }
+line_then (Err e) rest = refused e
+
+-- the lines of so many changesets, newest first
+abbrev pub lines_down : (ℕ → Result (List ℕ) ReadAnswer) → ℕ → Outcome
+lines_down line zero = record { text = []; refusal = None }
+lines_down line (suc n) = line_then (line n) (lines_down line n)
+
+abbrev pub lines_of_view : Tree → View → Outcome
+lines_of_view t view = lines_down (λ rev. at_rest t (line_asks view rev)) (length view.changelog.entries)
+
+abbrev pub log_of_view : Tree → Result View ReadAnswer → Outcome
+log_of_view t (Err e) = refused e
+log_of_view t (Ok view) = lines_of_view t view
+
+-- what `log` writes over files at rest: a line for each changeset, newest first, up to the first damage
+abbrev pub log_outcome : Tree → Outcome
+log_outcome t = log_of_view t (at_rest t open_asks)

@@ -1,0 +1,112 @@
+//! A command over files at rest, and the line of its refusal.
+ghost use Rattle.std.specs.Prelude.{◌≡◌, ◌≤◌, Err, Ok, true, OnOk, IfOk, ℕ, List, [], ◌∷◌, ◌++◌, ◌⊎◌, ◌≢◌, ◌^◌, ◌<◌};
+ghost use Rattle.hgs_files.specs.Reads.{Rose};
+ghost use Rattle.hgs_files.specs.Streams.{IsWritten};
+ghost use Rattle.hgs_files.specs.declared.streams.IoFault.TheVariants.{Failed};
+ghost use Rattle.hgs_reader.specs.declared.answer.ReadAnswer.TheVariants.{Fault};
+ghost use Rattle.hgs_reader.specs.Answer.{refusal_line, status_of};
+ghost use Rattle.hgs_top.specs.Run.{IsOneOf, OfTree, Answered, SaysBadWord, Concludes, bad_word_line, outcome_of, EndsLine, status_of_sink};
+
+use crate::log::write_log;
+use crate::out::write_all;
+use crate::stopped::Stopped;
+use crate::words::Command;
+use hgs_files::files::{Files, Reads};
+use hgs_files::streams::{IoFault, Sink};
+use hgs_plan::print::push_number;
+use hgs_reader::answer::ReadAnswer;
+use std::alloc::{AllocError, Global};
+
+// The status of a sink that takes no more.
+fn status_of_fault(fault: IoFault) -> u8
+    ensures { result ≡ status_of_sink fault }
+{
+    match fault {
+        IoFault::Failed => 19,
+        IoFault::Memory => 30,
+    }
+}
+
+// Writes the line of a refusal, and gives the status.
+fn end_with<K: Sink>(out: &mut K, line: &[u8], status: u8) -> u8
+    ensures line { EndsLine line.now status result (K.written out.old) (K.written out.new) }
+    ensures later { K.faults out.old ≤ K.faults out.new }
+    ensures sink { status ≢ 19 → result ≡ 19 → Rose (K.faults out.old) (K.faults out.new) }
+{
+    match write_all(out, line) {
+        Ok(()) => status,
+        Err(fault) => status_of_fault(fault),
+    }
+}
+
+// The line of words that don't fit.
+fn bad_word(alloc: Global, place: usize) -> Result<Vec<u8>, AllocError>
+    ensures { IfOk result (λ line. line.items ≡ bad_word_line place) }
+{
+    let mut line = Vec::from_slice(alloc, b"abort: bad word ")?;
+    push_number(&mut line, place as u64)?;
+    line.push(b'\n')?;
+    Ok(line)
+}
+
+/// Says which word doesn't fit, and gives the status.
+pub fn refuse_words<K: Sink>(alloc: Global, place: usize, out: &mut K) -> u8
+    ensures says { SaysBadWord place result (K.written out.old) (K.written out.new) }
+    ensures later { K.faults out.old ≤ K.faults out.new }
+    ensures sink { result ≡ 19 → Rose (K.faults out.old) (K.faults out.new) }
+{
+    match bad_word(alloc, place) {
+        Ok(line) => end_with(out, &line, 28),
+        Err(_) => end_with(out, b"", 30),
+    }
+}
+
+// Writes the line of a refusal, and gives the status.
+fn refuse<K: Sink>(alloc: Global, refusal: &ReadAnswer, out: &mut K) -> u8
+    ensures line { EndsLine (refusal_line refusal.now) (status_of refusal.now) result (K.written out.old) (K.written out.new) }
+    ensures later { K.faults out.old ≤ K.faults out.new }
+    ensures sink { result ≡ 19 → Rose (K.faults out.old) (K.faults out.new) }
+    ensures fault { result ≡ 16 → status_of refusal.now ≡ 16 }
+    ensures statuses { IsOneOf (15 ∷ 16 ∷ 19 ∷ 20 ∷ 23 ∷ 24 ∷ 27 ∷ 30 ∷ []) result }
+{
+    let mut line = Vec::new(alloc);
+    match refusal.print(alloc, &mut line) {
+        Ok(()) => end_with(out, &line, refusal.status()),
+        Err(_) => end_with(out, b"", 30),
+    }
+}
+
+// Says why a command did not come to its end, if so, and gives the status.
+fn conclude<K: Sink>(alloc: Global, ended: Result<(), Stopped>, out: &mut K) -> u8
+    ensures concluded { Concludes ended (K.written out.old) (K.written out.new) result }
+    ensures later { K.faults out.old ≤ K.faults out.new }
+    ensures sink { ended ≢ Err (Stopped.Unwritten Failed) → result ≡ 19 → Rose (K.faults out.old) (K.faults out.new) }
+    ensures fault { result ≡ 16 → ended ≡ Err (Stopped.Refused Fault) }
+    ensures statuses { IsOneOf (0 ∷ 15 ∷ 16 ∷ 19 ∷ 20 ∷ 23 ∷ 24 ∷ 27 ∷ 30 ∷ []) result }
+{
+    match ended {
+        Ok(()) => 0,
+        Err(Stopped::Refused(refusal)) => refuse(alloc, &refusal, out),
+        Err(Stopped::Unwritten(fault)) => status_of_fault(fault),
+    }
+}
+
+/// Does a command over files at rest, and gives the status.
+pub fn run_command<F: Files, K: Sink>(
+    alloc: Global,
+    command: Command,
+    files: &mut F,
+    out: &mut K,
+) -> u8
+    ensures says { OfTree (F.log files.old) (F.start files.old) (λ t. Answered (outcome_of command t) result (K.written out.old) (K.written out.new)) }
+    ensures fault { result ≡ 16 → Rose (F.faults files.old) (F.faults files.new) }
+    ensures sink { result ≡ 19 → Rose (K.faults out.old) (K.faults out.new) }
+    ensures log { F.log files.new ≡ F.log files.old }
+    ensures same_start { F.start files.new ≡ F.start files.old }
+    ensures statuses { IsOneOf (0 ∷ 15 ∷ 16 ∷ 19 ∷ 20 ∷ 23 ∷ 24 ∷ 27 ∷ 30 ∷ []) result }
+{
+    let ended = match command {
+        Command::Log => write_log(alloc, files, out),
+    };
+    conclude(alloc, ended, out)
+}

@@ -1,0 +1,11 @@
+//! The top call: what the program does with its words, its files, its input and its output.
+#![tactic(auto)]
+
+pub mod command;
+pub mod log;
+pub mod out;
+pub mod run;
+pub mod stopped;
+#[cfg(test)]
+mod tests;
+pub mod words;
