@@ -1,8 +1,8 @@
 //! Nodes, index entries, and the definitions of the texts that the history stands on.
 #![tactic(auto)]
 
-mod fields;
 pub mod entry;
+mod fields;
 pub mod head;
 pub mod kinds;
 pub mod laws;
