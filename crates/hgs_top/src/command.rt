@@ -8,7 +8,7 @@ ghost use Rattle.hgs_reader.specs.Answer.{refusal_line, status_of};
 ghost use Rattle.hgs_top.specs.Run.{IsOneOf, OfTree, Answered, SaysBadWord, Concludes, bad_word_line, outcome_of, EndsLine, status_of_sink};
 
 use crate::log::write_log;
-use crate::out::write_all;
+use crate::output::write_all;
 use crate::stopped::Stopped;
 use crate::words::Command;
 use hgs_files::files::{Files, Reads};

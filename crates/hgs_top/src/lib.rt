@@ -3,7 +3,7 @@
 
 pub mod command;
 pub mod log;
-pub mod out;
+pub mod output;
 pub mod run;
 pub mod stopped;
 #[cfg(test)]

@@ -7,7 +7,7 @@ ghost use Rattle.hgs_reader.specs.declared.answer.ReadAnswer.TheVariants.{Fault}
 ghost use Rattle.hgs_top.specs.Outcome.{log_outcome, lines_of_view};
 ghost use Rattle.hgs_top.specs.Run.{OfTree, IsTold, IsFrontWritten, IsGathered, IsUnwritten, StopsAt};
 
-use crate::out::write_all;
+use crate::output::write_all;
 use crate::stopped::Stopped;
 use hgs_files::files::Reads;
 use hgs_files::streams::{IoFault, Sink};
