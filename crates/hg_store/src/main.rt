@@ -1,0 +1,65 @@
+//! The program: the store of a Mercurial repository, in the folder `.hg` of the current one.
+//!
+//! This crate is the edge to the operating system, and is trusted: std's clauses do not say what files and streams hold.
+//! What the program does with them is proved in the crates below.
+#![tactic(auto)]
+
+mod command_line;
+mod files;
+mod folder;
+mod streams;
+#[cfg(test)]
+mod tests;
+mod yard;
+
+use crate::command_line::{Words, read_words};
+use crate::files::OsFiles;
+use crate::streams::{OsSink, OsSource};
+use crate::yard::OsYard;
+use hgs_files::streams::Sink;
+use hgs_top::command::refuse_words;
+use hgs_top::run::run;
+use hgs_top::words::command_from;
+use std::alloc::AllocError;
+use std::os::fd::AsFd;
+use std::process::{ChildStdin, ExitCode};
+
+// Refuses words of which the one behind these is not UTF-8: the first that does not fit is one of these, or that one.
+fn refuse_text<K: Sink>(rt: &HostRuntime, before: &[String], out: &mut K) -> u8 {
+    let place = match command_from(before) {
+        Err(place) => place,
+        Ok(_) => before.len(),
+    };
+    refuse_words(rt.alloc(), place, out)
+}
+
+// Does what the words ask for, and gives the status.
+fn answer<K: Sink>(rt: &HostRuntime, out: &mut K) -> Result<u8, AllocError> {
+    match read_words(rt)? {
+        Words::All(words) => {
+            let yard = OsYard::new(OsFiles::new(*rt, ".hg")?);
+            let mut input = OsSource::new(rt.stdin());
+            let ran = run(rt, rt.alloc(), &words, yard, &mut input, out);
+            Ok(ran.status)
+        }
+        Words::UpTo(before) => Ok(refuse_text(rt, &before, out)),
+    }
+}
+
+/// Ends with the status, with 19 at once where standard output is closed.
+///
+/// Standard output is written to as the pipe to another process, a write to which fails where nobody reads any more; a
+/// write to `Stdout` would raise a signal then, and end the program without a status.
+fn main(rt: HostRuntime) -> ExitCode {
+    let Ok(output) = rt.stdout().as_fd().try_clone_to_owned() else {
+        return ExitCode::from(19);
+    };
+    let mut out = OsSink::new(ChildStdin::from(output));
+    match answer(&rt, &mut out) {
+        Ok(status) => ExitCode::from(status),
+        Err(_) => {
+            let _ = out.write(b"abort: out of memory\n");
+            ExitCode::from(30)
+        }
+    }
+}

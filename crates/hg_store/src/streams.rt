@@ -1,0 +1,82 @@
+//! The source and the sink over what std reads and writes: standard input and standard output, in the program.
+//!
+//! They tell no content, and keep a count of what failed.
+ghost use Rattle.std.specs.Prelude.{◌≡◌, ◌≤◌, None};
+ghost use Rattle.hg_store.specs.Reading.{AddsAnswered};
+
+use hgs_files::streams::{IoFault, Sink, Source};
+use std::io::{self, Read, Write};
+
+/// One read asks for no more than this.
+const PIECE: usize = 8_192;
+
+/// Reads once, adds at most `most` bytes at the end of `into`, and answers how many. An error adds none.
+pub fn read_once<R: Read>(reader: &mut R, most: u64, into: &mut Vec<u8>) -> io::Result<u64>
+    ensures { AddsAnswered most into.old.items into.new.items result }
+{
+    let mut piece = [0; PIECE];
+    let room = PIECE.min(most as usize);
+    into.reserve(room)?;
+    let count = reader.read(&mut piece[..room])?;
+    into.extend_from_slice(&piece[..count])?;
+    Ok(count as u64)
+}
+
+/// What a reader of std gives.
+#[derive(Drop)]
+pub struct OsSource<R: Read + Drop> {
+    reader: R,
+    faults: u64,
+}
+
+impl<R: Read + Drop> OsSource<R> {
+    pub fn new(reader: R) -> OsSource<R> {
+        OsSource { reader, faults: 0 }
+    }
+}
+
+impl<R: Read + Drop> Source for OsSource<R> {
+    ghost left = { λ _. None };
+
+    ghost faults = { λ source. source.faults };
+
+    fn read(&mut self, most: u64, into: &mut Vec<u8>) -> Result<u64, IoFault> {
+        match read_once(&mut self.reader, most, into) {
+            Ok(count) => Ok(count),
+            Err(error) if error.kind() == io::ErrorKind::OutOfMemory => Err(IoFault::Memory),
+            Err(_) => {
+                self.faults = self.faults.saturating_add(1);
+                Err(IoFault::Failed)
+            }
+        }
+    }
+}
+
+/// What a writer of std takes.
+#[derive(Drop)]
+pub struct OsSink<W: Write + Drop> {
+    writer: W,
+    faults: u64,
+}
+
+impl<W: Write + Drop> OsSink<W> {
+    pub fn new(writer: W) -> OsSink<W> {
+        OsSink { writer, faults: 0 }
+    }
+}
+
+impl<W: Write + Drop> Sink for OsSink<W> {
+    ghost written = { λ _. None };
+
+    ghost faults = { λ sink. sink.faults };
+
+    fn write(&mut self, bytes: &[u8]) -> Result<u64, IoFault> {
+        match self.writer.write(bytes) {
+            Ok(count) if count > 0 || bytes.is_empty() => Ok(count as u64),
+            _ => {
+                self.faults = self.faults.saturating_add(1);
+                Err(IoFault::Failed)
+            }
+        }
+    }
+}

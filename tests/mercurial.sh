@@ -1,0 +1,63 @@
+#!/usr/bin/env bash
+# Asks the program every question whose answer real Mercurial gave for the stores under tests/fixtures, and compares what
+# it writes and its status with that answer. A question that is not built yet is counted and named by kind, and each
+# difference is shown. The last line is 'N passed, M failed, K not built'.
+set -u
+built=' log '
+
+here=$(cd "$(dirname "$0")" && pwd)
+program=$("$here/../bin/hg_store" --build) || exit 1
+
+work=$(mktemp -d)
+trap 'rm -rf "$work"' EXIT
+passed=0 failed=0 missing=0
+declare -A waiting
+
+# Whether the question reads a filelog of the current folder's store that keeps its texts in its index, which is not
+# read yet: its bit 16 stands in the first 4 bytes. A path whose letters are all plain has its own name in the store.
+reads_inline() { # KIND REV PATH
+    local index=.hg/store/data/${3:-}.i
+    [ "$1" = cat ] && [ -f "$index" ] && [ "$(head -c 2 "$index" | od -An -tx1)" != ' 00 00' ]
+}
+
+# Asks one question of the store in the current folder.
+ask() { # STORE NUMBER STATUS WORDS..
+    local store=$1 number=$2 want=$3 status
+    shift 3
+    "$program" "$@" >"$work/out" 2>"$work/err" </dev/null
+    status=$?
+    if [ "$status" = "$want" ] && cmp -s "$work/out" "$here/fixtures/$store/expected/$number"; then
+        passed=$((passed + 1))
+        return
+    fi
+    failed=$((failed + 1))
+    echo "$store $number: '$*' ended with $status, wanted $want; wanted (<) and written (>):"
+    diff <(head -c 2000 "$here/fixtures/$store/expected/$number") <(head -c 2000 "$work/out") | head -10
+    head -5 "$work/err"
+}
+
+for folder in "$here"/fixtures/*/; do
+    store=$(basename "$folder")
+    mkdir -p "$work/$store/.hg"
+    cp -r "$folder". "$work/$store/.hg"
+    rm -rf "$work/$store/.hg/expected"
+    cd "$work/$store" || exit 1
+    while IFS=$'\t' read -r -a question; do
+        kind=${question[2]}
+        if [[ $built != *" $kind "* ]]; then
+            waiting["$kind"]=$((${waiting["$kind"]:-0} + 1))
+            missing=$((missing + 1))
+        elif reads_inline "${question[@]:2}"; then
+            waiting["$kind of an inline filelog"]=$((${waiting["$kind of an inline filelog"]:-0} + 1))
+            missing=$((missing + 1))
+        else
+            ask "$store" "${question[@]}"
+        fi
+    done <"$folder/expected/index"
+done
+
+for kind in "${!waiting[@]}"; do
+    echo "not built: ${waiting[$kind]} of $kind"
+done | sort
+echo "$passed passed, $failed failed, $missing not built"
+[ "$failed" = 0 ] && [ "$passed" -gt 0 ]

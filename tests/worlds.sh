@@ -1,0 +1,107 @@
+#!/usr/bin/env bash
+# Bad worlds: each line of the table lays one out in a new folder, runs the program there, and says which status and which
+# line must come. No file may change, which a checksum of the whole folder before and after shows. The last line is
+# 'N passed, M failed'.
+set -u
+here=$(cd "$(dirname "$0")" && pwd)
+program=$("$here/../bin/hg_store" --build) || exit 1
+
+work=$(mktemp -d)
+trap 'chmod -R u+rwX "$work"; rm -rf "$work"' EXIT
+chmod 755 "$work"
+install -m 755 "$program" "$work/hg_store" # where every user can run it
+program=$work/hg_store
+passed=0 failed=0
+
+# The store of a small repository that real Mercurial made.
+lay_store() {
+    mkdir .hg && cp -r "$here"/fixtures/separate/. .hg && rm -rf .hg/expected
+}
+
+# The worlds. Each function lays its own in the current folder.
+no_hg() { :; }
+empty_hg() { mkdir .hg; }
+hg_is_a_file() { echo text >.hg; }
+whole_store() { lay_store; }
+unreadable_index() { lay_store && chmod 000 .hg/store/00changelog.i; }
+folder_as_index() { lay_store && rm .hg/store/00changelog.i && mkdir .hg/store/00changelog.i; }
+folder_as_data() { lay_store && rm .hg/store/00changelog.d && mkdir .hg/store/00changelog.d; }
+file_as_store() { lay_store && rm -r .hg/store && echo text >.hg/store; }
+cut_data() { lay_store && truncate -s -1 .hg/store/00changelog.d; }
+other_byte() { lay_store && printf X | dd of=.hg/store/00changelog.d bs=1 seek=10 conv=notrunc status=none; }
+second_link() { lay_store && ln .hg/store/00changelog.i other-clone.i && ln .hg/store/00changelog.d other-clone.d; }
+
+# Ways to run the program; each writes what the program says and returns its status.
+plain() { "$program" "$@" </dev/null; }
+as_nobody() { # root may read every file
+    if [ "$(id -u)" = 0 ]; then setpriv --reuid=65534 --regid=65534 --clear-groups "$program" "$@" </dev/null; else plain "$@"; fi
+}
+closed_output() { "$program" "$@" </dev/null >&-; }
+full_output() { "$program" "$@" </dev/null >/dev/full; }
+reader_gone() { # standard output is a pipe that nobody reads any more
+    local status
+    status=$( { { sleep 0.2; "$program" "$@" </dev/null; echo $? >&3; } | :; } 3>&1)
+    return "$status"
+}
+not_text() { "$program" "$@" $'\xff' </dev/null; }
+
+# All names, kinds, modes, sizes and bytes of the current folder.
+checksum() {
+    { find . -printf '%P %y %m %n %s %i\n' | sort; find . -type f -print0 | sort -z | xargs -0r sha1sum; } | sha1sum
+}
+
+expected_log=$here/fixtures/separate/expected/000
+
+check() { # WORLD WAY STATUS LINE WORDS..: LINE is the last line written, 'log' for the whole log, or '-' for nothing
+    local world=$1 way=$2 want=$3 line=$4 status before after said
+    shift 4
+    rm -rf "$work/world" && mkdir "$work/world" && cd "$work/world" || exit 1
+    "$world" || exit 1
+    before=$(checksum)
+    "$way" "$@" >"$work/out" 2>"$work/err"
+    status=$?
+    after=$(checksum)
+    case $line in
+    log) cmp -s "$work/out" "$expected_log" && said=log || said=$(tail -n 1 "$work/out") ;;
+    -) [ -s "$work/out" ] && said=$(tail -n 1 "$work/out") || said=- ;;
+    *) said=$(tail -n 1 "$work/out") ;;
+    esac
+    if [ "$status" = "$want" ] && [ "$said" = "$line" ] && [ "$before" = "$after" ] && [ ! -s "$work/err" ]; then
+        passed=$((passed + 1))
+        return
+    fi
+    failed=$((failed + 1))
+    echo "$world, $way: status $status ($want), last line '$said' ('$line')"
+    [ "$before" = "$after" ] || echo "  files changed"
+    head -3 "$work/err"
+}
+
+# `requires` is not read yet, so a folder without a store is an empty history.
+while IFS='|' read -r world way status line words; do
+    # shellcheck disable=SC2086 # the words are split at spaces
+    check $world $way $status "$line" $words
+done <<'TABLE'
+no_hg|plain|0|-|log
+empty_hg|plain|0|-|log
+hg_is_a_file|plain|0|-|log
+whole_store|plain|0|log|log
+whole_store|as_nobody|0|log|log
+unreadable_index|as_nobody|16|abort: file operation failed|log
+folder_as_index|plain|16|abort: file operation failed|log
+folder_as_data|plain|16|abort: file operation failed|log
+file_as_store|plain|0|-|log
+cut_data|plain|15|abort: damaged store/00changelog.i: revlog 5 15|log
+other_byte|plain|15|abort: damaged store/00changelog.i: revlog 7 0|log
+second_link|plain|0|log|log
+whole_store|closed_output|19|-|log
+whole_store|full_output|19|-|log
+whole_store|reader_gone|19|-|log
+no_hg|closed_output|19|-|log
+whole_store|not_text|28|abort: bad word 1|log
+whole_store|not_text|28|abort: bad word 0|
+whole_store|not_text|28|abort: bad word 0|frobnicate
+whole_store|plain|28|abort: bad word 0|
+whole_store|plain|28|abort: bad word 1|log log
+TABLE
+echo "$passed passed, $failed failed"
+[ "$failed" = 0 ] && [ "$passed" -gt 0 ]
