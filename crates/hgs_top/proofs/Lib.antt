@@ -1,3 +1,4 @@
 pub mod ConcludeLemmas
+pub mod HistoryLemmas
 pub mod LogLemmas
 pub mod Written

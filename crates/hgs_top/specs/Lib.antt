@@ -1,3 +1,4 @@
+pub mod History
 pub mod Outcome
 pub mod Run
 pub mod Words

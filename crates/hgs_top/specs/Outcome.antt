@@ -1,10 +1,7 @@
 -- What a question writes, and whether it ends in a refusal.
-use Rattle.std.specs.Prelude.{◌≡◌, ◌⊎◌, ℕ, zero, suc, List, [], ◌∷◌, ◌++◌, take, length, Option, Some, None, Result, Ok, Err, codes, decimal}
-use Rattle.hgs_files.specs.Streams.{IsWritten}
+use Rattle.std.specs.Prelude.{ℕ, zero, suc, List, [], ◌++◌, length, Option, Some, None, Result, Ok, Err}
 use Rattle.hgs_files.specs.Tree.{Tree}
 use Rattle.hgs_reader.specs.declared.answer.ReadAnswer.{ReadAnswer}
-use Rattle.hgs_reader.specs.declared.answer.ReadAnswer.TheVariants.{Fault, Memory}
-use Rattle.hgs_reader.specs.Answer.{status_of, refusal_line}
 use Rattle.hgs_reader.specs.Asks.{at_rest}
 use Rattle.hgs_reader.specs.Line.{line_asks}
 use Rattle.hgs_reader.specs.View.{View, open_asks}

@@ -2,6 +2,7 @@
 #![tactic(auto)]
 
 pub mod command;
+pub mod laws;
 pub mod log;
 pub mod output;
 pub mod run;

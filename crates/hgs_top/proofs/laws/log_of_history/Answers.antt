@@ -1,0 +1,5 @@
+use Rattle.hgs_top.proofs.HistoryLemmas.{history-log}
+use Rattle.hgs_top.proofs.laws.log_of_history.Goals as goal
+
+pub returns : goal.returns
+returns c = history-log

@@ -1,0 +1,48 @@
+-- Files that hold a history, and its lines.
+use Rattle.std.specs.Prelude.{◌≡◌, ℕ, suc, ◌/◌, List, [], ◌∷◌, ◌++◌, length, map, decimal, slice_index_or, unwrap_or, Ok}
+use Rattle.std.specs.List.{AllByRecursion}
+use Rattle.hgs_files.specs.Tree.{Tree}
+use Rattle.hgs_index.specs.ChangeText.{Change, read_change}
+use Rattle.hgs_index.specs.Hex.{hex}
+use Rattle.hgs_index.specs.Node.{null_node}
+use Rattle.hgs_index.specs.Revision.{Revision, nodes}
+use Rattle.hgs_index.specs.Revlog.{BeginsWithRevisions}
+use Rattle.hgs_reader.specs.Line.{field, parent_text, change_fields}
+use Rattle.hgs_reader.specs.View.{changelog_index, changelog_data}
+
+-- a revision of the changelog, and what its text says
+pub record Changeset : Type 0 where
+  pub revision : Revision
+  pub change : Change
+
+abbrev pub revisions_of : List Changeset → List Revision
+revisions_of history = map (λ c. c.revision) history
+
+-- the text is that of the change
+abbrev pub IsRead : Changeset → Type 0
+IsRead c = read_change c.revision.text ≡ Ok c.change
+
+-- the bytes of a file, none where it isn't there
+abbrev pub bytes_at : Tree → List ℕ → List ℕ
+bytes_at t path = unwrap_or (t path) []
+
+-- The changelog of these files is this history: as many changesets as there are whole entries, and all of them are read.
+pub record HoldsHistory (t : Tree) (history : List Changeset) : Type 0 where
+  pub held : BeginsWithRevisions (bytes_at t changelog_index) (bytes_at t changelog_data) (revisions_of history)
+  pub whole : length (revisions_of history) ≡ length (bytes_at t changelog_index) / 64
+  pub read : AllByRecursion IsRead history
+
+-- its number, node and parents, and what its text says
+abbrev pub line_among : List (List ℕ) → ℕ → Changeset → List ℕ
+line_among known rev c =
+    (decimal rev ++ field (hex (slice_index_or known rev null_node)) ++ field (parent_text c.revision.parents.0) ++ field (parent_text c.revision.parents.1))
+    ++ change_fields c.change ++ 10 ∷ []
+
+-- the lines of changesets, newest first, the oldest of which has this number
+abbrev pub lines_from : List (List ℕ) → ℕ → List Changeset → List ℕ
+lines_from known rev [] = []
+lines_from known rev (c ∷ newer) = lines_from known (suc rev) newer ++ line_among known rev c
+
+-- a line for each changeset, newest first
+abbrev pub history_text : List Changeset → List ℕ
+history_text history = lines_from (nodes (revisions_of history)) 0 history

@@ -1,0 +1,13 @@
+//! What the definitions of this crate imply. Each function is one law; none does anything.
+ghost use Rattle.std.specs.Prelude.{◌≡◌, List, None};
+ghost use Rattle.hgs_files.specs.Tree.{Tree};
+ghost use Rattle.hgs_revlog.specs.Held.{AreWithinLimits};
+ghost use Rattle.hgs_reader.specs.View.{changelog_data};
+ghost use Rattle.hgs_top.specs.History.{Changeset, HoldsHistory, bytes_at, history_text, revisions_of};
+ghost use Rattle.hgs_top.specs.Outcome.{log_outcome};
+
+/// Over files that hold a history within the limits, `log` writes a line for each changeset, newest first, and is not
+/// refused.
+pub fn log_of_history()
+    ensures { (t : Tree) (history : List Changeset) → HoldsHistory t history → AreWithinLimits (revisions_of history) (bytes_at t changelog_data) → log_outcome t ≡ record { text = history_text history; refusal = None } }
+{}
