@@ -1,30 +1,36 @@
 -- Over files that hold a history, `log` writes its lines.
-use Rattle.std.proofs.Common.{◌≡◌, ℕ, zero, suc, ◌+◌, ◌*◌, ◌/◌, ◌<◌, ◌≤◌, List, [], ◌∷◌, ◌++◌, length, take, drop, Bool, true, false, cond, nat_lt, Option, Some, None, Result, Ok, refl, sym, ◌∙◌, ap, subst, arith, append_assoc, append-nil, length-append}
+use Rattle.std.proofs.Common.{◌≡◌, ◌⊎◌, inl, inr, ℕ, zero, suc, ◌+◌, ◌*◌, ◌/◌, ◌<◌, ◌≤◌, List, [], ◌∷◌, ◌++◌, length, take, drop, Bool, true, false, cond, nat_lt, Option, Some, None, Result, Ok, Err, refl, sym, ◌∙◌, ap, subst, arith, append_assoc, append-nil, length-append}
 use Rattle.std.specs.Prelude.{decimal, slice_get, slice_index_or, unwrap_or}
 use Rattle.std.specs.List.{AllByRecursion}
+use Rattle.hex.specs.Hex.{IsBytes}
 use Rattle.std.specs.Option.{option_map}
-use Rattle.std.proofs.Math.Seq.{drop-append_seam}
+use Rattle.std.proofs.Math.Seq.{drop-append_seam, take-add}
 use Rattle.std.proofs.Math.Nat.{lt-mul-div-succ}
-use Rattle.std.proofs.lemmas.List.{take-append-drop, take_all, length-take, length-drop, length-map}
+use Rattle.std.proofs.lemmas.List.{take-append-drop, take_all, length-take, length-map}
 use Rattle.hgs_files.specs.Tree.{Tree}
 use Rattle.hgs_index.specs.declared.entry.Entry.{Entry}
-use Rattle.hgs_index.specs.ChangeText.{read_change}
+use Rattle.hgs_index.specs.declared.texts.ChangeFault.{ChangeFault}
+use Rattle.hgs_index.specs.ChangeText.{Change, read_change}
 use Rattle.hgs_index.specs.Hex.{hex}
 use Rattle.hgs_index.specs.Node.{null_node}
-use Rattle.hgs_index.specs.Revision.{Revision}
+use Rattle.hgs_index.specs.Revision.{Revision, nodes}
 use Rattle.hgs_index.proofs.RevisionLemmas.{length-nodes_from}
 use Rattle.hgs_revlog.specs.declared.fault.RevFault.{RevFault}
-use Rattle.hgs_revlog.specs.Held.{AreWithinLimits, chunk_in, revision_of, read_from}
-use Rattle.hgs_revlog.specs.Log.{nodes_of}
+use Rattle.hgs_revlog.specs.Held.{AreWithinLimits, chunk_in, revision_of, with_text, read_from, read_all}
+use Rattle.hgs_revlog.specs.declared.fault.Tail.TheVariants.{Ignore, Refuse}
+use Rattle.hgs_revlog.specs.Load.{loaded, load_from, most_revisions}
+use Rattle.hgs_revlog.specs.Log.{Log, nodes_of, with_entry}
 use Rattle.hgs_revlog.specs.Text.{text_of}
-use Rattle.hgs_revlog.proofs.ReadLemmas.{with_text_ok, slice_get_seam}
-use Rattle.hgs_revlog.proofs.TailHeldLemmas.{held-ignored}
+use Rattle.hgs_revlog.proofs.ReadLemmas.{with_text_ok, slice_get_seam, loaded-front, bytes_take}
+use Rattle.hgs_revlog.proofs.TailHeldLemmas.{held-ignored, ignored-held}
+use Rattle.hgs_revlog.proofs.TailLemmas.{ignore-refuse, refuse_step, refuse_none, load_length}
+use Rattle.hgs_revlog.proofs.LoadLemmas.{taken_entry}
 use Rattle.hgs_reader.specs.declared.answer.ReadAnswer.{ReadAnswer}
 use Rattle.hgs_reader.specs.Asks.{Asks, answer, part_of, at_rest}
 use Rattle.hgs_reader.specs.Line.{field, parent_text, change_fields, line_asks, line_at, line_text, line_of_entry, line_of_change, chunk_asks, change_of_chunk, change_of_text}
 use Rattle.hgs_reader.specs.View.{View, changelog_index, changelog_data, open_asks, pieces_then, piece_length, most_pieces, view_of, view_of_log}
 use Rattle.hgs_top.specs.History.{Changeset, revisions_of, IsRead, bytes_at, HoldsHistory, line_among, lines_from, history_text}
-use Rattle.hgs_top.specs.Outcome.{Outcome, line_then, lines_down, log_of_view, log_outcome}
+use Rattle.hgs_top.specs.Outcome.{Outcome, line_then, lines_down, lines_of_view, log_of_view, log_outcome}
 
 -- ---- the index, piece by piece
 
@@ -43,33 +49,37 @@ part_is (Some bytes) from most = refl
 short_piece : (n : ℕ) (rest : List ℕ) → nat_lt (length (take n rest)) n ≡ true → take n rest ≡ rest
 short_piece n rest h = let e = length-take n rest in take_all n rest (grind (arith, h, e))
 
-full_piece : (n left : ℕ) (rest : List ℕ) → nat_lt (length (take n rest)) n ≡ false → length rest < suc left * n → length (drop n rest) < left * n
-full_piece n left rest h few = let e = length-take n rest in let d = length-drop n rest in grind (arith, h, e, d, few)
+short_rest : (n left : ℕ) (rest : List ℕ) → nat_lt (length (take n rest)) n ≡ true → take (n + left) rest ≡ rest
+short_rest n left rest h = let e = length-take n rest in take_all (n + left) rest (grind (arith, h, e))
 
--- the pieces from here on give the whole file where as many are left as it has
-pieces_whole : {A : Type 0} (t : Tree) (path : List ℕ) (left : ℕ) (bytes rest : List ℕ) (more : List ℕ → Asks A) →
-    bytes_at t path ≡ bytes ++ rest → length rest < left * piece_length → at_rest t (pieces_then path left bytes more) ≡ at_rest t (more (bytes ++ rest))
-pieces_whole t path zero bytes rest more e few = absurd (omega (arith, few))
-pieces_whole {A} t path (suc left) bytes rest more e few =
+-- as many pieces as are left give a front of the file
+pieces_front : {A : Type 0} (t : Tree) (path : List ℕ) (left : ℕ) (bytes rest : List ℕ) (more : List ℕ → Asks A) →
+    bytes_at t path ≡ bytes ++ rest → at_rest t (pieces_then path left bytes more) ≡ at_rest t (more (bytes ++ take (left * piece_length) rest))
+pieces_front t path zero bytes rest more e = ap (λ l. at_rest t (more l)) (sym (append-nil bytes))
+pieces_front {A} t path (suc left) bytes rest more e =
     let piece : unwrap_or (part_of t path (length bytes) piece_length) [] ≡ take piece_length rest =
     part_is (t path) (length bytes) piece_length ∙ ap (λ l. take piece_length (drop (length bytes) l)) e ∙ ap (take piece_length) (drop-append_seam bytes rest) in
     ap (λ p. at_rest t (cond (nat_lt (length p) piece_length) (more (bytes ++ p)) (pieces_then path left (bytes ++ p) more))) piece
     ∙ by (nat_lt (length (take piece_length rest)) piece_length) refl
-    (pieces_whole t path left (bytes ++ take piece_length rest) (drop piece_length rest) more
-    (e ∙ ap (λ l. bytes ++ l) (sym seam) ∙ sym (append_assoc bytes (take piece_length rest) (drop piece_length rest))))
+    (pieces_front t path left (bytes ++ take piece_length rest) (drop piece_length rest) more
+    (e ∙ ap (λ l. bytes ++ l) (sym (take-append-drop piece_length rest)) ∙ sym (append_assoc bytes (take piece_length rest) (drop piece_length rest))))
+    ∙ ap (λ n. at_rest t (more (bytes ++ take n rest))) (one_more left)
   where
-    seam : take piece_length rest ++ drop piece_length rest ≡ rest
-    seam = take-append-drop piece_length rest
+    one_more : (n : ℕ) → piece_length + n * piece_length ≡ suc n * piece_length
+    one_more n = omega arith
 
     by : (b : Bool) → nat_lt (length (take piece_length rest)) piece_length ≡ b
-        → (length (drop piece_length rest) < left * piece_length
-        → at_rest t (pieces_then path left (bytes ++ take piece_length rest) more) ≡ at_rest t (more (bytes ++ take piece_length rest ++ drop piece_length rest)))
-        → at_rest t (cond b (more (bytes ++ take piece_length rest)) (pieces_then path left (bytes ++ take piece_length rest) more)) ≡ at_rest t (more (bytes ++ rest))
-    by true h on = ap (λ l. at_rest t (more (bytes ++ l))) (short_piece piece_length rest h)
-    by false h on = on (full_piece piece_length left rest h few) ∙ ap (λ l. at_rest t (more l)) (append_assoc bytes (take piece_length rest) (drop piece_length rest) ∙ ap (λ l. bytes ++ l) seam)
+        → at_rest t (pieces_then path left (bytes ++ take piece_length rest) more) ≡ at_rest t (more (bytes ++ take piece_length rest ++ take (left * piece_length) (drop piece_length rest)))
+        → at_rest t (cond b (more (bytes ++ take piece_length rest)) (pieces_then path left (bytes ++ take piece_length rest) more)) ≡ at_rest t (more (bytes ++ take (piece_length + left * piece_length) rest))
+    by true h on = ap (λ l. at_rest t (more (bytes ++ l))) (short_piece piece_length rest h ∙ sym (short_rest piece_length (left * piece_length) rest h))
+    by false h on = on ∙ ap (λ l. at_rest t (more l)) (append_assoc bytes (take piece_length rest) (take (left * piece_length) (drop piece_length rest)) ∙ ap (λ l. bytes ++ l) (sym (take-add piece_length (left * piece_length) rest)))
 
-opened : (t : Tree) → length (bytes_at t changelog_index) < most_pieces * piece_length → at_rest t open_asks ≡ view_of (bytes_at t changelog_index)
-opened t few = pieces_whole t changelog_index most_pieces [] (bytes_at t changelog_index) (λ index. answer (view_of index)) refl few
+-- as much of a file as is read
+abbrev front_of : List ℕ → List ℕ
+front_of index = take (most_pieces * piece_length) index
+
+opened : (t : Tree) → at_rest t open_asks ≡ view_of (front_of (bytes_at t changelog_index))
+opened t = pieces_front t changelog_index most_pieces [] (bytes_at t changelog_index) (λ index. answer (view_of index)) refl
 
 few_pieces : (n : ℕ) → n / 64 ≤ 1000000 → n < most_pieces * piece_length
 few_pieces n h = let e : n < 64 * (n / 64 + 1) = lt-mul-div-succ n (omega arith) in omega (arith, e, h)
@@ -106,15 +116,21 @@ line_is rev e c text known r n =
     ap (λ h. decimal rev ++ field (hex h) ++ field (parent_text e.p1) ++ field (parent_text e.p2) ++ change_fields c.change ++ 10 ∷ []) (sym n)
     ∙ ap (λ (x : Revision). decimal rev ++ field (hex (slice_index_or known rev null_node)) ++ field (parent_text x.parents.0) ++ field (parent_text x.parents.1) ++ change_fields c.change ++ 10 ∷ []) (sym r)
 
+-- what is asked for a line, over files at rest
+line_asked : (t : Tree) (view : View) (rev : ℕ) (e : Entry) → slice_get view.changelog.entries rev ≡ Some e
+    → at_rest t (line_asks view rev) ≡ line_of_change rev e (change_of_chunk rev (text_of view.changelog.entries rev (chunk_in (bytes_at t changelog_data) e)))
+line_asked t view rev e at =
+    let chunk = chunk_in (bytes_at t changelog_data) e in
+    ap (λ o. at_rest t (chunk_asks o (line_at view rev))) at
+    ∙ ap (λ b. line_at view rev b) (part_is (t changelog_data) e.offset e.stored)
+    ∙ ap (λ o. line_of_entry view rev chunk o) at
+
 line_at_rest : (t : Tree) (view : View) (rev : ℕ) (e : Entry) (c : Changeset) (text : List ℕ) (known : List (List ℕ)) → slice_get view.changelog.entries rev ≡ Some e
     → text_of view.changelog.entries rev (chunk_in (bytes_at t changelog_data) e) ≡ Ok text → c.revision ≡ revision_of e text → IsRead c → slice_index_or known rev null_node ≡ e.node.0
     → at_rest t (line_asks view rev) ≡ Ok (line_among known rev c)
 line_at_rest t view rev e c text known at is r reads n =
-    let chunk = chunk_in (bytes_at t changelog_data) e in
     let text_is : text ≡ c.revision.text = ap (λ (x : Revision). x.text) (sym r) in
-    ap (λ o. at_rest t (chunk_asks o (line_at view rev))) at
-    ∙ ap (λ b. line_at view rev b) (part_is (t changelog_data) e.offset e.stored)
-    ∙ ap (λ o. line_of_entry view rev chunk o) at
+    line_asked t view rev e at
     ∙ ap (λ x. line_of_change rev e (change_of_chunk rev x)) is
     ∙ ap (λ x. line_of_change rev e (change_of_text rev (read_change x))) text_is
     ∙ ap (λ x. line_of_change rev e (change_of_text rev x)) reads
@@ -151,20 +167,124 @@ are_lines t view before (e ∷ entries) (c ∷ newer) is h reads =
     rest_is : (c : Changeset) (newer : List Changeset) (r : Revision) (rest : List Revision) → revisions_of (c ∷ newer) ≡ r ∷ rest → revisions_of newer ≡ rest
     rest_is c newer r rest h = cc
 
+-- a view whose texts are read as this history gives its lines
+lines_are : (t : Tree) (view : View) (history : List Changeset) → read_all view.changelog.entries (bytes_at t changelog_data) ≡ Ok (revisions_of history)
+    → nodes_of view.changelog.entries ≡ nodes (revisions_of history) → AllByRecursion IsRead history → lines_of_view t view ≡ record { text = history_text history; refusal = None }
+lines_are t view history texts nodes_are reads =
+    let entries = view.changelog.entries in
+    let lines = are_lines t view [] entries history refl texts reads in
+    let entries_size = length-map entries (λ (e : Entry). e.node.0) in
+    let nodes_size : length (nodes_of entries) ≡ 0 + length (revisions_of history) = ap length nodes_are ∙ length-nodes_from [] (revisions_of history) in
+    let history_size = length-map history (λ (c : Changeset). c.revision) in
+    let size : length entries ≡ 0 + length history = omega (arith, entries_size, nodes_size, history_size) in
+    ap (lines_down (λ rev. at_rest t (line_asks view rev))) size
+    ∙ down_from (λ rev. at_rest t (line_asks view rev)) (nodes_of entries) 0 history lines
+    ∙ ap (λ l. let all : Outcome = record { text = l; refusal = None } in all) (append-nil (lines_from (nodes_of entries) 0 history) ∙ ap (λ known. lines_from known 0 history) nodes_are)
+
 pub history-log : (t : Tree) (history : List Changeset) → HoldsHistory t history → AreWithinLimits (revisions_of history) (bytes_at t changelog_data) → log_outcome t ≡ record { text = history_text history; refusal = None }
 history-log t history h within =
     let index = bytes_at t changelog_index in
-    let data_bytes = bytes_at t changelog_data in
-    let loads = held-ignored index data_bytes (revisions_of history) h.held h.whole within in
-    let log = loads.0 in
-    let view : View = record { changelog = log } in
+    let loads = held-ignored index (bytes_at t changelog_data) (revisions_of history) h.held h.whole within in
     let few : length index / 64 ≤ 1000000 = (let a = h.whole in let b = within.few in omega (arith, a, b)) in
-    let lines = are_lines t view [] log.entries history refl loads.2 h.read in
-    let entries_size = length-map log.entries (λ (e : Entry). e.node.0) in
-    let nodes_size : length (nodes_of log.entries) ≡ 0 + length (revisions_of history) = ap length loads.3 ∙ length-nodes_from [] (revisions_of history) in
-    let history_size = length-map history (λ (c : Changeset). c.revision) in
-    let size : length log.entries ≡ 0 + length history = omega (arith, entries_size, nodes_size, history_size) in
-    ap (log_of_view t) (opened t (few_pieces (length index) few) ∙ ap view_of_log loads.1)
-    ∙ ap (lines_down (λ rev. at_rest t (line_asks view rev))) size
-    ∙ down_from (λ rev. at_rest t (line_asks view rev)) (nodes_of log.entries) 0 history lines
-    ∙ ap (λ l. let all : Outcome = record { text = l; refusal = None } in all) (append-nil (lines_from (nodes_of log.entries) 0 history) ∙ ap (λ known. lines_from known 0 history) loads.3)
+    let room = few_pieces (length index) few in
+    let all : front_of index ≡ index = take_all (most_pieces * piece_length) index (omega (arith, room)) in
+    ap (log_of_view t) (opened t ∙ ap view_of all ∙ ap view_of_log loads.1) ∙ lines_are t (record { changelog = loads.0 }) history loads.2 loads.3 h.read
+
+-- ---- the other direction
+
+-- where nothing is refused, each line was given
+lines_ok : (line : ℕ → Result (List ℕ) ReadAnswer) (n : ℕ) → (lines_down line n).refusal ≡ None → (rev : ℕ) → rev < n → (l : List ℕ) × (line rev ≡ Ok l)
+lines_ok line zero h rev few = absurd (omega (arith, few))
+lines_ok line (suc n) h rev few = by (line n) refl h (lines_ok line n) (is_last rev n few)
+  where
+    is_last : (rev n : ℕ) → rev < suc n → (rev ≡ n) ⊎ (rev < n)
+    is_last rev n few = pick (nat_lt rev n) refl
+      where
+        pick : (b : Bool) → nat_lt rev n ≡ b → (rev ≡ n) ⊎ (rev < n)
+        pick true h = inr (grind (arith, h))
+        pick false h = inl (grind (arith, h, few))
+
+    by : (r : Result (List ℕ) ReadAnswer) → line n ≡ r → (line_then r (lines_down line n)).refusal ≡ None
+        → ((lines_down line n).refusal ≡ None → (rev : ℕ) → rev < n → (l : List ℕ) × (line rev ≡ Ok l)) → (rev ≡ n) ⊎ (rev < n) → (l : List ℕ) × (line rev ≡ Ok l)
+    by (Err e) is h on last = cc
+    by (Ok l) is h on (inl same) = (l, ap line same ∙ is)
+    by (Ok l) is h on (inr below) = on h rev below
+
+change_told : (rev : ℕ) (e : Entry) (x : Result (List ℕ) RevFault) (l : List ℕ) → line_of_change rev e (change_of_chunk rev x) ≡ Ok l
+    → (text : List ℕ) × (change : Change) × (x ≡ Ok text) × (read_change text ≡ Ok change)
+change_told rev e (Err f) l h = cc
+change_told rev e (Ok text) l h = by (read_change text) refl h
+  where
+    by : (r : Result Change ChangeFault) → read_change text ≡ r → line_of_change rev e (change_of_text rev r) ≡ Ok l
+        → (written : List ℕ) × (change : Change) × ((let a : Result (List ℕ) RevFault = Ok text in a) ≡ Ok written) × (read_change written ≡ Ok change)
+    by (Err f) is h = cc
+    by (Ok c) is h = (text, c, refl, is)
+
+-- the history that the entries behind these are, where each gives a line
+history_of : (t : Tree) (view : View) (before entries : List Entry) → view.changelog.entries ≡ before ++ entries
+    → ((rev : ℕ) → rev < length view.changelog.entries → (l : List ℕ) × (at_rest t (line_asks view rev) ≡ Ok l))
+    → (history : List Changeset) × (read_from view.changelog.entries (bytes_at t changelog_data) (length before) entries ≡ Ok (revisions_of history)) × AllByRecursion IsRead history
+history_of t view before [] is lines = ([], refl, tt)
+history_of t view before (e ∷ entries) is lines =
+    let all = view.changelog.entries in
+    let data_bytes = bytes_at t changelog_data in
+    let at : slice_get all (length before) ≡ Some e = ap (λ l. slice_get l (length before)) is ∙ slice_get_seam before e entries in
+    let there : length before < length all = (let n = ap length is in let m = length-append before (e ∷ entries) in omega (arith, n, m)) in
+    let line = lines (length before) there in
+    let told = change_told (length before) e (text_of all (length before) (chunk_in data_bytes e)) line.0 (sym (line_asked t view (length before) e at) ∙ line.1) in
+    let size : length (before ++ e ∷ []) ≡ suc (length before) = length-append before (e ∷ []) ∙ add_one (length before) in
+    let on = history_of t view (before ++ e ∷ []) entries (is ∙ sym (append_assoc before (e ∷ []) entries)) lines in
+    let first : Changeset = record { revision = revision_of e told.0; change = told.1 } in (
+      first ∷ on.0,
+      ap (λ x. with_text e x (read_from all data_bytes (suc (length before)) entries)) told.2
+          ∙ ap (with_text e (Ok told.0)) (ap (λ n. read_from all data_bytes n entries) (sym size) ∙ on.1),
+      (told.3, on.2),
+    )
+  where
+    add_one : (n : ℕ) → n + 1 ≡ suc n
+    add_one n = omega arith
+
+load_few : (n : ℕ) (log end : Log) (bytes : List ℕ) → load_from Refuse n log bytes ≡ Ok end → length log.entries ≤ most_revisions → length end.entries ≤ most_revisions
+load_few zero log end bytes h few = subst (λ (l : Log). length l.entries ≤ most_revisions) (refuse_none log end bytes h).0 few
+load_few (suc n) log end bytes h few =
+    let s = refuse_step n log end bytes h in
+    let room = (taken_entry log.entries (take 64 bytes) s.0 s.1).0 in
+    let size = length-append log.entries (s.0 ∷ []) in
+    load_few n (with_entry log s.0) end (drop 64 bytes) s.2 (omega (arith, room, size))
+
+-- an index that loads has no more entries than a revlog may have
+few_entries : (index : List ℕ) (log : Log) → loaded Ignore index ≡ Ok log → length index / 64 ≤ most_revisions
+few_entries index log h =
+    let whole = take (64 * (length index / 64)) index in
+    let load : loaded Refuse whole ≡ Ok log = sym (ignore-refuse index) ∙ h in
+    let count = load_length (length whole / 64) (record { inline = false; entries = [] }) log whole load in
+    let few = load_few (length whole / 64) (record { inline = false; entries = [] }) log whole load (omega arith) in
+    let size = length-take (64 * (length index / 64)) index in
+    omega (arith, count, few, size)
+
+whole_front : (index : List ℕ) → length (front_of index) / 64 ≤ most_revisions → front_of index ≡ index
+whole_front index few = let size = length-take (most_pieces * piece_length) index in take_all (most_pieces * piece_length) index (omega (arith, few, size))
+
+log_in : (r : Result Log RevFault) (view : View) → view_of_log r ≡ Ok view → r ≡ Ok view.changelog
+log_in (Err f) view h = cc
+log_in (Ok log) view h = cc
+
+pub log-history : (t : Tree) → IsBytes (bytes_at t changelog_index) → (log_outcome t).refusal ≡ None → (history : List Changeset) × HoldsHistory t history × ((log_outcome t).text ≡ history_text history)
+log-history t are none = by (at_rest t open_asks) refl none
+  where
+    by : (r : Result View ReadAnswer) → at_rest t open_asks ≡ r → (log_of_view t r).refusal ≡ None → (history : List Changeset) × HoldsHistory t history × ((log_of_view t r).text ≡ history_text history)
+    by (Err e) is h = cc
+    by (Ok view) is h =
+        let index = bytes_at t changelog_index in
+        let data_bytes = bytes_at t changelog_data in
+        let front_load : loaded Ignore (front_of index) ≡ Ok view.changelog = log_in (loaded Ignore (front_of index)) view (sym (opened t) ∙ is) in
+        let all : front_of index ≡ index = whole_front index (few_entries (front_of index) view.changelog front_load) in
+        let load : loaded Ignore index ≡ Ok view.changelog = ap (loaded Ignore) (sym all) ∙ front_load in
+        let told = history_of t view [] view.changelog.entries refl (lines_ok (λ rev. at_rest t (line_asks view rev)) (length view.changelog.entries) h) in
+        let held = ignored-held index data_bytes view.changelog (revisions_of told.0) are load told.1 in
+        let whole = take (64 * (length index / 64)) index in
+        let front = loaded-front whole data_bytes view.changelog (revisions_of told.0) (bytes_take (64 * (length index / 64)) index are) (sym (ignore-refuse index) ∙ load) told.1 in (
+          told.0,
+          record { held = held.0; whole = held.1; read = told.2 },
+          ap (λ (o : Outcome). o.text) (lines_are t view told.0 told.1 front.agrees.nodes_are told.2),
+        )

@@ -1,8 +1,9 @@
 //! What the definitions of this crate imply. Each function is one law; none does anything.
 ghost use Rattle.std.specs.Prelude.{◌≡◌, List, None};
+ghost use Rattle.hex.specs.Hex.{IsBytes};
 ghost use Rattle.hgs_files.specs.Tree.{Tree};
 ghost use Rattle.hgs_revlog.specs.Held.{AreWithinLimits};
-ghost use Rattle.hgs_reader.specs.View.{changelog_data};
+ghost use Rattle.hgs_reader.specs.View.{changelog_data, changelog_index};
 ghost use Rattle.hgs_top.specs.History.{Changeset, HoldsHistory, bytes_at, history_text, revisions_of};
 ghost use Rattle.hgs_top.specs.Outcome.{log_outcome};
 
@@ -10,4 +11,9 @@ ghost use Rattle.hgs_top.specs.Outcome.{log_outcome};
 /// refused.
 pub fn log_of_history()
     ensures { (t : Tree) (history : List Changeset) → HoldsHistory t history → AreWithinLimits (revisions_of history) (bytes_at t changelog_data) → log_outcome t ≡ record { text = history_text history; refusal = None } }
+{}
+
+/// Where `log` is not refused, the files hold a history, and what was written are its lines.
+pub fn log_tells_history()
+    ensures { (t : Tree) → IsBytes (bytes_at t changelog_index) → (log_outcome t).refusal ≡ None → (history : List Changeset) × HoldsHistory t history × ((log_outcome t).text ≡ history_text history) }
 {}
