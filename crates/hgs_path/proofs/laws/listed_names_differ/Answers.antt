@@ -1,0 +1,5 @@
+use Rattle.hgs_path.proofs.FncacheLemmas.{listed-once}
+use Rattle.hgs_path.proofs.laws.listed_names_differ.Goals as goal
+
+pub returns : goal.returns
+returns c = listed-once

@@ -1,0 +1,5 @@
+use Rattle.hgs_path.proofs.ReadableLemmas.{names-once}
+use Rattle.hgs_path.proofs.laws.plain_names_differ.Goals as goal
+
+pub returns : goal.returns
+returns c = names-once

@@ -1,0 +1,5 @@
+use Rattle.hgs_path.proofs.CheckLemmas.{checked-tracked}
+use Rattle.hgs_path.proofs.laws.tracked_without_fault.Goals as goal
+
+pub returns : goal.returns
+returns c = checked-tracked

@@ -1,0 +1,23 @@
+use Rattle.std.proofs.Common.{sym, arith}
+use Rattle.hgs_path.proofs.PartLemmas.{directory-more, directory-last, split-length, one-more, at-end}
+use Rattle.hgs_path.proofs.name.directory_step.Goals as goal
+
+pub loop-directory-smaller : goal.loop-directory-smaller
+loop-directory-smaller c =
+    let l = split-length 47 c.loop-directory.rest.now _ (sym c.in-Some.ensures) in
+    omega arith
+
+pub loop-directory-preserved : goal.loop-directory-preserved
+loop-directory-preserved c =
+    one-more c.loop-directory.out.items _ _ _ _ _ _
+    c.in_ok-push_directory.ensures
+    c.in_ok-push.ensures.items
+    (directory-more c.loop-directory.rest.now _ (sym c.in-Some.ensures))
+    c.loop-directory.invariant
+
+pub returns : goal.returns
+returns c =
+    at-end c.loop-directory.out.items _ _ _ _
+    c.in_ok-extend_from_slice.ensures.items
+    (directory-last c.loop-directory.rest.now (sym c.in_default.ensures))
+    c.loop-directory.invariant

@@ -1,0 +1,289 @@
+//! The list `fncache` of the filelogs' files (Mercurial's wiki page "fncacheRepoFormat").
+ghost use Rattle.std.specs.Prelude.{◌≡◌, ◌++◌, ◌&&◌, false, OnOk, OnErr, IfOk, codes, option_map, if◌then◌else◌};
+ghost use Rattle.hgs_path.specs.declared.name.Ext.TheVariants.{I, D};
+ghost use Rattle.hgs_bytes.specs.Bytes.{same};
+ghost use Rattle.hgs_bytes.specs.Answer.{Gives};
+ghost use Rattle.hgs_bytes.specs.Text.{line};
+ghost use Rattle.hgs_path.specs.declared.name.Ext.{Ext};
+ghost use Rattle.hgs_path.specs.StoreName.{ends_in, is_plain, listed_name, store_name};
+ghost use Rattle.hgs_path.specs.Fncache.{is_listed, unmarked_directory, undone_step, file_named, files_of, is_memory, listing, with_file, with_named, clashes, IsClash, IsClashIn};
+
+use crate::name::{Ext, is_plain, listed_name, store_name};
+use crate::parts::ends;
+use hgs_bytes::parts::{equal, front, next_line, past, split_at_byte, starts};
+use std::alloc::{AllocError, Global};
+use std::collections::BTreeSet;
+
+/// Why a text is no list.
+#[derive(Clone, Copy, Debug, PartialEq, Eq)]
+pub enum FncacheFault {
+    /// The number, from 1, of the first line that is no name or has no LF.
+    Line(u64),
+    Memory,
+}
+
+impl From<AllocError> for FncacheFault {
+    ghost use Rattle.hgs_path.specs.declared.fncache.FncacheFault.TheVariants.{Memory};
+
+    ghost from_gives = { λ _ e. e ≡ Memory };
+
+    fn from(_: AllocError) -> FncacheFault {
+        FncacheFault::Memory
+    }
+}
+
+/// The files that `fncache` lists, by the paths of their filelogs. Repeated lines count once.
+#[derive(Debug, Drop)]
+pub struct Fncache {
+    indexes: BTreeSet<Vec<u8>>,
+    datas: BTreeSet<Vec<u8>>,
+}
+
+/// Whether a line may stand in the list.
+fn is_listed(name: &[u8]) -> bool
+    ensures { result ≡ is_listed name.now }
+{
+    starts(name, b"data/") && (ends(name, b".i") || ends(name, b".d"))
+}
+
+fn unmarked_directory(directory: &[u8]) -> &[u8]
+    ensures { result.now ≡ unmarked_directory directory.now }
+{
+    if ends(directory, b".hg") {
+        front(directory, directory.len().saturating_sub(3))
+    } else {
+        directory
+    }
+}
+
+/// The directory step back.
+fn undone_step(alloc: Global, name: &[u8]) -> Result<Vec<u8>, AllocError>
+    ensures { IfOk result (λ out. out.items ≡ undone_step name.now) }
+{
+    let mut out = Vec::new(alloc);
+    let mut rest = name;
+    while let Some((directory, behind)) = split_at_byte(rest, b'/') {
+        out.extend_from_slice(unmarked_directory(directory))?;
+        out.push(b'/')?;
+        rest = behind;
+    }
+    out.extend_from_slice(rest)?;
+    Ok(out)
+}
+
+fn ext_within(inner: &[u8]) -> Ext
+    ensures { result ≡ (if ends_in inner.now (codes ".i") then Ext.I else Ext.D) }
+{
+    if ends(inner, b".i") { Ext::I } else { Ext::D }
+}
+
+/// The file that has this name in the list, if one has.
+fn file_named(alloc: Global, name: &[u8]) -> Result<Option<(Vec<u8>, Ext)>, AllocError>
+    ensures { IfOk result (λ file. option_map (λ f. (f.0.items, f.1)) file ≡ file_named name.now) }
+{
+    let mut path = undone_step(alloc, past(name, 5))?;
+    let ext = ext_within(&path);
+    path.truncate(path.len().saturating_sub(2));
+    if equal(&listed_name(alloc, &path, ext)?, name) {
+        return Ok(Some((path, ext)));
+    }
+    Ok(None)
+}
+
+/// Whether these files of two paths have one name in the store.
+fn same_names(alloc: Global, path: &[u8], other: &[u8], ext: Ext) -> Result<bool, AllocError>
+    ensures { IfOk result (λ b. b ≡ same (store_name other.now ext) (store_name path.now ext)) }
+{
+    let name = store_name(alloc, path, ext)?;
+    let others = store_name(alloc, other, ext)?;
+    Ok(equal(others.bytes(), name.bytes()))
+}
+
+/// Whether `other` is another path, with the same name for one of its two files.
+fn clashes(alloc: Global, path: &[u8], other: &[u8]) -> Result<bool, AllocError>
+    ensures { IfOk result (λ b. b ≡ clashes path.now other.now) }
+{
+    if equal(other, path) {
+        return Ok(false);
+    }
+    if same_names(alloc, path, other, Ext::I)? {
+        return Ok(true);
+    }
+    same_names(alloc, path, other, Ext::D)
+}
+
+/// A path of the set that clashes with this one.
+fn clash_in(
+    alloc: Global,
+    paths: &BTreeSet<Vec<u8>>,
+    path: &[u8],
+) -> Result<Option<Vec<u8>>, AllocError>
+    ensures { IfOk result (λ found. IsClashIn paths.now.keys path.now (option_map (λ p. p.items) found)) }
+{
+    for other in paths.iter() {
+        if clashes(alloc, path, other)? {
+            return Ok(Some(Vec::from_slice(alloc, other)?));
+        }
+    }
+    Ok(None)
+}
+
+/// Whether neither name of a path's files is hashed.
+fn has_plain_names(alloc: Global, path: &[u8]) -> Result<bool, AllocError>
+    ensures { IfOk result (λ b. b ≡ (is_plain (listed_name path.now I) && is_plain (listed_name path.now D))) }
+{
+    Ok(
+        is_plain(alloc, &listed_name(alloc, path, Ext::I)?)?
+            && is_plain(alloc, &listed_name(alloc, path, Ext::D)?)?,
+    )
+}
+
+impl Fncache {
+    /// A list without files.
+    fn empty(alloc: Global) -> Fncache
+        ensures { listing result ≡ (λ path ext. false) }
+    {
+        Fncache {
+            indexes: BTreeSet::new(alloc),
+            datas: BTreeSet::new(alloc),
+        }
+    }
+
+    fn add_file(&mut self, path: Vec<u8>, ext: Ext) -> Result<(), AllocError>
+        ensures { OnOk result (listing self.new ≡ with_file (listing self.old) path.items ext) }
+    {
+        match ext {
+            Ext::I => self.indexes.insert(path)?,
+            Ext::D => self.datas.insert(path)?,
+        };
+        Ok(())
+    }
+
+    fn add_named(&mut self, alloc: Global, name: &[u8]) -> Result<(), AllocError>
+        ensures { OnOk result (listing self.new ≡ with_named (listing self.old) (file_named name.now)) }
+    {
+        match file_named(alloc, name)? {
+            Some((path, ext)) => self.add_file(path, ext),
+            None => Ok(()),
+        }
+    }
+
+    /// The files that a text lists, or the first line that does not begin with `data/`, ends in neither `.i` nor `.d`, or
+    /// has no LF.
+    pub fn read(alloc: Global, bytes: &[u8]) -> Result<Fncache, FncacheFault>
+        ensures { Gives is_memory listing result (files_of bytes.now) }
+    {
+        let mut fncache = Fncache::empty(alloc);
+        let mut rest = bytes;
+        let mut number: u64 = 1;
+        while !rest.is_empty() {
+            let (name, is_whole, behind) = next_line(rest);
+            if !is_whole || !is_listed(name) {
+                return Err(FncacheFault::Line(number));
+            }
+            fncache.add_named(alloc, name)?;
+            number += 1;
+            rest = behind;
+        }
+        Ok(fncache)
+    }
+
+    /// Appends the line of a file to the text of `fncache`, or changes nothing where there is no memory.
+    pub fn add_line(path: &[u8], ext: Ext, into: &mut Vec<u8>) -> Result<(), AllocError>
+        ensures ok { OnOk result (into.new.items ≡ into.old.items ++ line (listed_name path.now ext)) }
+        ensures err { OnErr result (into.new.items ≡ into.old.items) }
+    {
+        let mut text = listed_name(*into.allocator(), path, ext)?;
+        text.push(b'\n')?;
+        into.extend_from_slice(&text)
+    }
+
+    /// Another listed path that has the same store name for one of its two files, or `None` where no other listed path
+    /// has. One file of the other path is enough for it to be listed.
+    ///
+    /// Names that are not hashed differ, so for a path that has two such names this takes constant time. For one with a
+    /// hashed name, which is rare, it names each listed path again.
+    pub fn clash(&self, alloc: Global, path: &[u8]) -> Result<Option<Vec<u8>>, AllocError>
+        ensures { IfOk result (λ found. IsClash (listing self.now) path.now (option_map (λ p. p.items) found)) }
+    {
+        if has_plain_names(alloc, path)? {
+            return Ok(None);
+        }
+        match clash_in(alloc, &self.indexes, path)? {
+            Some(other) => Ok(Some(other)),
+            None => clash_in(alloc, &self.datas, path),
+        }
+    }
+
+    /// Whether the line of this file was read.
+    pub fn contains(&self, path: &[u8], ext: Ext) -> bool
+        ensures { result ≡ listing self.now path.now ext }
+    {
+        match ext {
+            Ext::I => self.indexes.contains(path),
+            Ext::D => self.datas.contains(path),
+        }
+    }
+}
+
+#[cfg(test)]
+mod tests {
+    use super::*;
+    use std::test::Fail;
+
+    #[test]
+    fn listed_files(rt: HostRuntime) -> Result<(), Fail> {
+        let fncache = Fncache::read(
+            rt.alloc(),
+            b"data/a.i.hg/b.i\ndata/c.i\ndata/c.d\ndata/x.i/y.i\ndata/c.i\n",
+        )?;
+        for (path, ext, want) in [
+            (b"a.i/b".as_slice(), Ext::I, true),
+            (b"a.i/b", Ext::D, false),
+            (b"c", Ext::I, true),
+            (b"c", Ext::D, true),
+            (b"x.i/y", Ext::I, false),
+            (b"x", Ext::I, false),
+        ] {
+            assert_eq!(rt; fncache.contains(path, ext), want);
+        }
+        Ok(())
+    }
+
+    #[test]
+    fn no_clashes(rt: HostRuntime) -> Result<(), Fail> {
+        let long = [b'A'; 60];
+        let mut text = Vec::new(rt.alloc());
+        Fncache::add_line(&long, Ext::I, &mut text)?;
+        Fncache::add_line(b"a.i/b", Ext::I, &mut text)?;
+        let fncache = Fncache::read(rt.alloc(), &text)?;
+        assert!(rt; fncache.contains(&long, Ext::I));
+        for path in [b"a.i/b".as_slice(), b"c", &long, &[b'a'; 120]] {
+            assert!(rt; fncache.clash(rt.alloc(), path)?.is_none());
+        }
+        Ok(())
+    }
+
+    #[test]
+    fn line_of_a_file(rt: HostRuntime) -> Result<(), Fail> {
+        let mut text = Vec::new(rt.alloc());
+        Fncache::add_line(b"a.i/b", Ext::I, &mut text)?;
+        assert!(rt; text.as_slice() == b"data/a.i.hg/b.i\n".as_slice());
+        Ok(())
+    }
+
+    #[test]
+    fn bad_lines(rt: HostRuntime) {
+        for (text, line) in [
+            (b"data/a.i".as_slice(), 1),
+            (b"data/a.i\n\n", 2),
+            (b"data/a.i\ndata/a.d\nmeta/a.i\n", 3),
+            (b"data/a.c\n", 1),
+        ] {
+            match Fncache::read(rt.alloc(), text) {
+                Ok(_) => assert!(rt; false, "{line}"),
+                Err(fault) => assert_eq!(rt; fault, FncacheFault::Line(line)),
+            }
+        }
+    }
+}

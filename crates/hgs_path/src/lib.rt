@@ -1,0 +1,9 @@
+//! Which paths are tracked, what a filelog's files are called in the store, and the list `fncache` of these names.
+#![tactic(auto)]
+
+pub mod check;
+pub mod fncache;
+pub mod laws;
+pub mod name;
+mod parts;
+mod spell;
