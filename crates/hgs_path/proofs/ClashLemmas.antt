@@ -45,9 +45,9 @@ same-one p q ext hp hq plain h = by (is_plain (listed_name q ext)) refl
     is = same-eq (store_name q ext) (store_name p ext) h
 
     by : (t : Bool) → is_plain (listed_name q ext) ≡ t → same q p ≡ true
-    by true e = ap (same q) (sym (names-once q p ext ext hq hp e plain (same-eq (store_name q ext) (store_name p ext) h)).0) ∙ same-refl q
+    by true e = ap (same q) (sym (names-once q p ext ext hq hp e plain is).0) ∙ same-refl q
     by false e =
-        let number : ◌≡◌ {A = ℕ} 104 97 = sym (hashed-index q ext e) ∙ ap (λ l. slice_index l 7) (same-eq (store_name q ext) (store_name p ext) h) ∙ plain-index p ext plain in
+        let number : ◌≡◌ {A = ℕ} 104 97 = sym (hashed-index q ext e) ∙ ap (λ l. slice_index l 7) is ∙ plain-index p ext plain in
         absurd (omega arith)
 
 clash-of : (a b : Bool) → (a ≡ true → ⊥) → (b ≡ true → ⊥) → (a || b) ≡ false

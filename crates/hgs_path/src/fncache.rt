@@ -132,10 +132,9 @@ fn clash_in(
 fn has_plain_names(alloc: Global, path: &[u8]) -> Result<bool, AllocError>
     ensures { IfOk result (λ b. b ≡ (is_plain (listed_name path.now I) && is_plain (listed_name path.now D))) }
 {
-    Ok(
-        is_plain(alloc, &listed_name(alloc, path, Ext::I)?)?
-            && is_plain(alloc, &listed_name(alloc, path, Ext::D)?)?,
-    )
+    let index = listed_name(alloc, path, Ext::I)?;
+    let data = listed_name(alloc, path, Ext::D)?;
+    Ok(is_plain(alloc, &index)? && is_plain(alloc, &data)?)
 }
 
 impl Fncache {

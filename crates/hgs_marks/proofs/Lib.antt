@@ -1,0 +1,3 @@
+pub mod DirstateLemmas
+pub mod MapLemmas
+pub mod MarkLemmas

@@ -1,0 +1,38 @@
+//! Why a text of bookmarks or of the working parents is refused.
+use std::alloc::{AllocError, AllocFailed};
+
+/// Why a text gives no bookmarks or no working parents. Lines are counted from 1, bytes from 0.
+#[derive(Clone, Copy, Debug, PartialEq, Eq)]
+pub enum MarkFault {
+    /// The first line that is no node, a space and something behind it.
+    Line(u64),
+    /// The first line whose name no bookmark can have; 0 for a name that is set.
+    Name(u64),
+    /// The bytes end inside the parents or an entry.
+    Short,
+    /// The place of the first state byte that is none.
+    State(u64),
+    Memory,
+}
+
+impl From<AllocError> for MarkFault {
+    ghost use Rattle.std.specs.Prelude.{◌≡◌};
+    ghost use Rattle.hgs_marks.specs.declared.fault.MarkFault.TheVariants.{Memory};
+
+    ghost from_gives = { λ _ e. e ≡ Memory };
+
+    fn from(_: AllocError) -> MarkFault {
+        MarkFault::Memory
+    }
+}
+
+impl<T: Drop> From<AllocFailed<T>> for MarkFault {
+    ghost use Rattle.std.specs.Prelude.{◌≡◌};
+    ghost use Rattle.hgs_marks.specs.declared.fault.MarkFault.TheVariants.{Memory};
+
+    ghost from_gives = { λ _ e. e ≡ Memory };
+
+    fn from(_: AllocFailed<T>) -> MarkFault {
+        MarkFault::Memory
+    }
+}

@@ -1,0 +1,10 @@
+//! Bookmarks and the working parents: the files `bookmarks` and `dirstate` of a repository.
+#![tactic(auto)]
+
+pub mod bookmarks;
+pub mod dirstate;
+pub mod fault;
+pub mod name;
+pub mod print;
+#[cfg(test)]
+mod tests;

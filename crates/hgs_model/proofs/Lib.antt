@@ -1,0 +1,11 @@
+pub mod BeforeLemmas
+pub mod BookmarkLemmas
+pub mod CountLemmas
+pub mod HistoryLemmas
+pub mod ListLemmas
+pub mod NameLemmas
+pub mod NewChangesetLemmas
+pub mod NodeLemmas
+pub mod PhaseLemmas
+pub mod ReachedLemmas
+pub mod StepLemmas

@@ -1,0 +1,5 @@
+use Rattle.hgs_model.proofs.StepLemmas.{named-below}
+use Rattle.hgs_model.proofs.laws.named_is_there.Goals as goal
+
+pub returns : goal.returns
+returns c = named-below

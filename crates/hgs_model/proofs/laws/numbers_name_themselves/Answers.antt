@@ -1,0 +1,5 @@
+use Rattle.hgs_model.proofs.NameLemmas.{named-number}
+use Rattle.hgs_model.proofs.laws.numbers_name_themselves.Goals as goal
+
+pub returns : goal.returns
+returns c = named-number

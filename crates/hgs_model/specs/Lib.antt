@@ -1,0 +1,9 @@
+pub mod History
+pub mod IsRepo
+pub mod Names
+pub mod Phase
+pub mod Reached
+pub mod Repo
+pub mod Samples
+pub mod Step
+pub mod Valid

@@ -1,0 +1,52 @@
+//! Commands, and why one is refused.
+use crate::files::NewFiles;
+use crate::phase::Phase;
+use hgs_bytes::bytes::Bytes;
+use hgs_bytes::names::Names;
+
+/// A changeset to be recorded.
+#[derive(Debug, Drop)]
+pub struct NewChange {
+    /// Up to two names of revisions.
+    pub parents: Names,
+    pub user: Bytes,
+    /// Seconds since 1970 began, in UTC.
+    pub seconds: i64,
+    /// The seconds by which the time zone is west of UTC.
+    pub offset: i32,
+    /// The least phase that it gets; a parent's greater one goes before it.
+    pub phase: Phase,
+    /// The bookmark that is set on it.
+    pub bookmark: Option<Bytes>,
+    pub description: Bytes,
+    pub files: NewFiles,
+}
+
+/// What a writer is asked to do. A `rev` is a revision's name.
+#[derive(Debug, Drop)]
+pub enum Command {
+    Commit(NewChange),
+    Move {
+        rev: Bytes,
+        phase: Phase,
+        force: bool,
+    },
+    Mark {
+        name: Bytes,
+        rev: Bytes,
+    },
+    Unmark {
+        name: Bytes,
+    },
+}
+
+/// Why a command is refused. A number is that of a changeset.
+#[derive(Clone, Copy, Debug, PartialEq, Eq)]
+pub enum Refusal {
+    /// A name names nothing, or the bookmark to be deleted is not there.
+    UnknownRevision,
+    /// The changeset's phase would rise.
+    NeedsForce(u32),
+    /// The changeset that is as the command asks already.
+    NothingChanged(u32),
+}

@@ -1,0 +1,17 @@
+//! The plain repository: changesets, phases, bookmarks and working parents, the revisions that they give, and what each
+//! command makes of them.
+//!
+//! The repository itself stands in definitions alone. What code shares are the commands, why one is refused, and the
+//! test of ancestors.
+#![tactic(auto)]
+
+pub mod ancestor;
+pub mod command;
+pub mod examples;
+pub mod files;
+pub mod laws;
+pub mod phase;
+#[cfg(test)]
+mod tests;
+
+pub use hgs_index::kinds::Flag;

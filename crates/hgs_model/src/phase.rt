@@ -1,0 +1,40 @@
+//! Phases.
+ghost use Rattle.std.specs.Prelude.{◌≡◌};
+ghost use Rattle.hgs_model.specs.Phase.{phase_name, phase_number};
+
+/// How far a changeset has been shared, and whether its history may still change.
+///
+/// The numbers and the names are those of Mercurial's wiki page "Phases".
+#[derive(Clone, Copy, Debug, PartialEq, Eq)]
+pub enum Phase {
+    /// Shared for good.
+    Public,
+    /// Not shared yet.
+    Draft,
+    /// Not to be shared.
+    Secret,
+}
+
+impl Phase {
+    /// The number that stands for this phase in `phaseroots`. A changeset's is never below a parent's.
+    pub fn number(self) -> u8
+        ensures { result ≡ phase_number self }
+    {
+        match self {
+            Phase::Public => 0,
+            Phase::Draft => 1,
+            Phase::Secret => 2,
+        }
+    }
+
+    /// The name that commands and answers use.
+    pub fn name(self) -> &'static [u8]
+        ensures { result.now ≡ phase_name self }
+    {
+        match self {
+            Phase::Public => b"public",
+            Phase::Draft => b"draft",
+            Phase::Secret => b"secret",
+        }
+    }
+}

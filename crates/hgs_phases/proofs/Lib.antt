@@ -1,0 +1,5 @@
+pub mod LoadedLemmas
+pub mod MoveLemmas
+pub mod PhaseLemmas
+pub mod PrintLemmas
+pub mod RootsLemmas

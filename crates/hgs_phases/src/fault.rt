@@ -1,0 +1,32 @@
+//! Why a text of phase roots is refused.
+use std::alloc::{AllocError, AllocFailed};
+
+/// Why a text gives no phase roots.
+#[derive(Clone, Copy, Debug, PartialEq, Eq)]
+pub enum RootsFault {
+    /// The first line out of form, from 1.
+    Line(u64),
+    Memory,
+}
+
+impl From<AllocError> for RootsFault {
+    ghost use Rattle.std.specs.Prelude.{◌≡◌};
+    ghost use Rattle.hgs_phases.specs.declared.fault.RootsFault.TheVariants.{Memory};
+
+    ghost from_gives = { λ _ e. e ≡ Memory };
+
+    fn from(_: AllocError) -> RootsFault {
+        RootsFault::Memory
+    }
+}
+
+impl<T: Drop> From<AllocFailed<T>> for RootsFault {
+    ghost use Rattle.std.specs.Prelude.{◌≡◌};
+    ghost use Rattle.hgs_phases.specs.declared.fault.RootsFault.TheVariants.{Memory};
+
+    ghost from_gives = { λ _ e. e ≡ Memory };
+
+    fn from(_: AllocFailed<T>) -> RootsFault {
+        RootsFault::Memory
+    }
+}

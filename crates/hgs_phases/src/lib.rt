@@ -1,0 +1,12 @@
+//! Phases: which changesets are published, and the roots that the file `phaseroots` names.
+#![tactic(auto)]
+
+pub mod fault;
+pub mod laws;
+pub mod moves;
+pub mod phase;
+pub mod phases;
+pub mod print;
+pub mod roots;
+#[cfg(test)]
+mod tests;
