@@ -28,9 +28,9 @@ phase_from (b ∷ c ∷ []) =
 phase_from (b ∷ c ∷ d ∷ bytes) = None
 
 abbrev pub root_with : Option Phase → Option (List ℕ) → Option Root
-root_with None node = None
+root_with None _ = None
 root_with (Some phase) None = None
-root_with (Some phase) (Some node) = Some (record { phase = phase; node = record { 0 = node } })
+root_with (Some phase) (Some bytes) = Some (record { phase = phase; node = record { 0 = bytes } })
 
 -- the root of a line, without its LF
 abbrev pub root_of : List ℕ → Option Root

@@ -3,6 +3,7 @@
 
 pub mod answer;
 pub mod ask;
+pub mod heads;
 pub mod line;
 pub mod load;
 pub mod paths;

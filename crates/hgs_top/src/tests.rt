@@ -117,104 +117,92 @@ fn each_changeset_has_a_line_newest_first(rt: HostRuntime) -> Result<(), Fail> {
     Ok(())
 }
 
-/// A byte of the index or of the chunks is changed; the part that is changed, its place, and the new byte.
-#[derive(Drop)]
-struct Change {
-    of_index: bool,
-    place: usize,
-    byte: u8,
-    lines: &'static [u8],
-    line: &'static [u8],
-    status: u8,
+/// What a byte was changed in.
+#[derive(Clone, Copy)]
+enum Part {
+    Index,
+    Chunks,
+}
+
+/// A changed byte: the part, its place and the new byte; then the lines before the refusal, the refusal and the status.
+type Damage = (Part, usize, u8, &'static [u8], &'static [u8], u8);
+
+const DAMAGED: [Damage; 7] = [
+    // a chunk that is compressed, and a byte of a text
+    (
+        Part::Chunks,
+        0,
+        0x78,
+        SECOND_LINE,
+        b"abort: damaged store/00changelog.i: revlog 2 0\n",
+        15,
+    ),
+    (
+        Part::Chunks,
+        54,
+        b'b',
+        SECOND_LINE,
+        b"abort: damaged store/00changelog.i: revlog 7 0\n",
+        15,
+    ),
+    // a base that is another revision, flags, a parent that comes later
+    (
+        Part::Index,
+        64 + 19,
+        0,
+        b"",
+        b"abort: damaged store/00changelog.i: revlog 3 1\n",
+        15,
+    ),
+    (
+        Part::Index,
+        64 + 7,
+        1,
+        b"",
+        b"abort: damaged store/00changelog.i: revlog 4 1\n",
+        15,
+    ),
+    (
+        Part::Index,
+        64 + 27,
+        1,
+        b"",
+        b"abort: damaged store/00changelog.i: revlog 8 1\n",
+        15,
+    ),
+    // the version, and a text that is too long
+    (
+        Part::Index,
+        3,
+        2,
+        b"",
+        b"abort: damaged store/00changelog.i: revlog 1 0\n",
+        15,
+    ),
+    (Part::Index, 12, 2, b"", b"abort: limit 4\n", 20),
+];
+
+/// The bytes with one changed.
+fn changed(mut bytes: Vec<u8>, place: usize, byte: u8) -> Vec<u8> {
+    if place < bytes.len() {
+        bytes[place] = byte;
+    }
+    bytes
 }
 
 #[test]
 fn damage_is_named_where_log_comes_to_it(rt: HostRuntime) -> Result<(), Fail> {
     let alloc = rt.alloc();
-    let change = |of_index, place, byte, lines, line, status| Change {
-        of_index,
-        place,
-        byte,
-        lines,
-        line,
-        status,
-    };
-    let table = [
-        // a chunk that is compressed, and a byte of a text
-        change(
-            false,
-            0,
-            0x78,
-            SECOND_LINE,
-            b"abort: damaged store/00changelog.i: revlog 2 0\n",
-            15,
-        ),
-        change(
-            false,
-            54,
-            b'b',
-            SECOND_LINE,
-            b"abort: damaged store/00changelog.i: revlog 7 0\n",
-            15,
-        ),
-        // a base that is another revision, flags, a parent that comes later, a node that stands twice
-        change(
-            true,
-            64 + 19,
-            0,
-            b"",
-            b"abort: damaged store/00changelog.i: revlog 3 1\n",
-            15,
-        ),
-        change(
-            true,
-            64 + 7,
-            1,
-            b"",
-            b"abort: damaged store/00changelog.i: revlog 4 1\n",
-            15,
-        ),
-        change(
-            true,
-            64 + 27,
-            1,
-            b"",
-            b"abort: damaged store/00changelog.i: revlog 8 1\n",
-            15,
-        ),
-        // the version, and a text that is too long
-        change(
-            true,
-            3,
-            2,
-            b"",
-            b"abort: damaged store/00changelog.i: revlog 1 0\n",
-            15,
-        ),
-        change(true, 12, 2, b"", b"abort: limit 4\n", 20),
-    ];
-    for row in &table {
-        let mut index = both(alloc, FIRST, SECOND)?;
-        let mut chunks = both(alloc, FIRST_CHUNK, SECOND_CHUNK)?;
-        let bytes = if row.of_index {
-            &mut index
-        } else {
-            &mut chunks
+    for (part, place, byte, lines, refusal, status) in DAMAGED {
+        let index = both(alloc, FIRST, SECOND)?;
+        let chunks = both(alloc, FIRST_CHUNK, SECOND_CHUNK)?;
+        let files = match part {
+            Part::Index => store(alloc, &changed(index, place, byte), &chunks)?,
+            Part::Chunks => store(alloc, &index, &changed(chunks, place, byte))?,
         };
-        if row.place < bytes.len() {
-            bytes[row.place] = row.byte;
-        }
-        let (status, text) = asked(
-            &rt,
-            store(alloc, &index, &chunks)?,
-            &["log"],
-            MemSink::new(alloc),
-        )?;
-        assert_eq!(rt; status, row.status);
-        assert_eq!(rt;
-            text.as_slice(),
-            both(alloc, row.lines, row.line)?.as_slice()
-        );
+        let (answer, text) = asked(&rt, files, &["log"], MemSink::new(alloc))?;
+        assert_eq!(rt; answer, status);
+        assert_eq!(rt; text.as_slice(), both(alloc, lines, refusal)?.as_slice());
     }
     Ok(())
 }
