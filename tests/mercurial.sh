@@ -3,7 +3,7 @@
 # it writes and its status with that answer. A question that is not built yet is counted and named by kind, and each
 # difference is shown. The last line is 'N passed, M failed, K not built'.
 set -u
-built=' log '
+built=' log heads '
 
 here=$(cd "$(dirname "$0")" && pwd)
 program=$("$here/../bin/hg_store" --build) || exit 1

@@ -1,14 +1,12 @@
 -- One read after another.
-use Rattle.std.proofs.Common.{◌≡◌, ℕ, List, [], ◌++◌, Option, Some, None, Result, Ok, Err, refl, sym, ◌∙◌, ap, subst, append_assoc, append-nil}
-use Rattle.std.specs.Prelude.{IfSome, IfOk, Bool, true, false, ⊤}
+use Rattle.std.proofs.Common.{◌≡◌, ℕ, List, [], ◌++◌, Option, Some, None, refl, sym, ◌∙◌, ap, subst, append_assoc, append-nil}
+use Rattle.std.specs.Prelude.{IfSome, Bool, true, false, ⊤}
 use Rattle.std.specs.Bool.{MatchBool}
 use Rattle.hgs_bytes.specs.Bytes.{IsPrefixOf}
 use Rattle.hgs_files.specs.declared.op.Op.{Op}
 use Rattle.hgs_files.specs.Tree.{Tree, after_all}
 use Rattle.hgs_files.specs.Reads.{Grows}
-use Rattle.hgs_reader.specs.declared.answer.ReadAnswer.{ReadAnswer}
-use Rattle.hgs_reader.specs.Answer.{is_of_outside}
-use Rattle.hgs_reader.specs.Asks.{Asks, answer, read, part_of, at_rest, MayAnswer, MayAnswerWhereTold, Answers, Continues}
+use Rattle.hgs_reader.specs.Asks.{Asks, answer, read, part_of, MayAnswer, MayAnswerWhereTold, Continues}
 
 pub prefix-refl : {A : Type 0} (l : List A) → IsPrefixOf l l
 prefix-refl l = ([], sym (append-nil l))

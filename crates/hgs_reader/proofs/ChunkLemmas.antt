@@ -1,15 +1,15 @@
 -- One read of a chunk.
-use Rattle.std.proofs.Common.{◌≡◌, ℕ, List, [], Option, Some, None, Result, Ok, Err, refl, sym, ◌∙◌, ap, subst}
-use Rattle.std.specs.Prelude.{IfSome, unwrap_or}
+use Rattle.std.proofs.Common.{◌≡◌, ℕ, List, [], Option, Some, None, Result, Ok, sym, ◌∙◌, ap, subst}
+use Rattle.std.specs.Prelude.{unwrap_or}
 use Rattle.std.specs.Option.{option_map}
 use Rattle.hgs_files.specs.declared.op.Op.{Op}
-use Rattle.hgs_files.specs.Tree.{Tree, after_all}
+use Rattle.hgs_files.specs.Tree.{Tree}
 use Rattle.hgs_files.specs.Reads.{Grows}
 use Rattle.hgs_index.specs.declared.entry.Entry.{Entry}
 use Rattle.hgs_index.specs.declared.kinds.Span.{Span}
 use Rattle.hgs_revlog.specs.Text.{span_of}
 use Rattle.hgs_reader.specs.declared.answer.ReadAnswer.{ReadAnswer}
-use Rattle.hgs_reader.specs.Asks.{Asks, answer, read, part_of, MayAnswerWhereTold, IsPart}
+use Rattle.hgs_reader.specs.Asks.{answer, MayAnswerWhereTold, IsPart}
 use Rattle.hgs_reader.specs.View.{changelog_data}
 use Rattle.hgs_reader.specs.Line.{chunk_asks}
 use Rattle.hgs_reader.proofs.AskLemmas.{continues-start, continues-read, continues-answer}

@@ -1,5 +1,5 @@
 -- What is left to ask once a piece of the index was read.
-use Rattle.std.proofs.Common.{◌≡◌, ℕ, zero, suc, ◌+◌, ◌-◌, ◌<◌, ◌≤◌, Bool, true, false, cond, List, [], ◌∷◌, ◌++◌, length, Option, Some, None, Result, Ok, Err, OnOk, refl, sym, ◌∙◌, ap, arith}
+use Rattle.std.proofs.Common.{◌≡◌, ℕ, zero, suc, ◌-◌, ◌<◌, Bool, true, false, cond, List, [], ◌++◌, length, Option, Some, None, Result, Ok, Err, refl, sym, ◌∙◌, ap, arith}
 use Rattle.std.specs.Prelude.{unwrap_or, nat_lt, ◌||◌, ◌==◌, ⊤}
 use Rattle.hgs_bytes.proofs.TextLemmas.{number_is}
 use Rattle.std.specs.Bool.{MatchBool}
@@ -7,7 +7,7 @@ use Rattle.std.specs.Option.{ForNone}
 use Rattle.hgs_revlog.specs.Log.{Log}
 use Rattle.hgs_reader.specs.declared.answer.ReadAnswer.{ReadAnswer}
 use Rattle.hgs_reader.specs.Answer.{is_of_outside}
-use Rattle.hgs_reader.specs.Asks.{Asks, answer, read}
+use Rattle.hgs_reader.specs.Asks.{Asks, answer}
 use Rattle.hgs_reader.specs.View.{View, changelog_index, piece_length, pieces_then, view_of}
 use Rattle.hgs_reader.specs.Load.{left_to_ask, reads_left_of, AsksFor, rest_of, Feeds, Finishes}
 

@@ -1,16 +1,16 @@
 -- One step of a load after another.
-use Rattle.std.proofs.Common.{◌≡◌, ℕ, List, [], Bool, true, false, Bor, Option, Some, None, Result, Ok, Err, refl, sym, ◌∙◌, ap, subst}
-use Rattle.std.specs.Prelude.{IfSome, ⊤}
+use Rattle.std.proofs.Common.{◌≡◌, ℕ, List, Bool, true, false, Bor, Option, Result, Ok, Err, sym, ◌∙◌, subst}
+use Rattle.std.specs.Prelude.{⊤}
 use Rattle.std.specs.Bool.{MatchBool}
 use Rattle.hgs_files.specs.declared.op.Op.{Op}
-use Rattle.hgs_files.specs.Tree.{Tree, after_all}
+use Rattle.hgs_files.specs.Tree.{Tree}
 use Rattle.hgs_files.specs.Reads.{Grows}
 use Rattle.hgs_reader.specs.declared.answer.ReadAnswer.{ReadAnswer}
 use Rattle.hgs_reader.specs.declared.load.LoadNext.TheVariants.{Read}
 use Rattle.hgs_reader.specs.Answer.{is_of_outside}
-use Rattle.hgs_reader.specs.Asks.{Asks, answer, read, part_of, MayAnswerWhereTold, IsPart, Continues}
+use Rattle.hgs_reader.specs.Asks.{Asks, answer, read, MayAnswerWhereTold, IsPart, Continues}
 use Rattle.hgs_reader.specs.View.{View}
-use Rattle.hgs_reader.specs.Load.{IsNext, rest_of, Advances, HasEnded}
+use Rattle.hgs_reader.specs.Load.{IsNext, rest_of, Advances}
 use Rattle.hgs_reader.proofs.AskLemmas.{continues-start, continues-read, continues-answer, continues-trans, continues-then, either}
 
 -- a read was answered, and what is left of the question has its answer

@@ -1,5 +1,5 @@
 -- What a reader asks of files that others may change meanwhile.
-use Rattle.std.specs.Prelude.{◌≡◌, ◌++◌, ℕ, List, Option, Some, None, Bool, Result, Ok, Err, take, drop, IfSome, IsTrue, ⊤}
+use Rattle.std.specs.Prelude.{◌≡◌, ◌++◌, ℕ, List, Option, Result, Ok, Err, take, drop, IfSome, IsTrue, ⊤}
 use Rattle.std.specs.Option.{option_map}
 use Rattle.std.specs.Bool.{MatchBool}
 use Rattle.hgs_bytes.specs.Bytes.{IsPrefixOf}

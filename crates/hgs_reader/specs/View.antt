@@ -1,11 +1,10 @@
 -- What a session holds of a repository.
-use Rattle.std.specs.Prelude.{ℕ, suc, zero, List, [], ◌++◌, Bool, length, nat_lt, codes, Option, unwrap_or, Result, Ok, Err, if◌then◌else◌}
+use Rattle.std.specs.Prelude.{ℕ, suc, zero, List, [], ◌++◌, length, nat_lt, codes, unwrap_or, Result, Ok, Err, if◌then◌else◌}
 use Rattle.hgs_plan.specs.declared.damage.Part.{Part}
 use Rattle.hgs_plan.specs.declared.damage.Part.TheVariants as parts
 use Rattle.hgs_revlog.specs.declared.fault.RevFault.{RevFault}
 use Rattle.hgs_revlog.specs.declared.fault.RevFault.TheVariants as faults
 use Rattle.hgs_revlog.specs.declared.fault.Tail.TheVariants.{Ignore}
-use Rattle.hgs_revlog.specs.Fault.{fault_number, fault_place}
 use Rattle.hgs_revlog.specs.Load.{loaded}
 use Rattle.hgs_revlog.specs.Log.{Log}
 use Rattle.hgs_reader.specs.declared.answer.ReadAnswer.{ReadAnswer}

@@ -3,6 +3,7 @@ ghost use Rattle.std.specs.Prelude.{◌≡◌, [], unwrap_or};
 
 use crate::answer::ReadAnswer;
 use crate::ask::read_part;
+use crate::heads::heads_of;
 use crate::line::line_of;
 use crate::load::LoadMachine;
 use crate::paths::ChangelogPaths;
@@ -12,7 +13,7 @@ use hgs_bytes::bytes::Bytes;
 use hgs_changelog::text::ChangeText;
 use hgs_files::files::Reads;
 use hgs_revlog::revlog::Revlog;
-use std::alloc::Global;
+use std::alloc::{AllocError, Global};
 use std::marker::Model;
 
 // The bytes that a read gave, none where the file isn't there.
@@ -42,12 +43,13 @@ impl Model for Session {
 }
 
 impl Session {
-    ghost use Rattle.std.specs.Prelude.{◌≡◌, ◌<◌, ◌≤◌, true, length, slice_get, IfSome};
+    ghost use Rattle.std.specs.Prelude.{◌≡◌, ◌<◌, ◌≤◌, ◌++◌, true, length, slice_get, IfSome, OnOk, OnErr};
     ghost use Rattle.hgs_bytes.specs.Answer.{Gives};
     ghost use Rattle.hgs_files.specs.Reads.{Grows};
     ghost use Rattle.hgs_changelog.specs.View.{view_change};
     ghost use Rattle.hgs_reader.specs.Answer.{is_of_outside, HasFaultCause, NeverFaults};
     ghost use Rattle.hgs_reader.specs.Asks.{Answers, AddsAnswer};
+    ghost use Rattle.hgs_reader.specs.Heads.{heads_text};
     ghost use Rattle.hgs_reader.specs.Line.{change_at, line_at, line_asks};
     ghost use Rattle.hgs_reader.specs.View.{open_asks};
 
@@ -143,6 +145,16 @@ impl Session {
             Err(refusal) => return Err(refusal),
         };
         into.extend_from_slice(&line)?;
+        Ok(())
+    }
+
+    /// Adds a line for each changeset without a child, ascending: revision, a space and the node. A refusal adds nothing.
+    pub fn heads(&self, into: &mut Vec<u8>) -> Result<(), AllocError>
+        ensures ok { OnOk result (into.new.items ≡ into.old.items ++ heads_text self.now) }
+        ensures err { OnErr result (into.new.items ≡ into.old.items) }
+    {
+        let lines = heads_of(self.alloc, &self.changelog)?;
+        into.extend_from_slice(&lines)?;
         Ok(())
     }
 }

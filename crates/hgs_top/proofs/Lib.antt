@@ -1,4 +1,5 @@
 pub mod ConcludeLemmas
+pub mod HeadsLemmas
 pub mod HistoryLemmas
 pub mod LogLemmas
 pub mod Written

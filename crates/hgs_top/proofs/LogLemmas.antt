@@ -1,8 +1,8 @@
 -- The lines so far and those to come are all lines.
-use Rattle.std.proofs.Common.{◌≡◌, ℕ, zero, suc, ◌-◌, ◌<◌, List, [], ◌∷◌, ◌++◌, length, take, Bool, true, false, Option, Some, None, Result, Ok, Err, OnOk, OnErr, refl, sym, ◌∙◌, ap, subst, arith, append_assoc, append-nil}
-use Rattle.std.specs.Prelude.{⊤, IfErr, IsErr, IfSome}
+use Rattle.std.proofs.Common.{◌≡◌, ℕ, zero, suc, ◌-◌, ◌<◌, List, [], ◌++◌, length, take, Bool, true, false, Option, Some, None, Result, Ok, Err, OnOk, refl, sym, ◌∙◌, ap, subst, arith, append_assoc, append-nil}
+use Rattle.std.specs.Prelude.{⊤, IfErr, IsErr}
 use Rattle.std.specs.Bool.{MatchBool}
-use Rattle.std.proofs.lemmas.List.{take_all, take_at}
+use Rattle.std.proofs.lemmas.List.{take_at}
 use Rattle.hgs_files.specs.declared.op.Op.{Op}
 use Rattle.hgs_files.specs.Streams.{IsWritten}
 use Rattle.hgs_files.specs.Tree.{Tree, after_all}
@@ -151,16 +151,17 @@ opened (Some l) seen1 start0 start1 view P s st a h =
     subst P (sym (ap (log_of_view t) found)) (subst T st (subst S s h))
 
 -- the loading was refused
-pub unopened : (seen0 seen1 : Option (List Op)) (start : Tree) (e : ReadAnswer) (o : Option (List ℕ)) → seen1 ≡ seen0 → Answers (λ (s : View). s) seen0 start seen1 open_asks (Err e) → OfTree seen0 start (λ t. IsTold (log_outcome t) o o (Err (Refused e)))
-unopened None seen1 start e o s a = tt
-unopened (Some l) seen1 start e o s a =
-    let t = after_all l start in
+pub unopened : (says : Tree → Result View ReadAnswer → Outcome) (seen0 seen1 : Option (List Op)) (start : Tree) (e : ReadAnswer) (o : Option (List ℕ)) → ((t : Tree) → says t (Err e) ≡ refused e) → seen1 ≡ seen0
+    → Answers (λ (s : View). s) seen0 start seen1 open_asks (Err e) → OfTree seen0 start (λ t. IsTold (says t (at_rest t open_asks)) o o (Err (Refused e)))
+unopened says None seen1 start e o same s a = tt
+unopened says (Some l) seen1 start e o same s a =
     told_by (is_of_outside e) (refused_at_rest (λ (v : View). v) (Some l) seen1 l start open_asks e refl s a)
   where
-    told_by : (b : Bool) → MatchBool b ⊤ (at_rest (after_all l start) open_asks ≡ Err e) → MatchBool b (IsFrontWritten o o (log_outcome (after_all l start)).text) (((log_outcome (after_all l start)).refusal ≡ Some e) × IsWritten o o (log_outcome (after_all l start)).text)
+    told_by : (b : Bool) → MatchBool b ⊤ (at_rest (after_all l start) open_asks ≡ Err e)
+        → MatchBool b (IsFrontWritten o o (says (after_all l start) (at_rest (after_all l start) open_asks)).text) (((says (after_all l start) (at_rest (after_all l start) open_asks)).refusal ≡ Some e) × IsWritten o o (says (after_all l start) (at_rest (after_all l start) open_asks)).text)
     told_by true m = (0, nothing_written o)
     told_by false m =
-        let is = ap (log_of_view (after_all l start)) m in
+        let is = ap (says (after_all l start)) m ∙ same (after_all l start) in
         let P : List ℕ → Type 0 = λ x. IsWritten o o x in
         (ap (λ (q : Outcome). q.refusal) is, subst P (sym (ap (λ (q : Outcome). q.text) is)) (nothing_written o))
 

@@ -3,6 +3,7 @@ use Rattle.std.specs.Prelude.{ℕ, zero, suc, List, [], ◌++◌, length, Option
 use Rattle.hgs_files.specs.Tree.{Tree}
 use Rattle.hgs_reader.specs.declared.answer.ReadAnswer.{ReadAnswer}
 use Rattle.hgs_reader.specs.Asks.{at_rest}
+use Rattle.hgs_reader.specs.Heads.{heads_text}
 use Rattle.hgs_reader.specs.Line.{line_asks}
 use Rattle.hgs_reader.specs.View.{View, open_asks}
 
@@ -34,3 +35,15 @@ log_of_view t (Ok view) = lines_of_view t view
 -- what `log` writes over files at rest: a line for each changeset, newest first, up to the first damage
 abbrev pub log_outcome : Tree → Outcome
 log_outcome t = log_of_view t (at_rest t open_asks)
+
+-- a line for each changeset without a child
+abbrev pub heads_of_view : View → Outcome
+heads_of_view view = record { text = heads_text view; refusal = None }
+
+abbrev pub heads_of_load : Result View ReadAnswer → Outcome
+heads_of_load (Err e) = refused e
+heads_of_load (Ok view) = heads_of_view view
+
+-- what `heads` writes over files at rest
+abbrev pub heads_outcome : Tree → Outcome
+heads_outcome t = heads_of_load (at_rest t open_asks)

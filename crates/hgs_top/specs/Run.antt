@@ -1,5 +1,5 @@
 -- What the top call leaves.
-use Rattle.std.specs.Prelude.{◌≡◌, ◌⊎◌, ℕ, List, [], ◌∷◌, ◌++◌, take, Option, Some, None, Result, Ok, Err, IfSome, Bool, ⊤, codes, decimal}
+use Rattle.std.specs.Prelude.{◌≡◌, ◌⊎◌, ℕ, List, [], ◌∷◌, ◌++◌, take, Option, Some, None, Result, Ok, Err, IfSome, ⊤, codes, decimal}
 use Rattle.std.specs.Bool.{MatchBool}
 use Rattle.hgs_files.specs.declared.op.Op.{Op}
 use Rattle.hgs_files.specs.declared.streams.IoFault.{IoFault}
@@ -7,13 +7,13 @@ use Rattle.hgs_files.specs.declared.streams.IoFault.TheVariants as io_faults
 use Rattle.hgs_files.specs.Streams.{IsWritten}
 use Rattle.hgs_files.specs.Tree.{Tree, after_all}
 use Rattle.hgs_reader.specs.declared.answer.ReadAnswer.{ReadAnswer}
-use Rattle.hgs_reader.specs.declared.answer.ReadAnswer.TheVariants.{Fault, Memory}
+use Rattle.hgs_reader.specs.declared.answer.ReadAnswer.TheVariants.{Fault}
 use Rattle.hgs_reader.specs.Answer.{status_of, refusal_line, is_of_outside}
 use Rattle.hgs_top.specs.declared.stopped.Stopped.{Stopped}
 use Rattle.hgs_top.specs.declared.stopped.Stopped.TheVariants.{Refused, Unwritten}
 use Rattle.hgs_top.specs.declared.words.Command.{Command}
-use Rattle.hgs_top.specs.declared.words.Command.TheVariants.{Log}
-use Rattle.hgs_top.specs.Outcome.{Outcome, log_outcome}
+use Rattle.hgs_top.specs.declared.words.Command.TheVariants.{Log, Heads}
+use Rattle.hgs_top.specs.Outcome.{Outcome, log_outcome, heads_outcome}
 
 -- a front of these bytes was written at the end
 abbrev pub IsFrontWritten : Option (List ℕ) → Option (List ℕ) → List ℕ → Type 0
@@ -94,6 +94,7 @@ Concludes (Err (Unwritten f)) old new status = (status ≡ status_of_sink f) × 
 -- what is said over files in this tree
 abbrev pub outcome_of : Command → Tree → Outcome
 outcome_of Log t = log_outcome t
+outcome_of Heads t = heads_outcome t
 
 -- what a run leaves in the sink, by its words
 abbrev pub Says : Result Command ℕ → Option (List Op) → Tree → ℕ → Option (List ℕ) → Option (List ℕ) → Type 0

@@ -1,8 +1,8 @@
 -- Which words fit, and what they ask for.
-use Rattle.std.specs.Prelude.{ℕ, ◌+◌, ◌-◌, Bool, true, false, ◌&&◌, ◌==◌, not, List, [], ◌∷◌, Result, Ok, Err, codes, if◌then◌else◌}
+use Rattle.std.specs.Prelude.{ℕ, ◌+◌, ◌-◌, Bool, true, false, ◌&&◌, ◌==◌, not, List, [], ◌∷◌, Option, Some, None, Result, Ok, Err, codes, if◌then◌else◌}
 use Rattle.hgs_bytes.specs.Bytes.{same, begins_with}
 use Rattle.hgs_top.specs.declared.words.Command.{Command}
-use Rattle.hgs_top.specs.declared.words.Command.TheVariants.{Log}
+use Rattle.hgs_top.specs.declared.words.Command.TheVariants.{Log, Heads}
 
 abbrev pub with_operand : List ℕ → Result (List (List ℕ)) ℕ → Result (List (List ℕ)) ℕ
 with_operand word (Ok words) = Ok (word ∷ words)
@@ -18,14 +18,19 @@ operands ended needed place (word ∷ words) =
     else if needed == 0 then Err place
     else with_operand word (operands ended (needed - 1) (place + 1) words)
 
-abbrev pub log_command : Result (List (List ℕ)) ℕ → Result Command ℕ
-log_command (Ok words) = Ok Log
-log_command (Err place) = Err place
+abbrev pub alone : Command → Result (List (List ℕ)) ℕ → Result Command ℕ
+alone command (Ok words) = Ok command
+alone command (Err place) = Err place
 
-abbrev pub command_with : List ℕ → List (List ℕ) → Result Command ℕ
-command_with word words = if same word (codes "log") then log_command (operands false 0 1 words) else Err 0
+abbrev pub command_named : List ℕ → Option Command
+command_named word = if same word (codes "log") then Some Log else if same word (codes "heads") then Some Heads else None
+
+-- neither command takes operands
+abbrev pub command_with : Option Command → List (List ℕ) → Result Command ℕ
+command_with None words = Err 0
+command_with (Some command) words = alone command (operands false 0 1 words)
 
 -- the command that the words are, or the place of the first word that doesn't fit
 abbrev pub command_of : List (List ℕ) → Result Command ℕ
 command_of [] = Err 0
-command_of (word ∷ words) = command_with word words
+command_of (word ∷ words) = command_with (command_named word) words

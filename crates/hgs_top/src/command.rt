@@ -5,8 +5,9 @@ ghost use Rattle.hgs_files.specs.Streams.{IsWritten};
 ghost use Rattle.hgs_files.specs.declared.streams.IoFault.TheVariants.{Failed};
 ghost use Rattle.hgs_reader.specs.declared.answer.ReadAnswer.TheVariants.{Fault};
 ghost use Rattle.hgs_reader.specs.Answer.{refusal_line, status_of};
-ghost use Rattle.hgs_top.specs.Run.{IsOneOf, OfTree, Answered, SaysBadWord, Concludes, bad_word_line, outcome_of, EndsLine, status_of_sink};
+ghost use Rattle.hgs_top.specs.Run.{IsOneOf, OfTree, IsTold, Answered, SaysBadWord, Concludes, bad_word_line, outcome_of, EndsLine, status_of_sink};
 
+use crate::heads::write_heads;
 use crate::log::write_log;
 use crate::output::write_all;
 use crate::stopped::Stopped;
@@ -91,6 +92,27 @@ fn conclude<K: Sink>(alloc: Global, ended: Result<(), Stopped>, out: &mut K) -> 
     }
 }
 
+// Answers the question that a command is, or says what stopped it.
+fn answer<R: Reads, K: Sink>(
+    alloc: Global,
+    command: Command,
+    files: &mut R,
+    out: &mut K,
+) -> Result<(), Stopped>
+    ensures told { R.alone ≡ true → OfTree (R.seen files.old) (R.start files.old) (λ t. IsTold (outcome_of command t) (K.written out.old) (K.written out.new) result) }
+    ensures same_start { R.start files.new ≡ R.start files.old }
+    ensures still { R.alone ≡ true → R.seen files.new ≡ R.seen files.old }
+    ensures fault { result ≡ Err (Stopped.Refused Fault) → Rose (R.faults files.old) (R.faults files.new) }
+    ensures later { R.faults files.old ≤ R.faults files.new }
+    ensures later_sink { K.faults out.old ≤ K.faults out.new }
+    ensures failed { result ≡ Err (Stopped.Unwritten Failed) → Rose (K.faults out.old) (K.faults out.new) }
+{
+    match command {
+        Command::Log => write_log(alloc, files, out),
+        Command::Heads => write_heads(alloc, files, out),
+    }
+}
+
 /// Does a command over files at rest, and gives the status.
 pub fn run_command<F: Files, K: Sink>(
     alloc: Global,
@@ -105,8 +127,6 @@ pub fn run_command<F: Files, K: Sink>(
     ensures same_start { F.start files.new ≡ F.start files.old }
     ensures statuses { IsOneOf (0 ∷ 15 ∷ 16 ∷ 19 ∷ 20 ∷ 23 ∷ 24 ∷ 27 ∷ 30 ∷ []) result }
 {
-    let ended = match command {
-        Command::Log => write_log(alloc, files, out),
-    };
+    let ended = answer(alloc, command, files, out);
     conclude(alloc, ended, out)
 }

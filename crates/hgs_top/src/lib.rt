@@ -2,6 +2,7 @@
 #![tactic(auto)]
 
 pub mod command;
+pub mod heads;
 pub mod laws;
 pub mod log;
 pub mod output;

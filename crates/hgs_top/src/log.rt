@@ -70,7 +70,7 @@ fn gather_lines<R: Reads, K: Sink>(
 }
 
 // Writes what was gathered up to the end.
-fn write_last<K: Sink>(out: &mut K, gathered: &[u8]) -> Result<(), Stopped>
+pub(crate) fn write_last<K: Sink>(out: &mut K, gathered: &[u8]) -> Result<(), Stopped>
     ensures ok { OnOk result (IsWritten (K.written out.old) (K.written out.new) gathered.now) }
     ensures err { IfErr result (λ e. IsUnwritten e × IsFrontWritten (K.written out.old) (K.written out.new) gathered.now) }
     ensures later { K.faults out.old ≤ K.faults out.new }

@@ -87,6 +87,7 @@ fn words_that_do_not_fit_are_named(rt: HostRuntime) -> Result<(), Fail> {
         (&["logs"], b"abort: bad word 0\n"),
         (&["log", "-r"], b"abort: bad word 1\n"),
         (&["log", "--", "x"], b"abort: bad word 2\n"),
+        (&["heads", "x"], b"abort: bad word 1\n"),
     ];
     for (words, line) in table {
         let (status, text) = asked(&rt, store(alloc, b"", b"")?, words, MemSink::new(alloc))?;
@@ -114,6 +115,32 @@ fn each_changeset_has_a_line_newest_first(rt: HostRuntime) -> Result<(), Fail> {
         assert_eq!(rt; status, 0);
         assert_eq!(rt; text.as_slice(), lines.as_slice());
     }
+    Ok(())
+}
+
+#[test]
+fn a_changeset_with_a_child_is_no_head(rt: HostRuntime) -> Result<(), Fail> {
+    let alloc = rt.alloc();
+    let one = store(alloc, FIRST, FIRST_CHUNK)?;
+    let (status, text) = asked(&rt, one, &["heads"], MemSink::new(alloc))?;
+    assert_eq!(rt; status, 0);
+    assert_eq!(rt;
+        text.as_slice(),
+        b"0 cb9a9f314b8b07ba71012fcdbc544b5a4d82ff5b\n".as_slice()
+    );
+    // what the texts hold is not looked at
+    let index = both(alloc, FIRST, SECOND)?;
+    let (status, text) = asked(
+        &rt,
+        store(alloc, &index, b"")?,
+        &["heads"],
+        MemSink::new(alloc),
+    )?;
+    assert_eq!(rt; status, 0);
+    assert_eq!(rt;
+        text.as_slice(),
+        b"1 37bdf19219c0e69b87d6371fabfaf5c3a63794d9\n".as_slice()
+    );
     Ok(())
 }
 

@@ -2,7 +2,7 @@
 ghost use Rattle.std.specs.Prelude.{◌≡◌, true, false, codes, map};
 ghost use Rattle.std.specs.String.{string_bytes};
 ghost use Rattle.hgs_bytes.specs.Bytes.{same};
-ghost use Rattle.hgs_top.specs.Words.{command_of, log_command, operands};
+ghost use Rattle.hgs_top.specs.Words.{alone, command_named, command_of, operands};
 
 use hgs_bytes::parts::equal;
 
@@ -10,6 +10,7 @@ use hgs_bytes::parts::equal;
 #[derive(Clone, Copy, Debug, PartialEq, Eq)]
 pub enum Command {
     Log,
+    Heads,
 }
 
 // Whether the word is `--`, which ends the options.
@@ -21,8 +22,7 @@ fn ends_options(word: &String) -> bool
 
 // The command, where nothing stands behind the `--`.
 fn ended(command: Command, words: &[String], place: usize) -> Result<Command, usize>
-    requires { command ≡ Command.Log }
-    ensures { result ≡ log_command (operands true 0 place (map string_bytes words.now)) }
+    ensures { result ≡ alone command (operands true 0 place (map string_bytes words.now)) }
 {
     match words {
         [] => Ok(command),
@@ -32,8 +32,7 @@ fn ended(command: Command, words: &[String], place: usize) -> Result<Command, us
 
 // The command, where no operands stand behind its word.
 fn alone(command: Command, words: &[String]) -> Result<Command, usize>
-    requires { command ≡ Command.Log }
-    ensures { result ≡ log_command (operands false 0 1 (map string_bytes words.now)) }
+    ensures { result ≡ alone command (operands false 0 1 (map string_bytes words.now)) }
 {
     match words {
         [] => Ok(command),
@@ -47,18 +46,28 @@ fn alone(command: Command, words: &[String]) -> Result<Command, usize>
     }
 }
 
+// The command with this name.
+fn command_named(word: &String) -> Option<Command>
+    ensures { result ≡ command_named (string_bytes word.now) }
+{
+    if equal(word.as_bytes(), b"log") {
+        Some(Command::Log)
+    } else if equal(word.as_bytes(), b"heads") {
+        Some(Command::Heads)
+    } else {
+        None
+    }
+}
+
 /// The command that the words are, or the place, from 0, of the first word that doesn't fit, the count of words where one is missing.
 pub fn command_from(words: &[String]) -> Result<Command, usize>
     ensures { result ≡ command_of (map string_bytes words.now) }
 {
     match words {
         [] => Err(0),
-        [word, rest @ ..] => {
-            if equal(word.as_bytes(), b"log") {
-                alone(Command::Log, rest)
-            } else {
-                Err(0)
-            }
-        }
+        [word, rest @ ..] => match command_named(word) {
+            Some(command) => alone(command, rest),
+            None => Err(0),
+        },
     }
 }

@@ -1,9 +1,9 @@
-use Rattle.std.proofs.Common.{List, ℕ, Ok, Err, OnOk, subst}
+use Rattle.std.proofs.Common.{List, ℕ, Err, OnOk, refl, subst}
 use Rattle.std.specs.Prelude.{IfErr}
 use Rattle.hgs_files.specs.Streams.{IsWritten}
 use Rattle.hgs_top.specs.declared.stopped.Stopped.{Stopped}
-use Rattle.hgs_top.specs.declared.stopped.Stopped.TheVariants.{Refused, Unwritten}
-use Rattle.hgs_top.specs.Outcome.{Outcome, lines_of_view}
+use Rattle.hgs_top.specs.declared.stopped.Stopped.TheVariants.{Unwritten}
+use Rattle.hgs_top.specs.Outcome.{lines_of_view, log_of_view}
 use Rattle.hgs_top.specs.Run.{OfTree, IsTold, IsFrontWritten, IsGathered, IsUnwritten, StopsAt}
 use Rattle.hgs_top.proofs.LogLemmas.{opened, unopened, last_told, before_told, of_each}
 use Rattle.hgs_top.proofs.log.write_log.Goals as goal
@@ -11,7 +11,7 @@ use Rattle.hgs_top.proofs.log.write_log.Goals as goal
 pub returns-in-Err-clause-told : goal.returns-in-Err-clause-told
 returns-in-Err-clause-told g c = λ alone.
     let e = c.in-Err.ensures in
-    unopened (g.R.Reads.seen c.args.files.now) (g.R.Reads.seen c.open.new.files) (g.R.Reads.start c.args.files.now) c.in-Err.refusal (g.K.Sink.written c.args.out.now) (e.still alone) e.answer
+    unopened log_of_view (g.R.Reads.seen c.args.files.now) (g.R.Reads.seen c.open.new.files) (g.R.Reads.start c.args.files.now) c.in-Err.refusal (g.K.Sink.written c.args.out.now) (λ t. refl) (e.still alone) e.answer
 
 pub returns-in-Ok-gather_lines-clause-told : goal.returns-in-Ok-gather_lines-clause-told
 returns-in-Ok-gather_lines-clause-told g c = λ alone.

@@ -1,7 +1,7 @@
-use Rattle.std.proofs.Common.{arith, sym, ◌∙◌}
+use Rattle.std.proofs.Common.{sym, ◌∙◌}
 use Rattle.std.specs.Option.{option_copied}
 use Rattle.hgs_reader.specs.Load.{asks_of}
-use Rattle.hgs_reader.proofs.FeedLemmas.{goes_on, last_piece, finished, none_left}
+use Rattle.hgs_reader.proofs.FeedLemmas.{goes_on, last_piece, finished}
 use Rattle.hgs_reader.proofs.load.LoadMachine.feed.Goals as goal
 
 pub returns-clause-fed : goal.returns-clause-fed

@@ -1,4 +1,4 @@
-use Rattle.std.proofs.Common.{◌≡◌, refl, slice_get, Err, ap, sym, ◌∙◌}
+use Rattle.std.proofs.Common.{refl, slice_get, Err, ap, sym, ◌∙◌}
 use Rattle.std.specs.Option.{option_map}
 use Rattle.hgs_revlog.specs.Text.{span_of}
 use Rattle.hgs_reader.specs.View.{View}

@@ -1,4 +1,4 @@
-use Rattle.std.proofs.Common.{◌≡◌, ◌≤◌, true, Bool}
+use Rattle.std.proofs.Common.{◌≡◌, ◌≤◌, true}
 use Rattle.hgs_files.specs.Reads.{Grows}
 use Rattle.hgs_reader.specs.Asks.{Continues}
 use Rattle.hgs_reader.specs.Load.{asks_of, reads_left}
