@@ -38,7 +38,7 @@ as_nobody() { # root may read every file
 }
 closed_output() { "$program" "$@" </dev/null >&-; }
 full_output() { "$program" "$@" </dev/null >/dev/full; }
-reader_gone() { # standard output is a pipe that nobody reads any more
+reader_gone() { # standard output is a pipe that nobody reads any more: the signal ends the program, 128 and its number
     local status
     status=$( { { sleep 0.2; "$program" "$@" </dev/null; echo $? >&3; } | :; } 3>&1)
     return "$status"
@@ -95,7 +95,7 @@ other_byte|plain|15|abort: damaged store/00changelog.i: revlog 7 0|log
 second_link|plain|0|log|log
 whole_store|closed_output|19|-|log
 whole_store|full_output|19|-|log
-whole_store|reader_gone|19|-|log
+whole_store|reader_gone|141|-|log
 no_hg|closed_output|19|-|log
 whole_store|not_text|28|abort: bad word 1|log
 whole_store|not_text|28|abort: bad word 0|

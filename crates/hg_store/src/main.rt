@@ -22,7 +22,7 @@ use hgs_top::run::run;
 use hgs_top::words::command_from;
 use std::alloc::AllocError;
 use std::os::fd::AsFd;
-use std::process::{ChildStdin, ExitCode};
+use std::process::ExitCode;
 
 // Refuses words of which the one behind these is not UTF-8: the first that does not fit is one of these, or that one.
 fn refuse_text<K: Sink>(rt: &HostRuntime, before: &[String], out: &mut K) -> u8 {
@@ -48,13 +48,12 @@ fn answer<K: Sink>(rt: &HostRuntime, out: &mut K) -> Result<u8, AllocError> {
 
 /// Ends with the status, with 19 at once where standard output is closed.
 ///
-/// Standard output is written to as the pipe to another process, a write to which fails where nobody reads any more; a
-/// write to `Stdout` would raise a signal then, and end the program without a status.
+/// Where standard output is a pipe that nobody reads any more, the system's signal ends the program, as it does most others.
 fn main(rt: HostRuntime) -> ExitCode {
-    let Ok(output) = rt.stdout().as_fd().try_clone_to_owned() else {
+    if rt.stdout().as_fd().try_clone_to_owned().is_err() {
         return ExitCode::from(19);
-    };
-    let mut out = OsSink::new(ChildStdin::from(output));
+    }
+    let mut out = OsSink::new(rt.stdout());
     match answer(&rt, &mut out) {
         Ok(status) => ExitCode::from(status),
         Err(_) => {
