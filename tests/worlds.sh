@@ -38,11 +38,14 @@ as_nobody() { # root may read every file
 }
 closed_output() { "$program" "$@" </dev/null >&-; }
 full_output() { "$program" "$@" </dev/null >/dev/full; }
-reader_gone() { # standard output is a pipe that nobody reads any more: the signal ends the program, 128 and its number
-    local status
-    status=$( { { sleep 0.2; "$program" "$@" </dev/null; echo $? >&3; } | :; } 3>&1)
+reader_gone() { # standard output is a pipe that nobody reads any more, and the signal for that is handled so
+    local handled=$1 status
+    shift
+    status=$( { { sleep 0.2; env "$handled" "$program" "$@" </dev/null; echo $? >&3; } | :; } 3>&1)
     return "$status"
 }
+reader_gone_ignored() { reader_gone --ignore-signal=PIPE "$@"; }
+reader_gone_default() { reader_gone --default-signal=PIPE "$@"; }
 not_text() { "$program" "$@" $'\xff' </dev/null; }
 
 # All names, kinds, modes, sizes and bytes of the current folder.
@@ -95,7 +98,8 @@ other_byte|plain|15|abort: damaged store/00changelog.i: revlog 7 0|log
 second_link|plain|0|log|log
 whole_store|closed_output|19|-|log
 whole_store|full_output|19|-|log
-whole_store|reader_gone|141|-|log
+whole_store|reader_gone_ignored|19|-|log
+whole_store|reader_gone_default|19|-|log
 no_hg|closed_output|19|-|log
 whole_store|not_text|28|abort: bad word 1|log
 whole_store|not_text|28|abort: bad word 0|

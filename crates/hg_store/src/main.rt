@@ -47,8 +47,6 @@ fn answer<K: Sink>(rt: &HostRuntime, out: &mut K) -> Result<u8, AllocError> {
 }
 
 /// Ends with the status, with 19 at once where standard output is closed.
-///
-/// Where standard output is a pipe that nobody reads any more, the system's signal ends the program, as it does most others.
 fn main(rt: HostRuntime) -> ExitCode {
     if rt.stdout().as_fd().try_clone_to_owned().is_err() {
         return ExitCode::from(19);
