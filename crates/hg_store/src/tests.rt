@@ -55,7 +55,6 @@ fn files_are_written_and_read(rt: HostRuntime) -> Result<(), Fail> {
     assert_eq!(rt; files.sync(&a), Ok(()));
     assert_eq!(rt; files.put(&b, b"new"), Ok(()));
     assert_eq!(rt; files.rename(&b, &a), Ok(()));
-    assert_eq!(rt; files.settle(), Ok(()));
     assert_eq!(rt; text(&rt, &mut files, "store/data/a.i", 0)?.as_str(), "new");
     assert_eq!(rt; text(&rt, &mut files, "b", 0)?.as_str(), "(absent)");
     assert_eq!(rt; files.create_new(&b, b"lock"), Ok(Created::Made));
