@@ -15,7 +15,6 @@ use Rattle.hgs_path.specs.declared.name.Ext.{Ext}
 use Rattle.hgs_path.specs.declared.name.Ext.TheVariants.{I, D}
 use Rattle.hgs_path.specs.declared.fncache.FncacheFault.{FncacheFault}
 use Rattle.hgs_path.specs.declared.fncache.FncacheFault.TheVariants.{Line}
-use Rattle.hgs_path.specs.declared.fncache.Fncache.{Fncache}
 use Rattle.std.specs.Prelude.{Vec}
 use Rattle.std.specs.declared.alloc.Global.{Global}
 use Rattle.std.specs.declared.cmp.Ordering.{Ordering}
@@ -25,7 +24,9 @@ use Rattle.std.specs.Cmp.Lexicographic.{slice_cmp}
 use Rattle.std.specs.Ordering.{nat_cmp, is_eq, match_ordering}
 use Rattle.hgs_files.proofs.TreeLemmas.{same_path-refl, same_path-eq}
 use Rattle.hgs_path.specs.StoreName.{ext_text, joined, ends_in, map_front, marked_directory, directory_step, listed_name}
-use Rattle.hgs_path.specs.Fncache.{unmarked_directory, undone_step, inner_within, path_within, ext_within, file_named, with_file, with_named, is_listed, with_name, names_from, as_files, has_path, listing}
+use Rattle.hgs_path.specs.Fncache.{with_file, with_named, as_files, listed_in}
+use Rattle.hgs_path.specs.ListedNames.{unmarked_directory, undone_step, inner_within, path_within, ext_within, file_named, is_listed, with_name, names_from}
+use Rattle.hgs_path.specs.Owners.{has_path}
 use Rattle.hgs_path.proofs.PartLemmas.{components-split, components-whole, components-some, listed-front}
 
 -- ---- parts without slashes
@@ -102,13 +103,16 @@ front-some [] y ys e = cc
 front-some (part ∷ []) y ys e = (part, [], refl)
 front-some (part ∷ next ∷ parts) y ys e = (marked_directory part, map_front marked_directory (next ∷ parts), refl)
 
-pub undone-step : (xs : List ℕ) → undone_step (directory_step xs) ≡ xs
-undone-step xs =
+-- the parts of a listed name
+pub directory-parts : (xs : List ℕ) → components (directory_step xs) ≡ map_front marked_directory (components xs)
+directory-parts xs =
     let some = components-some xs in
     let front = front-some (components xs) some.0 some.1 some.2 in
     let lacks = subst (AllByRecursion (Lacks 47)) front.2 (front-lack (components xs) (components-lack xs)) in
-    let again : components (directory_step xs) ≡ map_front marked_directory (components xs) = ap (λ l. components (joined l)) front.2 ∙ parts-again front.0 front.1 lacks ∙ sym front.2 in
-    ap (λ l. joined (map_front unmarked_directory l)) again ∙ ap joined (front-back (components xs)) ∙ joined-again xs
+    ap (λ l. components (joined l)) front.2 ∙ parts-again front.0 front.1 lacks ∙ sym front.2
+
+pub undone-step : (xs : List ℕ) → undone_step (directory_step xs) ≡ xs
+undone-step xs = ap (λ l. joined (map_front unmarked_directory l)) (directory-parts xs) ∙ ap joined (front-back (components xs)) ∙ joined-again xs
 
 -- ---- the file of a name
 
@@ -122,7 +126,7 @@ ext-length path D = front-appended path (codes ".d")
 pub path-again : (path : List ℕ) (ext : Ext) → path_within (listed_name path ext) ≡ path
 path-again path ext = ap (λ l. take (length l - 2) l) (inner-again path ext) ∙ ext-length path ext
 
-other-end : (path : List ℕ) → ends_in (path ++ codes ".d") (codes ".i") ≡ false
+pub other-end : (path : List ℕ) → ends_in (path ++ codes ".d") (codes ".i") ≡ false
 other-end path =
     let n : length (path ++ codes ".d") - 2 ≡ length path = omega (arith, length-append path (codes ".d")) in
     ap (λ k. same (drop k (path ++ codes ".d")) (codes ".i")) n ∙ ap (λ l. same l (codes ".i")) (drop_at path (codes ".d") (length path) refl)
@@ -263,18 +267,17 @@ pub files-start : (files : List ℕ → Ext → Bool) → files ≡ (λ path ext
 files-start files h (Ok names) = ap (λ f. Ok (λ q x. f q x || among (listed_name q x) names)) h
 files-start files h (Err e) = refl
 
-pub index-added : (f g : Fncache) (k : Vec ℕ Global) (cmp : Vec ℕ Global → Vec ℕ Global → Ordering) → ((a b : Vec ℕ Global) → cmp a b ≡ slice_cmp nat_cmp a.items b.items)
-    → g.indexes.keys ≡ insert_key cmp f.indexes.keys k → g.datas.keys ≡ f.datas.keys → listing g ≡ with_file (listing f) k.items I
-index-added f g k cmp is new kept = by-parts (listing g) (with_file (listing f) k.items I) each
-  where
-    each : (q : List ℕ) (x : Ext) → listing g q x ≡ with_file (listing f) k.items I q x
-    each q I = ap (λ ks. has_path ks q) new ∙ path-inserted cmp is q k f.indexes.keys
-    each q D = ap (λ ks. has_path ks q) kept
+module _ (ks ds : List (Vec ℕ Global)) (k : Vec ℕ Global) (cmp : Vec ℕ Global → Vec ℕ Global → Ordering) (is : (a b : Vec ℕ Global) → cmp a b ≡ slice_cmp nat_cmp a.items b.items) where
+  pub index-added : listed_in (insert_key cmp ks k) ds ≡ with_file (listed_in ks ds) k.items I
+  index-added = by-parts (listed_in (insert_key cmp ks k) ds) (with_file (listed_in ks ds) k.items I) each
+    where
+      each : (q : List ℕ) (x : Ext) → listed_in (insert_key cmp ks k) ds q x ≡ with_file (listed_in ks ds) k.items I q x
+      each q I = path-inserted cmp is q k ks
+      each q D = refl
 
-pub data-added : (f g : Fncache) (k : Vec ℕ Global) (cmp : Vec ℕ Global → Vec ℕ Global → Ordering) → ((a b : Vec ℕ Global) → cmp a b ≡ slice_cmp nat_cmp a.items b.items)
-    → g.datas.keys ≡ insert_key cmp f.datas.keys k → g.indexes.keys ≡ f.indexes.keys → listing g ≡ with_file (listing f) k.items D
-data-added f g k cmp is new kept = by-parts (listing g) (with_file (listing f) k.items D) each
-  where
-    each : (q : List ℕ) (x : Ext) → listing g q x ≡ with_file (listing f) k.items D q x
-    each q D = ap (λ ks. has_path ks q) new ∙ path-inserted cmp is q k f.datas.keys
-    each q I = ap (λ ks. has_path ks q) kept
+  pub data-added : listed_in ks (insert_key cmp ds k) ≡ with_file (listed_in ks ds) k.items D
+  data-added = by-parts (listed_in ks (insert_key cmp ds k)) (with_file (listed_in ks ds) k.items D) each
+    where
+      each : (q : List ℕ) (x : Ext) → listed_in ks (insert_key cmp ds k) q x ≡ with_file (listed_in ks ds) k.items D q x
+      each q I = refl
+      each q D = path-inserted cmp is q k ds

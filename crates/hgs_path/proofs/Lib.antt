@@ -1,6 +1,9 @@
 pub mod CheckLemmas
 pub mod ClashLemmas
+pub mod EnterLemmas
 pub mod FncacheLemmas
+pub mod LengthLemmas
+pub mod OwnersLemmas
 pub mod PartLemmas
 pub mod ReadableLemmas
 pub mod ShapeLemmas

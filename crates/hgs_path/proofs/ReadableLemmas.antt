@@ -22,7 +22,7 @@ use Rattle.hgs_path.proofs.FncacheLemmas.{joined-again, listed-once}
 abbrev digit_of : ℕ → ℕ
 digit_of c = unwrap_or (hex_digit_value c) 0
 
-abbrev letter_of : ℕ → ℕ
+abbrev pub letter_of : ℕ → ℕ
 letter_of c = cond (c == 95) 95 (c - 32)
 
 -- the first byte that a text spells, and what is behind it
@@ -55,7 +55,7 @@ letter-upper b e =
     let back : b + 32 - 32 ≡ b = omega arith in
     (ap (λ t. cond t 95 (b + 32 - 32)) other ∙ back, dots)
 
-letter-back : (b : ℕ) → (is_upper b || b == 95) ≡ true → (letter_of (lower b) ≡ b) × (is_dot_or_space (lower b) ≡ false)
+pub letter-back : (b : ℕ) → (is_upper b || b == 95) ≡ true → (letter_of (lower b) ≡ b) × (is_dot_or_space (lower b) ≡ false)
 letter-back b e = by (is_upper b) refl e
   where
     by : (t : Bool) → is_upper b ≡ t → (t || b == 95) ≡ true → (letter_of (cond t (b + 32) b) ≡ b) × (is_dot_or_space (cond t (b + 32) b) ≡ false)
@@ -130,7 +130,7 @@ reads-plain (b ∷ part) = (spelled Plain b, flat_map (spelled Plain) part, refl
 
 -- ---- the front
 
-abbrev Itself : ℕ → Type 0
+abbrev pub Itself : ℕ → Type 0
 Itself c = ((c == 126) ≡ false) × ((c == 95) ≡ false)
 
 pub record Single (part : List ℕ) (c : ℕ) (r : List ℕ) : Type 0 where
@@ -191,7 +191,7 @@ and-parts false b h = cc
 front-of : (stem front : List ℕ) → begins_with stem front ≡ true → stem ≡ front ++ drop (length front) stem
 front-of stem front h = sym (take-append-drop (length front) stem) ∙ ap (λ l. l ++ drop (length front) stem) (sym (same-eq front (take (length front) stem) h))
 
-device-letters : (stem : List ℕ) → is_device stem ≡ true → Letters stem
+pub device-letters : (stem : List ℕ) → is_device stem ≡ true → Letters stem
 device-letters stem =
     or-cases _ (is_port stem) (Letters stem)
     (or-cases _ (same stem (codes "nul")) _
@@ -206,7 +206,7 @@ device-letters stem =
     (λ k. record { x = 108; y = 112; z = 116; r = drop 3 stem; whole = front-of stem (codes "lpt") k; one = (refl, refl); two = (refl, refl); three = (refl, refl) })
     (and-parts (length stem == 4) _ (and-parts _ _ (and-parts _ _ h).0).0).1)
 
-text-letters : (text : List ℕ) (o : Option (List ℕ × List ℕ)) → split 46 text ≡ o → Letters (before_dot text o) → Letters text
+pub text-letters : (text : List ℕ) (o : Option (List ℕ × List ℕ)) → split 46 text ≡ o → Letters (before_dot text o) → Letters text
 text-letters text None e l = l
 text-letters text (Some p) e l = subst Letters (sym (split_parts 46 text p e).0) (letters-behind p.0 (46 ∷ p.1) l)
 
@@ -233,7 +233,7 @@ reads-front part = by (is_dot_or_space (slice_index (flat_map (spelled Plain) pa
 
 -- ---- the end
 
-abbrev last_of : List ℕ → ℕ
+abbrev pub last_of : List ℕ → ℕ
 last_of xs = slice_index xs (length xs - 1)
 
 index-behind : (xs : List ℕ) (e : ℕ) → slice_index (xs ++ e ∷ []) (length xs) ≡ e
@@ -243,7 +243,7 @@ index-behind (x ∷ xs) e = index-behind xs e
 last-behind : (xs : List ℕ) (e : ℕ) → last_of (xs ++ e ∷ []) ≡ e
 last-behind xs e = let n : length (xs ++ e ∷ []) - 1 ≡ length xs = omega (arith, length-append xs (e ∷ [])) in ap (slice_index (xs ++ e ∷ [])) n ∙ index-behind xs e
 
-digit-plain : (n : ℕ) → is_dot_or_space (slice_index lower_digits n) ≡ false
+pub digit-plain : (n : ℕ) → is_dot_or_space (slice_index lower_digits n) ≡ false
 digit-plain n = by lower_digits n (refl, (refl, (refl, (refl, (refl, (refl, (refl, (refl, (refl, (refl, (refl, (refl, (refl, (refl, (refl, (refl, tt))))))))))))))))
   where
     by : (xs : List ℕ) (k : ℕ) → AllByRecursion (λ b. is_dot_or_space b ≡ false) xs → is_dot_or_space (slice_index xs k) ≡ false
@@ -309,7 +309,7 @@ whole-at x (y ∷ ys) =
     let n : suc (length ys) + 1 ≡ suc (length ys + 1) = omega arith in
     (ap (λ l. x ∷ l) h.0, ap (λ k. drop k (x ∷ y ∷ ys)) n ∙ h.1)
 
-end-parts : (text : List ℕ) → is_dot_or_space (last_of text) ≡ true → (text ≡ take (length text - 1) text ++ last_of text ∷ []) × (drop (length text - 1 + 1) text ≡ [])
+pub end-parts : (text : List ℕ) → is_dot_or_space (last_of text) ≡ true → (text ≡ take (length text - 1) text ++ last_of text ∷ []) × (drop (length text - 1 + 1) text ≡ [])
 end-parts [] h = cc
 end-parts (x ∷ xs) h =
     let P : ℕ → Type 0 = λ k. (x ∷ xs ≡ take k (x ∷ xs) ++ slice_index (x ∷ xs) k ∷ []) × (drop (k + 1) (x ∷ xs) ≡ []) in

@@ -1,39 +1,16 @@
 -- The list of the filelogs' files.
-use Rattle.std.specs.Prelude.{◌≡◌, not, ℕ, ◌+◌, ◌-◌, List, [], ◌∷◌, Bool, false, true, ◌&&◌, ◌||◌, Option, Some, None, Result, Ok, Err, codes, length, take, drop, if◌then◌else◌}
-use Rattle.std.specs.List.{list_any}
-use Rattle.std.specs.Cmp.Lexicographic.{slice_cmp}
-use Rattle.std.specs.Ordering.{nat_cmp, is_eq}
-use Rattle.std.specs.Prelude.{Vec}
+use Rattle.std.specs.Prelude.{◌≡◌, not, ℕ, List, Bool, false, true, ◌&&◌, ◌||◌, Option, Some, None, Result, Ok, Err, Vec}
 use Rattle.std.specs.declared.alloc.Global.{Global}
 use Rattle.hex.specs.Hex.{IsBytes}
-use Rattle.hgs_bytes.specs.Bytes.{same, among, begins_with}
-use Rattle.hgs_bytes.specs.Path.{components}
-use Rattle.hgs_bytes.specs.Text.{lines_of}
+use Rattle.hgs_bytes.specs.Bytes.{same, among}
 use Rattle.hgs_path.specs.declared.name.Ext.{Ext}
 use Rattle.hgs_path.specs.declared.name.Ext.TheVariants.{I, D}
 use Rattle.hgs_path.specs.declared.fncache.Fncache.{Fncache}
 use Rattle.hgs_path.specs.declared.fncache.FncacheFault.{FncacheFault}
 use Rattle.hgs_path.specs.declared.fncache.FncacheFault.TheVariants.{Line, Memory}
-use Rattle.hgs_path.specs.StoreName.{ends_in, joined, map_front, listed_name, store_name}
-
--- ---- the text
-
--- `data/` stands in front and `.i` or `.d` at the end
-abbrev pub is_listed : List ℕ → Bool
-is_listed name = begins_with name (codes "data/") && (ends_in name (codes ".i") || ends_in name (codes ".d"))
-
-abbrev pub with_name : List ℕ → Result (List (List ℕ)) FncacheFault → Result (List (List ℕ)) FncacheFault
-with_name name (Ok names) = Ok (name ∷ names)
-with_name name (Err e) = Err e
-
--- the names of lines that each have their LF, or the number of the first line that is bad, where the first has this number
-abbrev pub names_from : ℕ → List (List ℕ × Bool) → Result (List (List ℕ)) FncacheFault
-names_from n [] = Ok []
-names_from n (l ∷ ls) = if l.1 && is_listed l.0 then with_name l.0 (names_from (n + 1) ls) else Err (Line n)
-
--- the names that a text lists, in its order
-abbrev pub names_of : List ℕ → Result (List (List ℕ)) FncacheFault
-names_of text = names_from 1 (lines_of text)
+use Rattle.hgs_path.specs.ListedNames.{names_of}
+use Rattle.hgs_path.specs.Owners.{has_path}
+use Rattle.hgs_path.specs.StoreName.{listed_name, store_name}
 
 -- ---- which files are listed
 
@@ -52,37 +29,14 @@ abbrev pub is_memory : FncacheFault → Bool
 is_memory (Line n) = false
 is_memory Memory = true
 
--- ---- the file of a listed name
-
-abbrev pub unmarked_directory : List ℕ → List ℕ
-unmarked_directory d = if ends_in d (codes ".hg") then take (length d - 3) d else d
-
--- the directory step back
-abbrev pub undone_step : List ℕ → List ℕ
-undone_step name = joined (map_front unmarked_directory (components name))
-
--- the path and the extension, as they stand behind `data/` before the directory step
-abbrev pub inner_within : List ℕ → List ℕ
-inner_within name = undone_step (drop 5 name)
-
-abbrev pub path_within : List ℕ → List ℕ
-path_within name = take (length (inner_within name) - 2) (inner_within name)
-
-abbrev pub ext_within : List ℕ → Ext
-ext_within name = if ends_in (inner_within name) (codes ".i") then I else D
-
--- the file that has this name, if one has: a directory that ends in `.i` has no `.hg` behind it in no name of a file
-abbrev pub file_named : List ℕ → Option (List ℕ × Ext)
-file_named name = if same (listed_name (path_within name) (ext_within name)) name then Some (path_within name, ext_within name) else None
-
 -- ---- the files that a value of the code lists
 
-abbrev pub has_path : List (Vec ℕ Global) → List ℕ → Bool
-has_path paths path = list_any (λ k. is_eq (slice_cmp nat_cmp path k.items)) paths
+abbrev pub listed_in : List (Vec ℕ Global) → List (Vec ℕ Global) → List ℕ → Ext → Bool
+listed_in indexes datas path I = has_path indexes path
+listed_in indexes datas path D = has_path datas path
 
 abbrev pub listing : Fncache → List ℕ → Ext → Bool
-listing f path I = has_path f.indexes.keys path
-listing f path D = has_path f.datas.keys path
+listing f = listed_in f.indexes.keys f.datas.keys
 
 -- these files and one more
 abbrev pub with_file : (List ℕ → Ext → Bool) → List ℕ → Ext → List ℕ → Ext → Bool
@@ -110,7 +64,7 @@ abbrev pub IsClash : (List ℕ → Ext → Bool) → List ℕ → Option (List �
 IsClash files path None = (other : List ℕ) → IsBytes other → is_path_of files other ≡ true → clashes path other ≡ false
 IsClash files path (Some other) = (is_path_of files other ≡ true) × (clashes path other ≡ true)
 
--- the same of a set of paths
-abbrev pub IsClashIn : List (Vec ℕ Global) → List ℕ → Option (List ℕ) → Type 0
-IsClashIn paths path None = list_any (λ k. clashes path k.items) paths ≡ false
-IsClashIn paths path (Some other) = (has_path paths other ≡ true) × (clashes path other ≡ true)
+-- the same for one of the two files
+abbrev pub IsClashAt : (List ℕ → Ext → Bool) → List ℕ → Ext → Option (List ℕ) → Type 0
+IsClashAt files path ext None = (other : List ℕ) → IsBytes other → is_path_of files other ≡ true → (not (same other path) && same (store_name other ext) (store_name path ext)) ≡ false
+IsClashAt files path ext (Some other) = (is_path_of files other ≡ true) × (clashes path other ≡ true)

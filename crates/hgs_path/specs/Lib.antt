@@ -1,3 +1,5 @@
 pub mod Check
 pub mod Fncache
+pub mod ListedNames
+pub mod Owners
 pub mod StoreName

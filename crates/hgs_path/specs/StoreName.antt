@@ -1,6 +1,6 @@
 -- The name of a filelog's file in the store.
 use Rattle.std.specs.Prelude.{ℕ, ◌+◌, ◌-◌, List, [], ◌∷◌, ◌++◌, Bool, ◌&&◌, ◌||◌, ◌==◌, nat_le, nat_lt, length, take, drop, map, flat_map, slice_index, Option, Some, None, codes, if◌then◌else◌}
-use Rattle.std.specs.List.{list_any, join_with_byte}
+use Rattle.std.specs.List.{list_any, join_with_byte, sum_by}
 use Rattle.hex.specs.Hex.{encode_lower}
 use Rattle.sha1.specs.Sha1.{sha1}
 use Rattle.hgs_bytes.specs.Bytes.{same, begins_with}
@@ -151,6 +151,15 @@ hashed_name name ext =
     let parts = components (spelled_name Hashed (drop 5 name)) in hashed_from (short_directories parts) (last_part parts) name ext
 
 -- ---- the name
+
+-- A byte of a path makes at most so many bytes of a plain name. With a dot is counted the `.hg` that its directory can
+-- get, and with a slash the escape of a device's name behind it.
+abbrev pub most_spelled : ℕ → ℕ
+most_spelled b = if b == 46 then 8 else if b == 47 || b == 32 || is_escaped b then 3 else if is_upper b || b == 95 then 2 else 1
+
+-- a path whose two names are surely plain: `data/`, the extension and a device's name in front make at most 19 bytes more
+abbrev pub is_short : List ℕ → Bool
+is_short path = nat_le (sum_by most_spelled path) 101
 
 -- the plain form has at most 120 bytes
 abbrev pub is_plain : List ℕ → Bool

@@ -1,14 +1,14 @@
 //! The list `fncache` of the filelogs' files (Mercurial's wiki page "fncacheRepoFormat").
-ghost use Rattle.std.specs.Prelude.{◌≡◌, ◌++◌, ◌&&◌, false, OnOk, OnErr, IfOk, codes, option_map, if◌then◌else◌};
-ghost use Rattle.hgs_path.specs.declared.name.Ext.TheVariants.{I, D};
-ghost use Rattle.hgs_bytes.specs.Bytes.{same};
+ghost use Rattle.std.specs.Prelude.{◌≡◌, ◌++◌, List, ℕ, Bool, false, OnOk, OnErr, IfOk, codes, option_map, if◌then◌else◌};
 ghost use Rattle.hgs_bytes.specs.Answer.{Gives};
 ghost use Rattle.hgs_bytes.specs.Text.{line};
 ghost use Rattle.hgs_path.specs.declared.name.Ext.{Ext};
-ghost use Rattle.hgs_path.specs.StoreName.{ends_in, is_plain, listed_name, store_name};
-ghost use Rattle.hgs_path.specs.Fncache.{is_listed, unmarked_directory, undone_step, file_named, files_of, is_memory, listing, with_file, with_named, clashes, IsClash, IsClashIn};
+ghost use Rattle.hgs_path.specs.StoreName.{ends_in, listed_name};
+ghost use Rattle.hgs_path.specs.Owners.{Keeps, owns_name, with_path, with_file_name};
+ghost use Rattle.hgs_path.specs.ListedNames.{is_listed, unmarked_directory, undone_step, file_named};
 
-use crate::name::{Ext, is_plain, listed_name, store_name};
+use crate::name::{Ext, hashed_store_name, is_short, listed_name};
+use crate::owners::Owners;
 use crate::parts::ends;
 use hgs_bytes::parts::{equal, front, next_line, past, split_at_byte, starts};
 use std::alloc::{AllocError, Global};
@@ -37,6 +37,9 @@ impl From<AllocError> for FncacheFault {
 pub struct Fncache {
     indexes: BTreeSet<Vec<u8>>,
     datas: BTreeSet<Vec<u8>>,
+    /// The listed paths by their hashed names.
+    owners: Owners,
+    ghost owners_kept: { Keeps (owns_name indexes.keys datas.keys) owners },
 }
 
 /// Whether a line may stand in the list.
@@ -90,54 +93,30 @@ fn file_named(alloc: Global, name: &[u8]) -> Result<Option<(Vec<u8>, Ext)>, Allo
     Ok(None)
 }
 
-/// Whether these files of two paths have one name in the store.
-fn same_names(alloc: Global, path: &[u8], other: &[u8], ext: Ext) -> Result<bool, AllocError>
-    ensures { IfOk result (λ b. b ≡ same (store_name other.now ext) (store_name path.now ext)) }
+/// Enters a file's path under its name where that is hashed.
+fn enter_file(alloc: Global, path: &[u8], ext: Ext, owners: &mut Owners) -> Result<(), AllocError>
+    ensures { OnOk result ((owns : List ℕ → List ℕ → Bool) → Keeps owns owners.old → Keeps (with_file_name owns path.now ext) owners.new) }
 {
-    let name = store_name(alloc, path, ext)?;
-    let others = store_name(alloc, other, ext)?;
-    Ok(equal(others.bytes(), name.bytes()))
+    match hashed_store_name(alloc, path, ext)? {
+        Some(name) => owners.add(alloc, name, path),
+        None => Ok(()),
+    }
 }
 
-/// Whether `other` is another path, with the same name for one of its two files.
-fn clashes(alloc: Global, path: &[u8], other: &[u8]) -> Result<bool, AllocError>
-    ensures { IfOk result (λ b. b ≡ clashes path.now other.now) }
+/// Enters a path under those of its two names that are hashed, mostly none.
+fn enter(alloc: Global, path: &[u8], owners: &mut Owners) -> Result<(), AllocError>
+    ensures { OnOk result ((owns : List ℕ → List ℕ → Bool) → Keeps owns owners.old → Keeps (with_path owns path.now) owners.new) }
 {
-    if equal(other, path) {
-        return Ok(false);
+    if is_short(path) {
+        return Ok(());
     }
-    if same_names(alloc, path, other, Ext::I)? {
-        return Ok(true);
-    }
-    same_names(alloc, path, other, Ext::D)
-}
-
-/// A path of the set that clashes with this one.
-fn clash_in(
-    alloc: Global,
-    paths: &BTreeSet<Vec<u8>>,
-    path: &[u8],
-) -> Result<Option<Vec<u8>>, AllocError>
-    ensures { IfOk result (λ found. IsClashIn paths.now.keys path.now (option_map (λ p. p.items) found)) }
-{
-    for other in paths.iter() {
-        if clashes(alloc, path, other)? {
-            return Ok(Some(Vec::from_slice(alloc, other)?));
-        }
-    }
-    Ok(None)
-}
-
-/// Whether neither name of a path's files is hashed.
-fn has_plain_names(alloc: Global, path: &[u8]) -> Result<bool, AllocError>
-    ensures { IfOk result (λ b. b ≡ (is_plain (listed_name path.now I) && is_plain (listed_name path.now D))) }
-{
-    let index = listed_name(alloc, path, Ext::I)?;
-    let data = listed_name(alloc, path, Ext::D)?;
-    Ok(is_plain(alloc, &index)? && is_plain(alloc, &data)?)
+    enter_file(alloc, path, Ext::I, owners)?;
+    enter_file(alloc, path, Ext::D, owners)
 }
 
 impl Fncache {
+    ghost use Rattle.hgs_path.specs.Fncache.{files_of, is_memory, listing, with_file, with_named, IsClash, IsClashAt};
+
     /// A list without files.
     fn empty(alloc: Global) -> Fncache
         ensures { listing result ≡ (λ path ext. false) }
@@ -145,30 +124,43 @@ impl Fncache {
         Fncache {
             indexes: BTreeSet::new(alloc),
             datas: BTreeSet::new(alloc),
+            owners: Owners::new(alloc),
         }
     }
 
-    fn add_file(&mut self, path: Vec<u8>, ext: Ext) -> Result<(), AllocError>
-        ensures { OnOk result (listing self.new ≡ with_file (listing self.old) path.items ext) }
+    fn with_file(self, alloc: Global, path: Vec<u8>, ext: Ext) -> Result<Fncache, AllocError>
+        ensures { IfOk result (λ fncache. listing fncache ≡ with_file (listing self) path.items ext) }
     {
+        let Fncache {
+            mut indexes,
+            mut datas,
+            mut owners,
+        } = self;
+        enter(alloc, &path, &mut owners)?;
         match ext {
-            Ext::I => self.indexes.insert(path)?,
-            Ext::D => self.datas.insert(path)?,
+            Ext::I => indexes.insert(path)?,
+            Ext::D => datas.insert(path)?,
         };
-        Ok(())
+        Ok(Fncache {
+            indexes,
+            datas,
+            owners,
+        })
     }
 
-    fn add_named(&mut self, alloc: Global, name: &[u8]) -> Result<(), AllocError>
-        ensures { OnOk result (listing self.new ≡ with_named (listing self.old) (file_named name.now)) }
+    fn with_named(self, alloc: Global, name: &[u8]) -> Result<Fncache, AllocError>
+        ensures { IfOk result (λ fncache. listing fncache ≡ with_named (listing self) (file_named name.now)) }
     {
         match file_named(alloc, name)? {
-            Some((path, ext)) => self.add_file(path, ext),
-            None => Ok(()),
+            Some((path, ext)) => self.with_file(alloc, path, ext),
+            None => Ok(self),
         }
     }
 
     /// The files that a text lists, or the first line that does not begin with `data/`, ends in neither `.i` nor `.d`, or
     /// has no LF.
+    ///
+    /// For a path that is not short it also works out both names, which takes longer than the rest.
     pub fn read(alloc: Global, bytes: &[u8]) -> Result<Fncache, FncacheFault>
         ensures { Gives is_memory listing result (files_of bytes.now) }
     {
@@ -180,7 +172,7 @@ impl Fncache {
             if !is_whole || !is_listed(name) {
                 return Err(FncacheFault::Line(number));
             }
-            fncache.add_named(alloc, name)?;
+            fncache = fncache.with_named(alloc, name)?;
             number += 1;
             rest = behind;
         }
@@ -200,17 +192,30 @@ impl Fncache {
     /// Another listed path that has the same store name for one of its two files, or `None` where no other listed path
     /// has. One file of the other path is enough for it to be listed.
     ///
-    /// Names that are not hashed differ, so for a path that has two such names this takes constant time. For one with a
-    /// hashed name, which is rare, it names each listed path again.
+    /// Beside the cost of the path's own two names this takes logarithmic time, and constant time for a short path: names
+    /// that are not hashed differ.
     pub fn clash(&self, alloc: Global, path: &[u8]) -> Result<Option<Vec<u8>>, AllocError>
         ensures { IfOk result (λ found. IsClash (listing self.now) path.now (option_map (λ p. p.items) found)) }
     {
-        if has_plain_names(alloc, path)? {
+        if is_short(path) {
             return Ok(None);
         }
-        match clash_in(alloc, &self.indexes, path)? {
+        match self.clash_at(alloc, path, Ext::I)? {
             Some(other) => Ok(Some(other)),
-            None => clash_in(alloc, &self.datas, path),
+            None => self.clash_at(alloc, path, Ext::D),
+        }
+    }
+
+    /// Another listed path whose file of this kind has the same name.
+    fn clash_at(&self, alloc: Global, path: &[u8], ext: Ext) -> Result<Option<Vec<u8>>, AllocError>
+        ensures { IfOk result (λ found. IsClashAt (listing self.now) path.now ext (option_map (λ p. p.items) found)) }
+    {
+        match hashed_store_name(alloc, path, ext)? {
+            Some(name) => match self.owners.other(&name, path) {
+                Some(other) => Ok(Some(Vec::from_slice(alloc, other)?)),
+                None => Ok(None),
+            },
+            None => Ok(None),
         }
     }
 
@@ -249,15 +254,18 @@ mod tests {
         Ok(())
     }
 
+    // The digest in a hashed name is that of the name in the list, and no two names are known that begin with `data/` and
+    // have one digest. So only paths that do not clash can be tried: those whose hashed names differ in the digest alone.
     #[test]
     fn no_clashes(rt: HostRuntime) -> Result<(), Fail> {
-        let long = [b'A'; 60];
+        let (upper, lower) = ([b'A'; 120], [b'a'; 120]);
         let mut text = Vec::new(rt.alloc());
-        Fncache::add_line(&long, Ext::I, &mut text)?;
+        Fncache::add_line(&upper, Ext::D, &mut text)?;
+        Fncache::add_line(&upper, Ext::I, &mut text)?;
         Fncache::add_line(b"a.i/b", Ext::I, &mut text)?;
         let fncache = Fncache::read(rt.alloc(), &text)?;
-        assert!(rt; fncache.contains(&long, Ext::I));
-        for path in [b"a.i/b".as_slice(), b"c", &long, &[b'a'; 120]] {
+        assert!(rt; fncache.contains(&upper, Ext::I));
+        for path in [b"a.i/b".as_slice(), b"c", &upper, &lower] {
             assert!(rt; fncache.clash(rt.alloc(), path)?.is_none());
         }
         Ok(())

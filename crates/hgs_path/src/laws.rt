@@ -1,10 +1,13 @@
 //! What the definitions of this crate imply. Each function is one law; none does anything.
-ghost use Rattle.std.specs.Prelude.{◌≡◌, true, List, ℕ, is_ok};
+ghost use Rattle.std.specs.Prelude.{◌≡◌, ◌⊎◌, true, List, ℕ, is_ok};
 ghost use Rattle.hex.specs.Hex.{IsBytes};
 ghost use Rattle.hgs_index.specs.TrackedPath.{is_tracked};
+ghost use Rattle.sha1.specs.Sha1.{sha1};
 ghost use Rattle.hgs_path.specs.declared.name.Ext.{Ext};
+ghost use Rattle.hgs_path.specs.declared.name.Ext.TheVariants.{I, D};
+ghost use Rattle.hgs_path.specs.Fncache.{clashes};
 ghost use Rattle.hgs_path.specs.Check.{checked};
-ghost use Rattle.hgs_path.specs.StoreName.{is_plain, listed_name, store_name};
+ghost use Rattle.hgs_path.specs.StoreName.{is_plain, is_short, listed_name, store_name};
 
 /// A path has no fault exactly where it is tracked.
 pub fn tracked_without_fault()
@@ -19,4 +22,14 @@ pub fn listed_names_differ()
 /// Files whose names are not hashed have different names.
 pub fn plain_names_differ()
     ensures { (p q : List ℕ) (e f : Ext) → IsBytes p → IsBytes q → is_plain (listed_name p e) ≡ true → is_plain (listed_name q f) ≡ true → store_name p e ≡ store_name q f → (p ≡ q) × (e ≡ f) }
+{}
+
+/// The names of a short path's files are not hashed.
+pub fn short_paths_have_plain_names()
+    ensures { (path : List ℕ) (ext : Ext) → is_short path ≡ true → is_plain (listed_name path ext) ≡ true }
+{}
+
+/// Two paths clash only where SHA-1 gives one digest of two names in the list, which differ.
+pub fn clashes_are_collisions()
+    ensures { (p q : List ℕ) → IsBytes p → IsBytes q → clashes p q ≡ true → (sha1 (listed_name p I) ≡ sha1 (listed_name q I)) ⊎ (sha1 (listed_name p D) ≡ sha1 (listed_name q D)) }
 {}

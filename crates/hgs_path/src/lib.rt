@@ -5,5 +5,6 @@ pub mod check;
 pub mod fncache;
 pub mod laws;
 pub mod name;
+mod owners;
 mod parts;
 mod spell;

@@ -1,12 +1,12 @@
 //! The names of a filelog's two files (Mercurial's wiki page "fncacheRepoFormat" and its module `store`).
-ghost use Rattle.std.specs.Prelude.{◌≡◌, ◌++◌, ◌≤◌, OnOk, IfOk, codes, length};
+ghost use Rattle.std.specs.Prelude.{◌≡◌, ◌++◌, ◌≤◌, OnOk, IfOk, codes, length, if◌then◌else◌};
 ghost use Rattle.hgs_bytes.specs.Path.{components};
 ghost use Rattle.hex.specs.Hex.{encode_lower};
 ghost use Rattle.sha1.specs.Sha1.{sha1};
-ghost use Rattle.hgs_path.specs.StoreName.{ext_text, whole_path, marked_directory, directory_step, listed_name, short_directory, short_directories, hashed_name, is_plain, encoded_name, store_name};
+ghost use Rattle.hgs_path.specs.StoreName.{ext_text, whole_path, marked_directory, directory_step, listed_name, short_directory, short_directories, hashed_name, most_spelled, is_short, is_plain, encoded_name, store_name};
 
 use crate::parts::{ends, last_part};
-use crate::spell::{Form, is_dot_or_space, spelled_name};
+use crate::spell::{Form, is_dot_or_space, is_escaped, spelled_name};
 use hex::encode_to_slice;
 use hgs_bytes::parts::{front, split_at_byte};
 use hgs_files::path::{NameFault, StorePath};
@@ -127,10 +127,39 @@ fn hashed_name(alloc: Global, name: &[u8], ext: Ext) -> Result<Vec<u8>, AllocErr
 }
 
 /// Whether the plain form of a listed name is short enough.
-pub(crate) fn is_plain(alloc: Global, name: &[u8]) -> Result<bool, AllocError>
+fn is_plain(alloc: Global, name: &[u8]) -> Result<bool, AllocError>
     ensures { IfOk result (λ b. b ≡ is_plain name.now) }
 {
     Ok(spelled_name(alloc, Form::Plain, name)?.len() <= 120)
+}
+
+/// The most bytes of a plain name that a byte of the path can make.
+fn most_spelled(byte: u8) -> usize
+    ensures { result ≡ most_spelled byte }
+{
+    if byte == b'.' {
+        8
+    } else if byte == b'/' || byte == b' ' || is_escaped(byte) {
+        3
+    } else if (byte >= b'A' && byte <= b'Z') || byte == b'_' {
+        2
+    } else {
+        1
+    }
+}
+
+/// Whether a path is so short that its two names are surely plain. It takes no memory, and spares most paths the spelling.
+pub(crate) fn is_short(path: &[u8]) -> bool
+    ensures { result ≡ is_short path.now }
+{
+    let mut most = 0;
+    for byte in path {
+        most += most_spelled(*byte);
+        if most > 101 {
+            return false;
+        }
+    }
+    true
 }
 
 /// What a listed name is called in the store.
@@ -166,6 +195,21 @@ pub fn store_name(alloc: Global, path: &[u8], ext: Ext) -> Result<StorePath, All
 {
     let listed = listed_name(alloc, path, ext)?;
     path_of(alloc, &listed, ext)
+}
+
+/// The name of a filelog's file where it is hashed, and none where it is plain.
+pub(crate) fn hashed_store_name(
+    alloc: Global,
+    path: &[u8],
+    ext: Ext,
+) -> Result<Option<StorePath>, AllocError>
+    ensures { IfOk result (λ name. name ≡ (if is_plain (listed_name path.now ext) then None else Some (store_name path.now ext))) }
+{
+    let listed = listed_name(alloc, path, ext)?;
+    if is_plain(alloc, &listed)? {
+        return Ok(None);
+    }
+    Ok(Some(path_of(alloc, &listed, ext)?))
 }
 
 #[cfg(test)]

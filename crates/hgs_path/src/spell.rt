@@ -15,7 +15,7 @@ pub enum Form {
     Hashed,
 }
 
-fn is_escaped(byte: u8) -> bool
+pub(crate) fn is_escaped(byte: u8) -> bool
     ensures { result ≡ is_escaped byte }
 {
     byte < 32

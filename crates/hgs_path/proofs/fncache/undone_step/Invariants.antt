@@ -1,5 +1,5 @@
 use Rattle.std.proofs.Common.{◌≡◌, ◌++◌, length}
-use Rattle.hgs_path.specs.Fncache.{undone_step}
+use Rattle.hgs_path.specs.ListedNames.{undone_step}
 use Rattle.hgs_path.proofs.fncache.undone_step.Given as goal
 
 abbrev pub invariant-loop-directory : goal.invariant-loop-directory

@@ -1,6 +1,7 @@
 use Rattle.std.proofs.Common.{◌≡◌, ◌+◌, ◌∷◌, ◌∙◌, ap, sym, true, arith, rules}
 use Rattle.hgs_bytes.specs.Text.{lines_of}
-use Rattle.hgs_path.specs.Fncache.{is_listed, names_from, listing}
+use Rattle.hgs_path.specs.Fncache.{listing}
+use Rattle.hgs_path.specs.ListedNames.{is_listed, names_from}
 use Rattle.hgs_path.proofs.FncacheLemmas.{files_more, files-start, more-line}
 use Rattle.hgs_path.proofs.fncache.Fncache.read.Goals as goal
 
@@ -16,7 +17,7 @@ loop-rest-preserved c =
     let line = c.next_line-is_whole.ensures.lines ∙ ap (λ t. (name, t) ∷ lines_of behind) whole in
     let shorter = c.next_line-is_whole.ensures.shorter in
     record {
-      left = ap (λ fs. files_more fs (names_from (c.loop-rest.number + 1) (lines_of behind))) c.in_ok-add_named.ensures
+      left = ap (λ fs. files_more fs (names_from (c.loop-rest.number + 1) (lines_of behind))) c.in_ok-fncache.ensures
           ∙ more-line (listing c.loop-rest.fncache) c.loop-rest.number name (lines_of behind) listed
           ∙ ap (λ ls. files_more (listing c.loop-rest.fncache) (names_from c.loop-rest.number ls)) (sym line)
           ∙ c.loop-rest.invariant.left;

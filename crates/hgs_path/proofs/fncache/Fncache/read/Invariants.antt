@@ -1,6 +1,7 @@
 use Rattle.std.proofs.Common.{◌≡◌, ◌+◌, ◌≤◌, length}
 use Rattle.hgs_bytes.specs.Text.{lines_of}
-use Rattle.hgs_path.specs.Fncache.{files_of, names_from, listing}
+use Rattle.hgs_path.specs.Fncache.{files_of, listing}
+use Rattle.hgs_path.specs.ListedNames.{names_from}
 use Rattle.hgs_path.proofs.FncacheLemmas.{files_more}
 use Rattle.hgs_path.proofs.fncache.Fncache.read.Given as goal
 
