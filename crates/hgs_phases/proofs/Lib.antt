@@ -1,5 +1,6 @@
+pub mod AdvanceLemmas
 pub mod LoadedLemmas
-pub mod MoveLemmas
 pub mod PhaseLemmas
 pub mod PrintLemmas
+pub mod RetractLemmas
 pub mod RootsLemmas

@@ -1,13 +1,12 @@
 -- The phases that roots give, from parents to children.
-use Rattle.std.proofs.Common.{◌≡◌, ◌⊎◌, ◌<◌, ◌≤◌, ℕ, zero, suc, ◌+◌, Bool, true, false, ◌||◌, List, [], ◌∷◌, length, map, drop, Option, Some, None, refl, sym, ◌∙◌, ap, subst, inl, inr, arith}
-use Rattle.std.specs.Prelude.{◌==◌, IfSome, slice_get, slice_index_or, if◌then◌else◌}
-use Rattle.std.specs.List.{range_with_len}
+use Rattle.std.proofs.Common.{append_assoc, append-nil, length-append, take, ◌++◌, ◌≡◌, ◌⊎◌, ◌<◌, ◌≤◌, ℕ, zero, suc, ◌+◌, Bool, true, false, ◌||◌, List, [], ◌∷◌, length, map, drop, Option, Some, None, refl, sym, ◌∙◌, ap, subst, inl, inr, arith}
+use Rattle.std.specs.Prelude.{◌==◌, IfSome, slice_get, slice_index_or, if◌then◌else◌, nat_lt}
+use Rattle.std.specs.List.{range_with_len, list_any}
 use Rattle.std.proofs.lemmas.Bool.Decides.{nat_tests}
 use Rattle.std.proofs.lemmas.List.{get_or-set_same, get_or-set_other, length-set}
-use Rattle.hgs_index.specs.Ancestor.{IsAncestor, itself, of_parent, is_ancestor}
-use Rattle.hgs_index.specs.Revision.{Parents, ParentsBefore}
+use Rattle.hgs_index.specs.Ancestor.{is_ancestor, ancestors_at, ancestors_from}
+use Rattle.hgs_index.specs.Revision.{Parents}
 use Rattle.hgs_index.specs.declared.entry.Entry.{Entry}
-use Rattle.hgs_index.proofs.AncestorTestLemmas.{is_ancestor-decides}
 use Rattle.hgs_revlog.specs.Log.{place_of}
 use Rattle.hgs_phases.specs.declared.phase.Phase.{Phase}
 use Rattle.hgs_phases.specs.declared.phase.Phase.TheVariants.{Public, Draft, Secret}
@@ -67,15 +66,15 @@ same_when true b h k = sym (h refl)
 same_when false true h k = k refl
 same_when false false h k = refl
 
-or-cases : (a b : Bool) → (a || b) ≡ true → (a ≡ true) ⊎ (b ≡ true)
+pub or-cases : (a b : Bool) → (a || b) ≡ true → (a ≡ true) ⊎ (b ≡ true)
 or-cases true b h = inl refl
 or-cases false b h = inr h
 
-or-left : (a b : Bool) → a ≡ true → (a || b) ≡ true
+pub or-left : (a b : Bool) → a ≡ true → (a || b) ≡ true
 or-left true b h = refl
 or-left false b h = cc
 
-or-right : (a b : Bool) → b ≡ true → (a || b) ≡ true
+pub or-right : (a b : Bool) → b ≡ true → (a || b) ≡ true
 or-right true b h = refl
 or-right false b h = h
 
@@ -93,51 +92,114 @@ abbrev pub reaches_parent : List Parents → ℕ → Option ℕ → Bool
 reaches_parent history a None = false
 reaches_parent history a (Some q) = is_ancestor history a q
 
-pub before_at : (k : ℕ) (history : List Parents) (i : ℕ) (p : Parents) → ParentsBefore k history → slice_get history i ≡ Some p → IfSome p.0 (λ a. a < k + i) × IfSome p.1 (λ b. b < k + i)
-before_at k [] i p h e = cc
-before_at k (q ∷ history) zero p h e =
-    let is = some_is q p e in
-    let n : k ≡ k + 0 = omega arith in
-    subst (λ (r : Parents). IfSome r.0 (λ a. a < k + 0) × IfSome r.1 (λ b. b < k + 0)) is (subst (λ m. IfSome q.0 (λ a. a < m) × IfSome q.1 (λ b. b < m)) n (h.0, h.1))
-before_at k (q ∷ history) (suc i) p h e =
-    let n : suc k + i ≡ k + suc i = omega arith in
-    subst (λ m. IfSome p.0 (λ a. a < m) × IfSome p.1 (λ b. b < m)) n (before_at (suc k) history i p h.2 e)
+-- a parent, where it stands before its child
+abbrev pub earlier : ℕ → Option ℕ → Option ℕ
+earlier n None = None
+earlier n (Some q) = if nat_lt q n then Some q else None
 
-parent-there : (history : List Parents) → ParentsBefore 0 history → (a rev : ℕ) → rev < length history → (o : Option ℕ) (q : ℕ) → IfSome o (λ x. x < rev) → o ≡ Some q → IsAncestor history a q → reaches_parent history a o ≡ true
-parent-there history earlier a rev lt None q low e h = cc
-parent-there history earlier a rev lt (Some r) q low e h =
-    let is = some_is r q e in (is_ancestor-decides history earlier a r (omega (arith, low, lt))).1 (subst (IsAncestor history a) (sym is) h)
+pub lt-is : (a b : ℕ) → nat_lt a b ≡ true → a < b
+lt-is a b e = grind (arith, nat_tests)
 
-parent-back : (history : List Parents) → ParentsBefore 0 history → (a rev : ℕ) → rev < length history → (o : Option ℕ) → IfSome o (λ x. x < rev) → reaches_parent history a o ≡ true → (q : ℕ) × (o ≡ Some q) × IsAncestor history a q
-parent-back history earlier a rev lt None low e = cc
-parent-back history earlier a rev lt (Some r) low e = (r, refl, (is_ancestor-decides history earlier a r (omega (arith, low, lt))).0 e)
+pub not_lt-is : (a b : ℕ) → nat_lt a b ≡ false → b ≤ a
+not_lt-is a b e = grind (arith, nat_tests)
 
-ancestor-to : (history : List Parents) → ParentsBefore 0 history → (a rev : ℕ) (p : Parents) → rev < length history → slice_get history rev ≡ Some p → IfSome p.0 (λ x. x < rev) → IfSome p.1 (λ x. x < rev) → (b : ℕ) → b ≡ rev → IsAncestor history a b →
-    ((a == rev) || (reaches_parent history a p.0 || reaches_parent history a p.1)) ≡ true
-ancestor-to history earlier a rev p lt here low high _ e itself = or-left (a == rev) _ (ap (λ x. a == x) (sym e) ∙ same-number a)
-ancestor-to history earlier a rev p lt here low high b e (of_parent {p = q} is h) =
-    let same : is.0 ≡ p = some_is is.0 p (sym is.1 ∙ ap (slice_get history) e ∙ here) in
-    or-right (a == rev) _ (elim is.2 [
-      | inl l ↦ or-left (reaches_parent history a p.0) (reaches_parent history a p.1) (parent-there history earlier a rev lt p.0 q low (ap (λ (x : Parents). x.0) (sym same) ∙ l) h)
-      | inr r ↦ or-right (reaches_parent history a p.0) (reaches_parent history a p.1) (parent-there history earlier a rev lt p.1 q high (ap (λ (x : Parents). x.1) (sym same) ∙ r) h)
-    ])
+pub earlier-low : (n : ℕ) (o : Option ℕ) → IfSome (earlier n o) (λ a. a < n)
+earlier-low n None = tt
+earlier-low n (Some q) = by (nat_lt q n) refl
+  where
+    by : (b : Bool) → nat_lt q n ≡ b → IfSome (if b then Some q else None) (λ a. a < n)
+    by true e = lt-is q n e
+    by false e = tt
 
-ancestor-from : (history : List Parents) → ParentsBefore 0 history → (a rev : ℕ) (p : Parents) → rev < length history → slice_get history rev ≡ Some p → IfSome p.0 (λ x. x < rev) → IfSome p.1 (λ x. x < rev) →
-    ((a == rev) || (reaches_parent history a p.0 || reaches_parent history a p.1)) ≡ true → IsAncestor history a rev
-ancestor-from history earlier a rev p lt here low high h = elim (or-cases (a == rev) _ h) [
-  | inl e ↦ subst (IsAncestor history a) (number-same a rev e) itself
-  | inr e ↦ elim (or-cases (reaches_parent history a p.0) (reaches_parent history a p.1) e) [
-    | inl l ↦ let q = parent-back history earlier a rev lt p.0 low l in of_parent (p, here, inl q.1) q.2
-    | inr r ↦ let q = parent-back history earlier a rev lt p.1 high r in of_parent (p, here, inr q.1) q.2
-  ]
-]
+take-below : {A : Type 0} (d : A) (n : ℕ) (xs : List A) (i : ℕ) → i < n → slice_index_or (take n xs) i d ≡ slice_index_or xs i d
+take-below d zero xs i lt = absurd (omega (arith, lt))
+take-below d (suc n) [] i lt = refl
+take-below d (suc n) (x ∷ xs) zero lt = refl
+take-below d (suc n) (x ∷ xs) (suc i) lt = take-below d n xs i (omega (arith, lt))
 
-pub ancestor_step : (history : List Parents) → ParentsBefore 0 history → (a rev : ℕ) (p : Parents) → rev < length history → slice_get history rev ≡ Some p → is_ancestor history a rev ≡ ((a == rev) || (reaches_parent history a p.0 || reaches_parent history a p.1))
-ancestor_step history earlier a rev p lt here =
-    let n : 0 + rev ≡ rev = omega arith in
-    let low = subst (λ m. IfSome p.0 (λ a. a < m) × IfSome p.1 (λ b. b < m)) n (before_at 0 history rev p earlier here) in
-    let both = is_ancestor-decides history earlier a rev lt in
-    same_when _ _ (λ h. ancestor-to history earlier a rev p lt here low.0 low.1 rev refl (both.0 h)) (λ h. both.1 (ancestor-from history earlier a rev p lt here low.0 low.1 h))
+take-above : {A : Type 0} (d : A) (n : ℕ) (xs : List A) (i : ℕ) → n ≤ i → slice_index_or (take n xs) i d ≡ d
+take-above d zero xs i le = refl
+take-above d (suc n) [] i le = refl
+take-above d (suc n) (x ∷ xs) zero le = absurd (omega (arith, le))
+take-above d (suc n) (x ∷ xs) (suc i) le = take-above d n xs i (omega (arith, le))
+
+-- what is looked up among the first n is that of the parents before n
+pub cut-some : {A : Type 0} (d : A) (n : ℕ) (xs : List A) (q : ℕ) (look : Option ℕ → A) → look None ≡ d → look (Some q) ≡ slice_index_or xs q d → slice_index_or (take n xs) q d ≡ look (earlier n (Some q))
+cut-some {A} d n xs q look none some = by (nat_lt q n) refl
+  where
+    by : (b : Bool) → nat_lt q n ≡ b → slice_index_or (take n xs) q d ≡ look (if b then Some q else None)
+    by true e = take-below d n xs q (lt-is q n e) ∙ sym some
+    by false e = take-above d n xs q (not_lt-is q n e) ∙ sym none
+
+phases-cut : (n : ℕ) (phases : List Phase) (o : Option ℕ) → parent_phase (take n phases) o ≡ parent_phase phases (earlier n o)
+phases-cut n phases None = refl
+phases-cut n phases (Some q) = cut-some Public n phases q (parent_phase phases) refl refl
+
+abbrev member : ℕ → List ℕ → Bool
+member a xs = list_any (λ x. x == a) xs
+
+member-append : (a : ℕ) (xs ys : List ℕ) → member a (xs ++ ys) ≡ (member a xs || member a ys)
+member-append a [] ys = refl
+member-append a (x ∷ xs) ys = ap (λ b. (x == a) || b) (member-append a xs ys) ∙ or-assoc (x == a) (member a xs) (member a ys)
+  where
+    or-assoc : (p q r : Bool) → (p || (q || r)) ≡ ((p || q) || r)
+    or-assoc true q r = refl
+    or-assoc false q r = refl
+
+abbrev row_of : List (List ℕ) → Parents → List ℕ
+row_of known p = length known ∷ ancestors_at known p.0 ++ ancestors_at known p.1
+
+rows-stay : (known : List (List ℕ)) (more : List Parents) → (rest : List (List ℕ)) × (ancestors_from known more ≡ known ++ rest)
+rows-stay known [] = ([], sym (append-nil known))
+rows-stay known (p ∷ more) =
+    let behind = rows-stay (known ++ row_of known p ∷ []) more in
+    (row_of known p ∷ behind.0, behind.1 ∙ append_assoc known (row_of known p ∷ []) behind.0)
+
+index-seam : (known : List (List ℕ)) (row : List ℕ) (rest : List (List ℕ)) → slice_index_or (known ++ row ∷ rest) (length known) [] ≡ row
+index-seam [] row rest = refl
+index-seam (x ∷ known) row rest = index-seam known row rest
+
+take-seam : (known rest : List (List ℕ)) → take (length known) (known ++ rest) ≡ known
+take-seam [] rest = refl
+take-seam (x ∷ known) rest = ap (λ xs. x ∷ xs) (take-seam known rest)
+
+row-at : (known : List (List ℕ)) (more : List Parents) (j n : ℕ) (p : Parents) → n ≡ length known + j → slice_get more j ≡ Some p →
+    slice_index_or (ancestors_from known more) n [] ≡ n ∷ ancestors_at (take n (ancestors_from known more)) p.0 ++ ancestors_at (take n (ancestors_from known more)) p.1
+row-at known [] j n p at e = cc
+row-at known (q ∷ more) zero n p at e =
+    let here : n ≡ length known = omega (arith, at) in
+    let whole = rows-stay known (q ∷ more) in
+    let behind = rows-stay (known ++ row_of known q ∷ []) more in
+    let stays : take n (ancestors_from known (q ∷ more)) ≡ known = ap (take n) whole.1 ∙ ap (λ k. take k (known ++ whole.0)) here ∙ take-seam known whole.0 in
+    ap (λ rs. slice_index_or rs n []) (behind.1 ∙ append_assoc known (row_of known q ∷ []) behind.0) ∙ ap (λ k. slice_index_or (known ++ row_of known q ∷ behind.0) k []) here ∙ index-seam known (row_of known q) behind.0
+    ∙ ap (λ k. k ∷ ancestors_at known q.0 ++ ancestors_at known q.1) (sym here) ∙ ap (λ (r : Parents). n ∷ ancestors_at known r.0 ++ ancestors_at known r.1) (some_is q p e)
+    ∙ ap (λ rs. n ∷ ancestors_at rs p.0 ++ ancestors_at rs p.1) (sym stays)
+row-at known (q ∷ more) (suc j) n p at e =
+    let longer = length-append known (row_of known q ∷ []) in
+    row-at (known ++ row_of known q ∷ []) more j n p (omega (arith, at, longer)) e
+
+member-parent : (history : List Parents) (a n : ℕ) (o : Option ℕ) → member a (ancestors_at (take n (ancestors_from [] history)) o) ≡ reaches_parent history a (earlier n o)
+member-parent history a n None = refl
+member-parent history a n (Some q) =
+    cut-member (earlier n (Some q)) (cut-some [] n (ancestors_from [] history) q (ancestors_at (ancestors_from [] history)) refl refl)
+  where
+    cut-member : (o : Option ℕ) → slice_index_or (take n (ancestors_from [] history)) q [] ≡ ancestors_at (ancestors_from [] history) o → member a (slice_index_or (take n (ancestors_from [] history)) q []) ≡ reaches_parent history a o
+    cut-member None e = ap (member a) e
+    cut-member (Some r) e = ap (member a) e
+
+same-flipped : (a b : ℕ) → (a == b) ≡ (b == a)
+same-flipped a b = grind (arith, nat_tests)
+
+-- an ancestor is the changeset itself or one of a parent that stands before it
+pub ancestor_step : (history : List Parents) (a rev : ℕ) (p : Parents) → slice_get history rev ≡ Some p →
+    is_ancestor history a rev ≡ ((a == rev) || (reaches_parent history a (earlier rev p.0) || reaches_parent history a (earlier rev p.1)))
+ancestor_step history a rev p here =
+    let from : rev ≡ 0 + rev = omega arith in
+    ap (member a) (row-at [] history rev rev p from here)
+    ∙ ap (λ b. (rev == a) || b) (member-append a (ancestors_at (take rev (ancestors_from [] history)) p.0) (ancestors_at (take rev (ancestors_from [] history)) p.1))
+    ∙ ap (λ b. (rev == a) || (b || member a (ancestors_at (take rev (ancestors_from [] history)) p.1))) (member-parent history a rev p.0)
+    ∙ ap (λ b. (rev == a) || (reaches_parent history a (earlier rev p.0) || b)) (member-parent history a rev p.1)
+    ∙ ap (λ b. b || (reaches_parent history a (earlier rev p.0) || reaches_parent history a (earlier rev p.1))) (same-flipped rev a)
 
 -- ---- the phases, by those of the parents
 
@@ -145,10 +207,11 @@ reaches_by : List Parents → Option ℕ → Option ℕ → Bool
 reaches_by history None o = false
 reaches_by history (Some a) o = reaches_parent history a o
 
-reaches_step : (history : List Parents) → ParentsBefore 0 history → (root : Option ℕ) (rev : ℕ) (p : Parents) → rev < length history → slice_get history rev ≡ Some p → reaches history root rev ≡ (stands_at root rev || (reaches_by history root p.0 || reaches_by history root p.1))
+reaches_step : (history : List Parents) (root : Option ℕ) (rev : ℕ) (p : Parents) → slice_get history rev ≡ Some p →
+    reaches history root rev ≡ (stands_at root rev || (reaches_by history root (earlier rev p.0) || reaches_by history root (earlier rev p.1)))
 unfolding reaches_by
-reaches_step history earlier None rev p lt here = refl
-reaches_step history earlier (Some a) rev p lt here = ancestor_step history earlier a rev p lt here
+reaches_step history None rev p here = refl
+reaches_step history (Some a) rev p here = ancestor_step history a rev p here
 
 -- the phase of a parent, by the definition
 abbrev phase_of_parent : List Root → List Entry → Option ℕ → Phase
@@ -184,18 +247,17 @@ no_roots entries None (Some b) = refl
 no_roots entries (Some a) None = refl
 no_roots entries (Some a) (Some b) = refl
 
-phase_step : (roots : List Root) (entries : List Entry) → ParentsBefore 0 (history_of entries) → (rev : ℕ) (p : Parents) → rev < length (history_of entries) → slice_get (history_of entries) rev ≡ Some p →
-    phase_by roots entries rev ≡ greater (own_phase roots entries rev) (greater (phase_of_parent roots entries p.0) (phase_of_parent roots entries p.1))
-phase_step [] entries earlier rev p lt here = no_roots entries p.0 p.1
-phase_step (r ∷ roots) entries earlier rev p lt here =
-    let root = place_of entries r.node.0 in
-    ap (λ b. greater (if b then r.phase else Public) (phase_by roots entries rev)) (reaches_step (history_of entries) earlier (place_of entries r.node.0) rev p lt here)
-    ∙ ap (greater (if stands_at (place_of entries r.node.0) rev || (reaches_by (history_of entries) (place_of entries r.node.0) p.0 || reaches_by (history_of entries) (place_of entries r.node.0) p.1) then r.phase else Public))
-    (phase_step roots entries earlier rev p lt here)
-    ∙ mixed (stands_at (place_of entries r.node.0) rev) (reaches_by (history_of entries) (place_of entries r.node.0) p.0) (reaches_by (history_of entries) (place_of entries r.node.0) p.1) r.phase
-    (own_phase roots entries rev) (phase_of_parent roots entries p.0) (phase_of_parent roots entries p.1)
-    ∙ ap (λ x. greater (own_phase (r ∷ roots) entries rev) (greater x (greater (if reaches_by (history_of entries) (place_of entries r.node.0) p.1 then r.phase else Public) (phase_of_parent roots entries p.1)))) (sym (parent_more r roots entries p.0))
-    ∙ ap (λ x. greater (own_phase (r ∷ roots) entries rev) (greater (phase_of_parent (r ∷ roots) entries p.0) x)) (sym (parent_more r roots entries p.1))
+phase_step : (roots : List Root) (entries : List Entry) (rev : ℕ) (p : Parents) → slice_get (history_of entries) rev ≡ Some p →
+    phase_by roots entries rev ≡ greater (own_phase roots entries rev) (greater (phase_of_parent roots entries (earlier rev p.0)) (phase_of_parent roots entries (earlier rev p.1)))
+phase_step [] entries rev p here = no_roots entries (earlier rev p.0) (earlier rev p.1)
+phase_step (r ∷ roots) entries rev p here =
+    ap (λ b. greater (if b then r.phase else Public) (phase_by roots entries rev)) (reaches_step (history_of entries) (place_of entries r.node.0) rev p here)
+    ∙ ap (greater (if stands_at (place_of entries r.node.0) rev || (reaches_by (history_of entries) (place_of entries r.node.0) (earlier rev p.0) || reaches_by (history_of entries) (place_of entries r.node.0) (earlier rev p.1)) then r.phase else Public))
+    (phase_step roots entries rev p here)
+    ∙ mixed (stands_at (place_of entries r.node.0) rev) (reaches_by (history_of entries) (place_of entries r.node.0) (earlier rev p.0)) (reaches_by (history_of entries) (place_of entries r.node.0) (earlier rev p.1)) r.phase
+    (own_phase roots entries rev) (phase_of_parent roots entries (earlier rev p.0)) (phase_of_parent roots entries (earlier rev p.1))
+    ∙ ap (λ x. greater (own_phase (r ∷ roots) entries rev) (greater x (greater (if reaches_by (history_of entries) (place_of entries r.node.0) (earlier rev p.1) then r.phase else Public) (phase_of_parent roots entries (earlier rev p.1))))) (sym (parent_more r roots entries (earlier rev p.0)))
+    ∙ ap (λ x. greater (own_phase (r ∷ roots) entries rev) (greater (phase_of_parent (r ∷ roots) entries (earlier rev p.0)) x)) (sym (parent_more r roots entries (earlier rev p.1)))
 
 -- ---- what the code has on its way
 
@@ -278,28 +340,25 @@ parent-known : (n : ℕ) (roots : List Root) (entries : List Entry) (phases : Li
 parent-known n roots entries phases up None low = refl
 parent-known n roots entries phases up (Some q) low = up.before q low
 
-pub up_next : (n : ℕ) (roots : List Root) (entries : List Entry) (phases new : List Phase) (e : Entry) → ParentsBefore 0 (history_of entries) → slice_get entries n ≡ Some e → n < length entries → UpTo n roots entries phases →
-    new ≡ raised phases n (greater (parent_phase phases e.p1) (parent_phase phases e.p2)) → UpTo (n + 1) roots entries new
-up_next n roots entries phases new e earlier there lt up is =
+pub up_next : (n : ℕ) (roots : List Root) (entries : List Entry) (phases new : List Phase) (e : Entry) → slice_get entries n ≡ Some e → n < length entries → UpTo n roots entries phases →
+    new ≡ raised phases n (greater (parent_phase (take n phases) e.p1) (parent_phase (take n phases) e.p2)) → UpTo (n + 1) roots entries new
+up_next n roots entries phases new e there lt up is =
     let here = history-at entries n e there in
-    let zeroed : 0 + n ≡ n = omega arith in
-    let low = subst (λ m. IfSome e.p1 (λ a. a < m) × IfSome e.p2 (λ b. b < m)) zeroed (before_at 0 (history_of entries) n (e.p1, e.p2) earlier here) in
-    let top = greater (parent_phase phases e.p1) (parent_phase phases e.p2) in
     let room : n < length phases = (let c = up.count in omega (arith, c, lt)) in
-    let now : slice_index_or (raised phases n (greater (parent_phase phases e.p1) (parent_phase phases e.p2))) n Public ≡ phase_by roots entries n =
-    get_or-set_same phases n (greater (slice_index_or phases n Public) (greater (parent_phase phases e.p1) (parent_phase phases e.p2))) Public room
-    ∙ ap (λ x. greater x (greater (parent_phase phases e.p1) (parent_phase phases e.p2))) (up.behind n (omega arith) lt)
-    ∙ ap (λ x. greater (own_phase roots entries n) (greater x (parent_phase phases e.p2))) (parent-known n roots entries phases up e.p1 low.0)
-    ∙ ap (λ x. greater (own_phase roots entries n) (greater (phase_of_parent roots entries e.p1) x)) (parent-known n roots entries phases up e.p2 low.1)
-    ∙ sym (phase_step roots entries earlier n (e.p1, e.p2) (let c = history-length entries in omega (arith, c, lt)) here) in
+    let now : slice_index_or (raised phases n (greater (parent_phase (take n phases) e.p1) (parent_phase (take n phases) e.p2))) n Public ≡ phase_by roots entries n =
+    get_or-set_same phases n (greater (slice_index_or phases n Public) (greater (parent_phase (take n phases) e.p1) (parent_phase (take n phases) e.p2))) Public room
+    ∙ ap (λ x. greater x (greater (parent_phase (take n phases) e.p1) (parent_phase (take n phases) e.p2))) (up.behind n (omega arith) lt)
+    ∙ ap (λ x. greater (own_phase roots entries n) (greater x (parent_phase (take n phases) e.p2))) (phases-cut n phases e.p1 ∙ parent-known n roots entries phases up (earlier n e.p1) (earlier-low n e.p1))
+    ∙ ap (λ x. greater (own_phase roots entries n) (greater (phase_of_parent roots entries (earlier n e.p1)) x)) (phases-cut n phases e.p2 ∙ parent-known n roots entries phases up (earlier n e.p2) (earlier-low n e.p2))
+    ∙ sym (phase_step roots entries n (e.p1, e.p2) here) in
     record {
-      count = ap length is ∙ length-set phases n (greater (slice_index_or phases n Public) (greater (parent_phase phases e.p1) (parent_phase phases e.p2))) ∙ up.count;
+      count = ap length is ∙ length-set phases n (greater (slice_index_or phases n Public) (greater (parent_phase (take n phases) e.p1) (parent_phase (take n phases) e.p2))) ∙ up.count;
       before = λ rev l. ap (λ x. slice_index_or x rev Public) is ∙ elim (below-or-here n rev l) [
-        | inl b ↦ get_or-set_other phases n rev (greater (slice_index_or phases n Public) (greater (parent_phase phases e.p1) (parent_phase phases e.p2))) Public (λ k. absurd (omega (arith, b, k))) ∙ up.before rev b
-        | inr b ↦ ap (λ k. slice_index_or (raised phases n (greater (parent_phase phases e.p1) (parent_phase phases e.p2))) k Public) b ∙ now ∙ ap (phase_by roots entries) (sym b)
+        | inl b ↦ get_or-set_other phases n rev (greater (slice_index_or phases n Public) (greater (parent_phase (take n phases) e.p1) (parent_phase (take n phases) e.p2))) Public (λ k. absurd (omega (arith, b, k))) ∙ up.before rev b
+        | inr b ↦ ap (λ k. slice_index_or (raised phases n (greater (parent_phase (take n phases) e.p1) (parent_phase (take n phases) e.p2))) k Public) b ∙ now ∙ ap (phase_by roots entries) (sym b)
       ];
       behind = λ rev low' high. ap (λ x. slice_index_or x rev Public) is
-          ∙ get_or-set_other phases n rev (greater (slice_index_or phases n Public) (greater (parent_phase phases e.p1) (parent_phase phases e.p2))) Public (λ k. absurd (omega (arith, low', k))) ∙ up.behind rev (omega (arith, low')) high;
+          ∙ get_or-set_other phases n rev (greater (slice_index_or phases n Public) (greater (parent_phase (take n phases) e.p1) (parent_phase (take n phases) e.p2))) Public (λ k. absurd (omega (arith, low', k))) ∙ up.behind rev (omega (arith, low')) high;
     }
 
 pub all_phases : (n : ℕ) (roots : List Root) (entries : List Entry) (phases : List Phase) → length entries ≤ n → UpTo n roots entries phases → phases ≡ phases_by roots entries

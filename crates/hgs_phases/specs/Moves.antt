@@ -1,5 +1,5 @@
 -- Phases that a command moves.
-use Rattle.std.specs.Prelude.{ℕ, Bool, false, List, length, Option, Some, None, if◌then◌else◌, map, slice_index_or}
+use Rattle.std.specs.Prelude.{ℕ, Bool, true, false, List, length, Option, Some, None, if◌then◌else◌, map, slice_index_or, slice_set}
 use Rattle.std.specs.List.{range_with_len}
 use Rattle.hgs_index.specs.Ancestor.{is_ancestor}
 use Rattle.hgs_index.specs.Revision.{Parents}
@@ -27,3 +27,12 @@ advanced history rev to phases = map (advanced_at history rev to phases) (range_
 abbrev pub is_marked : List Bool → Option ℕ → Bool
 is_marked marks None = false
 is_marked marks (Some rev) = slice_index_or marks rev false
+
+-- the marks with that of a parent, where there is one
+abbrev pub marked : List Bool → Option ℕ → List Bool
+marked marks None = marks
+marked marks (Some rev) = slice_set marks rev true
+
+-- the phases with that of one changeset lowered to a phase, if it is above
+abbrev pub lowered : List Phase → ℕ → Phase → List Phase
+lowered phases rev phase = slice_set phases rev (lesser (slice_index_or phases rev Public) phase)

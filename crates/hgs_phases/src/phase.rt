@@ -1,6 +1,6 @@
 //! Phases of changesets.
 ghost use Rattle.std.specs.Prelude.{◌≡◌};
-ghost use Rattle.hgs_phases.specs.Phase.{number, name_of, greater};
+ghost use Rattle.hgs_phases.specs.Phase.{number, name_of, greater, lesser};
 
 /// How far a changeset is published (Mercurial's help page `phases`).
 #[derive(Clone, Copy, Debug, PartialEq, Eq)]
@@ -45,6 +45,18 @@ impl Phase {
             (Phase::Draft, Phase::Secret) => other,
             (Phase::Draft, _) => self,
             (Phase::Secret, _) => self,
+        }
+    }
+
+    /// The one with the lesser number.
+    pub fn or_lesser(self, other: Phase) -> Phase
+        ensures { result ≡ lesser self other }
+    {
+        match (self, other) {
+            (Phase::Public, _) => self,
+            (Phase::Draft, Phase::Public) => other,
+            (Phase::Draft, _) => self,
+            (Phase::Secret, _) => other,
         }
     }
 }

@@ -1,7 +1,6 @@
 //! The phase of each changeset.
 ghost use Rattle.std.specs.Prelude.{◌≡◌, ◌<◌, ◌++◌, ◌∷◌, [], ℕ, List, length, map, slice_get, slice_index_or, Some, IfOk, OnOk, OnErr};
-ghost use Rattle.hgs_index.specs.Revision.{ParentsBefore};
-ghost use Rattle.hgs_phases.specs.Phases.{history_of, parent_phase, phases_by, raised, raised_root, AreOwn};
+ghost use Rattle.hgs_phases.specs.Phases.{parent_phase, phases_by, raised, raised_root, AreOwn};
 ghost use Rattle.hgs_phases.specs.declared.phase.Phase.TheVariants.{Public};
 ghost use Rattle.hgs_phases.specs.Phase.{greater};
 ghost use Rattle.hgs_revlog.specs.Log.{place_of};
@@ -91,17 +90,15 @@ pub(crate) fn inherited(phases: &[Phase], entry: &Entry) -> Phase
 }
 
 impl Roots {
-    /// The phases that the roots give to the changesets of a changelog, whose parents stand before their children. Roots of
-    /// unknown nodes are passed over.
+    /// The phases that the roots give to the changesets of a changelog. Roots of unknown nodes are passed over.
     ///
     /// The time is that of a look-up for each root and of one pass over the changesets.
     pub fn phases_of(&self, alloc: Global, known: &Revlog) -> Result<Phases, AllocError>
-        requires { ParentsBefore 0 (history_of known.now.entries) }
         ensures { IfOk result (λ phases. phases ≡ phases_by self.now known.now.entries) }
     {
         let mut phases = own_phases(alloc, &self.roots, known)?;
         for rev in 0..known.len() {
-            let greatest = inherited(&phases, known.entry(rev));
+            let greatest = inherited(&phases[..rev as usize], known.entry(rev));
             raise(&mut phases, rev, greatest);
         }
         let marks = vec![in alloc; false; phases.len()]?;

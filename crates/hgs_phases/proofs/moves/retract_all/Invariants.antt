@@ -1,5 +1,5 @@
 use Rattle.hgs_phases.specs.Phases.{history_of}
-use Rattle.hgs_phases.proofs.MoveLemmas.{Raised}
+use Rattle.hgs_phases.proofs.RetractLemmas.{Raised}
 use Rattle.hgs_phases.proofs.moves.retract_all.Given as goal
 
 abbrev pub invariant-loop-child : goal.invariant-loop-child

@@ -1,16 +1,16 @@
 -- Phases that are moved, one changeset after another.
-use Rattle.std.proofs.Common.{◌≡◌, ◌≢◌, ◌<◌, ◌≤◌, ℕ, ◌+◌, Bool, true, false, ◌||◌, List, length, Option, Some, None, refl, sym, ◌∙◌, ap, subst, inl, inr, arith}
+use Rattle.std.proofs.Common.{take, ◌≡◌, ◌≢◌, ◌<◌, ◌≤◌, ℕ, ◌+◌, Bool, true, false, ◌||◌, List, length, Option, Some, None, refl, sym, ◌∙◌, ap, inl, inr, arith}
 use Rattle.std.specs.Prelude.{◌==◌, IfSome, slice_get, slice_index_or, slice_set, if◌then◌else◌}
 use Rattle.std.proofs.lemmas.List.{get_or-set_same, get_or-set_other, length-set}
 use Rattle.hgs_index.specs.Ancestor.{is_ancestor}
-use Rattle.hgs_index.specs.Revision.{Parents, ParentsBefore}
+use Rattle.hgs_index.specs.Revision.{Parents}
 use Rattle.hgs_index.specs.declared.entry.Entry.{Entry}
 use Rattle.hgs_phases.specs.declared.phase.Phase.{Phase}
 use Rattle.hgs_phases.specs.declared.phase.Phase.TheVariants.{Public}
 use Rattle.hgs_phases.specs.Phase.{greater}
 use Rattle.hgs_phases.specs.Phases.{history_of, raised}
 use Rattle.hgs_phases.specs.Moves.{retracted, retracted_at, is_marked}
-use Rattle.hgs_phases.proofs.PhaseLemmas.{reaches_parent, before_at, ancestor_step, below-or-here, history-at, history-length, by_place}
+use Rattle.hgs_phases.proofs.PhaseLemmas.{reaches_parent, earlier, earlier-low, cut-some, ancestor_step, below-or-here, history-at, by_place}
 
 -- the first n changesets are raised, and marked where they are descendants
 pub record Raised (n : ℕ) (history : List Parents) (rev : ℕ) (to : Phase) (old phases : List Phase) (marks : List Bool) : Type 0 where
@@ -36,20 +36,24 @@ marked-parent : (history : List Parents) (rev n : ℕ) (marks : List Bool) → (
 marked-parent history rev n marks h None low = refl
 marked-parent history rev n marks h (Some q) low = h q low
 
-pub raised_next : (n : ℕ) (entries : List Entry) (rev : ℕ) (to : Phase) (old phases new : List Phase) (marks more : List Bool) (reached : Bool) (e : Entry) → ParentsBefore 0 (history_of entries) → slice_get entries n ≡ Some e → n < length entries → length old ≡ length entries →
-    Raised n (history_of entries) rev to old phases marks → reached ≡ ((rev == n) || (is_marked marks e.p1 || is_marked marks e.p2)) → new ≡ (if reached then raised phases n to else phases) → more ≡ slice_set marks n reached →
+marks-cut : (n : ℕ) (marks : List Bool) (o : Option ℕ) → is_marked (take n marks) o ≡ is_marked marks (earlier n o)
+marks-cut n marks None = refl
+marks-cut n marks (Some q) = cut-some false n marks q (is_marked marks) refl refl
+
+earlier-marked : (history : List Parents) (rev n : ℕ) (marks : List Bool) → ((i : ℕ) → i < n → slice_index_or marks i false ≡ is_ancestor history rev i) → (o : Option ℕ) → is_marked (take n marks) o ≡ reaches_parent history rev (earlier n o)
+earlier-marked history rev n marks h o = marks-cut n marks o ∙ marked-parent history rev n marks h (earlier n o) (earlier-low n o)
+
+pub raised_next : (n : ℕ) (entries : List Entry) (rev : ℕ) (to : Phase) (old phases new : List Phase) (marks more : List Bool) (reached : Bool) (e : Entry) → slice_get entries n ≡ Some e → n < length entries → length old ≡ length entries →
+    Raised n (history_of entries) rev to old phases marks → reached ≡ ((rev == n) || (is_marked (take n marks) e.p1 || is_marked (take n marks) e.p2)) → new ≡ (if reached then raised phases n to else phases) → more ≡ slice_set marks n reached →
     Raised (n + 1) (history_of entries) rev to old new more
-raised_next n entries rev to old phases new marks more reached e earlier there lt same r is phases-is marks-is =
+raised_next n entries rev to old phases new marks more reached e there lt same r is phases-is marks-is =
     let here = history-at entries n e there in
-    let zeroed : 0 + n ≡ n = omega arith in
-    let low = subst (λ m. IfSome e.p1 (λ a. a < m) × IfSome e.p2 (λ b. b < m)) zeroed (before_at 0 (history_of entries) n (e.p1, e.p2) earlier here) in
-    let long = history-length entries in
     let count = r.count in
     let marked = r.marked in
     let found : reached ≡ is_ancestor (history_of entries) rev n =
-    is ∙ ap (λ b. (rev == n) || (b || is_marked marks e.p2)) (marked-parent (history_of entries) rev n marks r.reached e.p1 low.0)
-    ∙ ap (λ b. (rev == n) || (reaches_parent (history_of entries) rev e.p1 || b)) (marked-parent (history_of entries) rev n marks r.reached e.p2 low.1)
-    ∙ sym (ancestor_step (history_of entries) earlier rev n (e.p1, e.p2) (omega (arith, long, lt)) here) in
+    is ∙ ap (λ b. (rev == n) || (b || is_marked (take n marks) e.p2)) (earlier-marked (history_of entries) rev n marks r.reached e.p1)
+    ∙ ap (λ b. (rev == n) || (reaches_parent (history_of entries) rev (earlier n e.p1) || b)) (earlier-marked (history_of entries) rev n marks r.reached e.p2)
+    ∙ sym (ancestor_step (history_of entries) rev n (e.p1, e.p2) here) in
     let now : slice_index_or (if reached then raised phases n to else phases) n Public ≡ retracted_at (history_of entries) rev to old n =
     raised-same reached phases n to (omega (arith, count, lt, same))
     ∙ ap (λ p. if reached then greater p to else p) (r.behind n (omega arith))
