@@ -3,4 +3,7 @@ pub mod LoadedLemmas
 pub mod PhaseLemmas
 pub mod PrintLemmas
 pub mod RetractLemmas
+pub mod RiseLemmas
+pub mod RootTextLemmas
 pub mod RootsLemmas
+pub mod WrittenLemmas

@@ -16,7 +16,7 @@ use Rattle.hgs_phases.specs.Phases.{history_of, reaches, phase_by, phases_by, pa
 
 -- ---- the greater of two phases
 
-greater-assoc : (a b c : Phase) → greater (greater a b) c ≡ greater a (greater b c)
+pub greater-assoc : (a b c : Phase) → greater (greater a b) c ≡ greater a (greater b c)
 greater-assoc Public b c = refl
 greater-assoc Draft Public c = refl
 greater-assoc Draft Draft Public = refl
@@ -131,7 +131,7 @@ cut-some {A} d n xs q look none some = by (nat_lt q n) refl
     by true e = take-below d n xs q (lt-is q n e) ∙ sym some
     by false e = take-above d n xs q (not_lt-is q n e) ∙ sym none
 
-phases-cut : (n : ℕ) (phases : List Phase) (o : Option ℕ) → parent_phase (take n phases) o ≡ parent_phase phases (earlier n o)
+pub phases-cut : (n : ℕ) (phases : List Phase) (o : Option ℕ) → parent_phase (take n phases) o ≡ parent_phase phases (earlier n o)
 phases-cut n phases None = refl
 phases-cut n phases (Some q) = cut-some Public n phases q (parent_phase phases) refl refl
 
@@ -214,7 +214,7 @@ reaches_step history None rev p here = refl
 reaches_step history (Some a) rev p here = ancestor_step history a rev p here
 
 -- the phase of a parent, by the definition
-abbrev phase_of_parent : List Root → List Entry → Option ℕ → Phase
+abbrev pub phase_of_parent : List Root → List Entry → Option ℕ → Phase
 phase_of_parent roots entries None = Public
 phase_of_parent roots entries (Some q) = phase_by roots entries q
 
@@ -247,7 +247,7 @@ no_roots entries None (Some b) = refl
 no_roots entries (Some a) None = refl
 no_roots entries (Some a) (Some b) = refl
 
-phase_step : (roots : List Root) (entries : List Entry) (rev : ℕ) (p : Parents) → slice_get (history_of entries) rev ≡ Some p →
+pub phase_step : (roots : List Root) (entries : List Entry) (rev : ℕ) (p : Parents) → slice_get (history_of entries) rev ≡ Some p →
     phase_by roots entries rev ≡ greater (own_phase roots entries rev) (greater (phase_of_parent roots entries (earlier rev p.0)) (phase_of_parent roots entries (earlier rev p.1)))
 phase_step [] entries rev p here = no_roots entries (earlier rev p.0) (earlier rev p.1)
 phase_step (r ∷ roots) entries rev p here =

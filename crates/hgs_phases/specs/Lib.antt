@@ -1,3 +1,4 @@
+pub mod Changelog
 pub mod Moves
 pub mod Phase
 pub mod Phases

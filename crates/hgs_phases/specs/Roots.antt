@@ -1,12 +1,14 @@
 -- The text of the phase roots: a line for each, its phase's digit, a space, and the node in hex.
 use Rattle.std.specs.Prelude.{◌==◌, ◌&&◌, ◌+◌, ℕ, Bool, true, false, List, [], ◌∷◌, take, drop, Option, Some, None, Result, Ok, Err, if◌then◌else◌, flat_map}
-use Rattle.hgs_bytes.specs.Text.{Line as TextLine, line, lines_of}
+use Rattle.std.specs.List.{AllByRecursion}
+use Rattle.hgs_bytes.specs.Text.{Line as TextLine, MayLackLastLf, line, lines_of}
 use Rattle.hgs_index.specs.Hex.{hex, node_at}
 use Rattle.hgs_phases.specs.declared.fault.RootsFault.{RootsFault}
 use Rattle.hgs_phases.specs.declared.fault.RootsFault.TheVariants.{Line, Memory}
 use Rattle.hgs_phases.specs.declared.phase.Phase.{Phase}
 use Rattle.hgs_phases.specs.declared.phase.Phase.TheVariants.{Public, Draft, Secret}
 use Rattle.hgs_phases.specs.declared.roots.Root.{Root}
+use Rattle.hgs_phases.specs.Changelog.{IsNode}
 use Rattle.hgs_phases.specs.Phase.{number}
 
 -- ---- the text that is written
@@ -57,3 +59,12 @@ read_roots text = roots_from 0 (lines_of text)
 abbrev pub is_memory : RootsFault → Bool
 is_memory Memory = true
 is_memory (Line n) = false
+
+-- ---- the texts that are read
+
+abbrev pub HasNode : Root → Type 0
+HasNode r = IsNode r.node.0
+
+-- a line for each root, the last of which may lack its LF
+abbrev pub IsTextOf : List Root → List ℕ → Type 0
+IsTextOf roots text = AllByRecursion HasNode roots × MayLackLastLf (roots_text roots) text

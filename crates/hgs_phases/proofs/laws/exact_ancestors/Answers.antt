@@ -1,0 +1,5 @@
+use Rattle.hgs_phases.proofs.RiseLemmas.{exact_ancestors}
+use Rattle.hgs_phases.proofs.laws.exact_ancestors.Goals as goal
+
+pub returns : goal.returns
+returns c = exact_ancestors
