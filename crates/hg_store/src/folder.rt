@@ -74,13 +74,26 @@ impl Folder {
         }
     }
 
-    // Notes that the lists of names of the folders on the way to a file may change.
+    // Whether a folder is above this one and stands, so that what is above it stays as it is.
+    fn is_above(&self, folder: &str) -> bool {
+        folder.len() < self.name.len()
+            && match fs::metadata(&self.rt, folder) {
+                Ok(_) => true,
+                Err(error) => !is_absent(&error),
+            }
+    }
+
+    // Notes that the lists of names of the folders on the way to a file may change. Of those above this folder only the
+    // nearest that stands may, and those that are to be made below it.
     fn note(&mut self, name: &str) -> io::Result<()> {
         for folder in Path::new(name).ancestors().skip(1) {
             let folder = folder.as_str();
             if !self.changed.iter().any(|noted| noted.as_str() == folder) {
                 self.changed
                     .push(String::from_str(self.rt.alloc(), folder)?)?;
+            }
+            if self.is_above(folder) {
+                break;
             }
         }
         Ok(())

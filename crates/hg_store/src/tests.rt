@@ -55,6 +55,7 @@ fn files_are_written_and_read(rt: HostRuntime) -> Result<(), Fail> {
     assert_eq!(rt; files.sync(&a), Ok(()));
     assert_eq!(rt; files.put(&b, b"new"), Ok(()));
     assert_eq!(rt; files.rename(&b, &a), Ok(()));
+    assert_eq!(rt; files.settle(), Ok(()));
     assert_eq!(rt; text(&rt, &mut files, "store/data/a.i", 0)?.as_str(), "new");
     assert_eq!(rt; text(&rt, &mut files, "b", 0)?.as_str(), "(absent)");
     assert_eq!(rt; files.create_new(&b, b"lock"), Ok(Created::Made));
@@ -64,6 +65,22 @@ fn files_are_written_and_read(rt: HostRuntime) -> Result<(), Fail> {
     assert_eq!(rt; files.remove(&b), Ok(()));
     assert_eq!(rt; files.size(&b), Ok(None));
     fs::remove_dir_all(&rt, folder.as_str())?;
+    Ok(())
+}
+
+// The object's own folder, and two above it, are made for the first file.
+#[test]
+fn folders_that_were_made_settle(rt: HostRuntime) -> Result<(), Fail> {
+    let above = new_folder(&rt)?;
+    let folder = format!(in rt.alloc(); "{above}/one/two/own")?;
+    let mut files = OsFiles::new(rt, folder.as_str())?;
+    let a = path(&rt, "store/a")?;
+    assert_eq!(rt; files.remove(&a), Ok(()));
+    assert_eq!(rt; files.settle(), Ok(()));
+    assert_eq!(rt; files.create_new(&a, b"text"), Ok(Created::Made));
+    assert_eq!(rt; files.settle(), Ok(()));
+    assert_eq!(rt; text(&rt, &mut files, "store/a", 0)?.as_str(), "text");
+    fs::remove_dir_all(&rt, above.as_str())?;
     Ok(())
 }
 
