@@ -18,12 +18,17 @@ lay_store() {
     mkdir .hg && cp -r "$here"/fixtures/separate/. .hg && rm -rf .hg/expected
 }
 
+# The store of a history whose lines fill more than a pipe holds.
+lay_long_store() { python3 -Bc "import sys; sys.path.insert(0, '$here/../bench'); import log; log.write_store('.', 3000)"; }
+
 # The worlds. Each function lays its own in the current folder.
 no_hg() { :; }
 empty_hg() { mkdir .hg; }
 hg_is_a_file() { echo text >.hg; }
 whole_store() { lay_store; }
+long_store() { lay_long_store; }
 unreadable_index() { lay_store && chmod 000 .hg/store/00changelog.i; }
+unreadable_data() { lay_store && chmod 000 .hg/store/00changelog.d; }
 folder_as_index() { lay_store && rm .hg/store/00changelog.i && mkdir .hg/store/00changelog.i; }
 folder_as_data() { lay_store && rm .hg/store/00changelog.d && mkdir .hg/store/00changelog.d; }
 file_as_store() { lay_store && rm -r .hg/store && echo text >.hg/store; }
@@ -46,6 +51,10 @@ reader_gone() { # standard output is a pipe that nobody reads any more, and the 
 }
 reader_gone_ignored() { reader_gone --ignore-signal=PIPE "$@"; }
 reader_gone_default() { reader_gone --default-signal=PIPE "$@"; }
+first_line() { # the reader of standard output goes once it has one line
+    "$program" "$@" </dev/null | head -n 1
+    return "${PIPESTATUS[0]}"
+}
 not_text() { "$program" "$@" $'\xff' </dev/null; }
 
 # All names, kinds, modes, sizes and bytes of the current folder.
@@ -90,6 +99,7 @@ hg_is_a_file|plain|0|-|log
 whole_store|plain|0|log|log
 whole_store|as_nobody|0|log|log
 unreadable_index|as_nobody|16|abort: file operation failed|log
+unreadable_data|as_nobody|16|abort: file operation failed|log
 folder_as_index|plain|16|abort: file operation failed|log
 folder_as_data|plain|16|abort: file operation failed|log
 file_as_store|plain|0|-|log
@@ -101,6 +111,18 @@ whole_store|full_output|19|-|log
 whole_store|reader_gone_ignored|19|-|log
 whole_store|reader_gone_default|19|-|log
 no_hg|closed_output|19|-|log
+whole_store|first_line|0|15	3f890414582f19f7c71622dda118938743e80f66	14	-1	1000000900	0	test	c15|log
+long_store|first_line|19|2999	fd19f6ee30a769d7e8aa7f92e3a904baeefa2da6	2998	-1	1000179940	0	Ada Lovelace <ada@example.org>	change 2999 of many|log
+no_hg|plain|0|-|heads
+empty_hg|plain|0|-|heads
+whole_store|plain|0|15 3f890414582f19f7c71622dda118938743e80f66|heads
+unreadable_index|as_nobody|16|abort: file operation failed|heads
+folder_as_index|plain|16|abort: file operation failed|heads
+file_as_store|plain|0|-|heads
+second_link|plain|0|15 3f890414582f19f7c71622dda118938743e80f66|heads
+whole_store|closed_output|19|-|heads
+whole_store|full_output|19|-|heads
+whole_store|reader_gone_default|19|-|heads
 whole_store|not_text|28|abort: bad word 1|log
 whole_store|not_text|28|abort: bad word 0|
 whole_store|not_text|28|abort: bad word 0|frobnicate
