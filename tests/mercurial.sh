@@ -3,7 +3,7 @@
 # it writes and its status with that answer. A question that is not built yet is counted and named by kind, and each
 # difference is shown. The last line is 'N passed, M failed, K not built'.
 set -u
-built=' log heads '
+built=' log heads files cat bookmarks parents phase '
 
 here=$(cd "$(dirname "$0")" && pwd)
 program=$("$here/../bin/hg_store" --build) || exit 1
@@ -42,7 +42,8 @@ for folder in "$here"/fixtures/*/; do
     cp -r "$folder". "$work/$store/.hg"
     rm -rf "$work/$store/.hg/expected"
     cd "$work/$store" || exit 1
-    while IFS=$'\t' read -r -a question; do
+    while IFS= read -r line; do
+        mapfile -t -d $'\t' question < <(printf '%s\t' "$line") # an empty word is kept
         kind=${question[2]}
         if [[ $built != *" $kind "* ]]; then
             waiting["$kind"]=$((${waiting["$kind"]:-0} + 1))

@@ -88,21 +88,20 @@ check() { # WORLD WAY STATUS LINE WORDS..: LINE is the last line written, 'log' 
     head -3 "$work/err"
 }
 
-# `requires` is not read yet, so a folder without a store is an empty history.
 while IFS='|' read -r world way status line words; do
     # shellcheck disable=SC2086 # the words are split at spaces
     check $world $way $status "$line" $words
 done <<'TABLE'
-no_hg|plain|0|-|log
-empty_hg|plain|0|-|log
-hg_is_a_file|plain|0|-|log
+no_hg|plain|24|abort: not a repository|log
+empty_hg|plain|24|abort: not a repository|log
+hg_is_a_file|plain|24|abort: not a repository|log
 whole_store|plain|0|log|log
 whole_store|as_nobody|0|log|log
 unreadable_index|as_nobody|16|abort: file operation failed|log
 unreadable_data|as_nobody|16|abort: file operation failed|log
 folder_as_index|plain|16|abort: file operation failed|log
 folder_as_data|plain|16|abort: file operation failed|log
-file_as_store|plain|0|-|log
+file_as_store|plain|15|abort: damaged dirstate: dirstate 6 0|log
 cut_data|plain|15|abort: damaged store/00changelog.i: revlog 5 15|log
 other_byte|plain|15|abort: damaged store/00changelog.i: revlog 7 0|log
 second_link|plain|0|log|log
@@ -113,12 +112,12 @@ whole_store|reader_gone_default|19|-|log
 no_hg|closed_output|19|-|log
 whole_store|first_line|0|15	3f890414582f19f7c71622dda118938743e80f66	14	-1	1000000900	0	test	c15|log
 long_store|first_line|19|2999	fd19f6ee30a769d7e8aa7f92e3a904baeefa2da6	2998	-1	1000179940	0	Ada Lovelace <ada@example.org>	change 2999 of many|log
-no_hg|plain|0|-|heads
-empty_hg|plain|0|-|heads
+no_hg|plain|24|abort: not a repository|heads
+empty_hg|plain|24|abort: not a repository|heads
 whole_store|plain|0|15 3f890414582f19f7c71622dda118938743e80f66|heads
 unreadable_index|as_nobody|16|abort: file operation failed|heads
 folder_as_index|plain|16|abort: file operation failed|heads
-file_as_store|plain|0|-|heads
+file_as_store|plain|15|abort: damaged dirstate: dirstate 6 0|heads
 second_link|plain|0|15 3f890414582f19f7c71622dda118938743e80f66|heads
 whole_store|closed_output|19|-|heads
 whole_store|full_output|19|-|heads

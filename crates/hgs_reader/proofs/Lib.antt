@@ -1,6 +1,17 @@
 pub mod AskLemmas
 pub mod ChunkLemmas
+pub mod ContentLemmas
 pub mod FeedLemmas
+pub mod FindLemmas
 pub mod HeadLemmas
+pub mod HeldLemmas
+pub mod LoadedLemmas
+pub mod MachineLemmas
+pub mod NumberLemmas
+pub mod OpenedLemmas
+pub mod RefreshLemmas
 pub mod RestLemmas
+pub mod ShownLemmas
 pub mod StepLemmas
+pub mod TreeLemmas
+pub mod UntilLemmas

@@ -25,6 +25,19 @@ asked_then before after start start_new (read q f m rest) path from most part y 
     continues-answer before after start (read q f m rest) (rest part) y
     (continues-read before before after start (read q f m rest) q f m rest part (continues-start before start (read q f m rest)) g (subst M n.2 (subst F n.1 (subst Q n.0 (subst P s p))))) r
 
+-- a read was answered, and the question goes on
+pub asked_on : (before after : Option (List Op)) (start start_new : Tree) (q left : Asks (Result View ReadAnswer)) (path : Bor (List ℕ)) (from most : ℕ) (part : Option (List ℕ)) →
+    IsNext q (Read path from most) → Grows before after → start_new ≡ start → IsPart after start_new path.now from most (Ok part) → left ≡ rest_of q part → Continues before start after q left
+asked_on before after start start_new (answer x) left path from most part n g s p r = absurd n
+asked_on before after start start_new (read q f m rest) left path from most part n g s p r =
+    let P : Tree → Type 0 = λ t. IsPart after t path.now from most (Ok part) in
+    let Q : List ℕ → Type 0 = λ l. IsPart after start l from most (Ok part) in
+    let F : ℕ → Type 0 = λ k. IsPart after start q k most (Ok part) in
+    let M : ℕ → Type 0 = λ k. IsPart after start q f k (Ok part) in
+    let C : Asks (Result View ReadAnswer) → Type 0 = λ l. Continues before start after (read q f m rest) l in
+    subst C (sym r)
+    (continues-read before before after start (read q f m rest) q f m rest part (continues-start before start (read q f m rest)) g (subst M n.2 (subst F n.1 (subst Q n.0 (subst P s p)))))
+
 module _ (before now next : Option (List Op)) (start start_now : Tree) (whole left rest : Asks (Result View ReadAnswer)) (asked : Continues before start now whole left) (grown : Grows before now) (same : start_now ≡ start) where
   pub goes_on : (b : Bool) → b ≡ true → Advances now start_now next left rest (Ok b) → Continues before start next whole rest
   goes_on false e a = cc

@@ -47,6 +47,17 @@ abbrev pub AddsAnswer : Option (List Op) → Tree → Option (List Op) → Asks 
 AddsAnswer before start after question old new (Ok x) = (text : List ℕ) × (new ≡ old ++ text) × MayAnswerWhereTold before start after question (Ok text)
 AddsAnswer before start after question old new (Err e) = (new ≡ old) × MatchBool (is_of_outside e) ⊤ (MayAnswerWhereTold before start after question (Err e))
 
+-- A call added this text, or was refused so and added nothing; or it found no memory.
+abbrev pub AddsGiven : Result (List ℕ) ReadAnswer → List ℕ → List ℕ → Result Unit ReadAnswer → Type 0
+AddsGiven given old new (Ok x) = (text : List ℕ) × (new ≡ old ++ text) × (given ≡ Ok text)
+AddsGiven given old new (Err e) = (new ≡ old) × MatchBool (is_of_outside e) ⊤ (given ≡ Err e)
+
 -- from the first question and where it began to what is left of it now: each answer of what is left is one of the whole
 abbrev pub Continues : {A : Type 0} → Option (List Op) → Tree → Option (List Op) → Asks A → Asks A → Type 0
 Continues {A} before start now whole left = IfSome before (λ first. IfSome now (λ seen. (last : List Op) (y : A) → MayAnswer start seen left last y → MayAnswer start first whole last y))
+
+-- one question, and the next one with its answer; a refusal ends both
+abbrev pub then_asks : {A B : Type 0} → Asks (Result A ReadAnswer) → (A → Asks (Result B ReadAnswer)) → Asks (Result B ReadAnswer)
+then_asks (answer (Ok x)) more = more x
+then_asks (answer (Err e)) more = answer (Err e)
+then_asks (read path from most rest) more = read path from most (λ part. then_asks (rest part) more)

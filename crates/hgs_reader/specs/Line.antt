@@ -76,10 +76,15 @@ line_of_entry view rev chunk (Some e) = line_of_change rev e (change_at view rev
 abbrev pub line_at : View → ℕ → List ℕ → Result (List ℕ) ReadAnswer
 line_at view rev chunk = line_of_entry view rev chunk (slice_get view.changelog.entries rev)
 
--- what the line of a revision asks: one read of its chunk
-abbrev pub chunk_asks : Option Entry → (List ℕ → Result (List ℕ) ReadAnswer) → Asks (Result (List ℕ) ReadAnswer)
-chunk_asks None given = answer (given [])
-chunk_asks (Some e) given = read changelog_data e.offset e.stored (λ chunk. answer (given (unwrap_or chunk [])))
+-- one read of the chunk of an entry in a data file
+abbrev pub chunk_asks : {A : Type 0} → List ℕ → Option Entry → (List ℕ → Result A ReadAnswer) → Asks (Result A ReadAnswer)
+chunk_asks path None given = answer (given [])
+chunk_asks path (Some e) given = read path e.offset e.stored (λ chunk. answer (given (unwrap_or chunk [])))
 
+-- what the line of a revision asks
 abbrev pub line_asks : View → ℕ → Asks (Result (List ℕ) ReadAnswer)
-line_asks view rev = chunk_asks (slice_get view.changelog.entries rev) (line_at view rev)
+line_asks view rev = chunk_asks changelog_data (slice_get view.changelog.entries rev) (line_at view rev)
+
+-- what the changeset of a revision asks
+abbrev pub change_asks : View → ℕ → Asks (Result Change ReadAnswer)
+change_asks view rev = chunk_asks changelog_data (slice_get view.changelog.entries rev) (change_at view rev)

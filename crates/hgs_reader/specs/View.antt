@@ -1,15 +1,15 @@
 -- What a session holds of a repository.
-use Rattle.std.specs.Prelude.{ℕ, suc, zero, List, [], ◌++◌, length, nat_lt, codes, unwrap_or, Result, Ok, Err, if◌then◌else◌}
+use Rattle.std.specs.Prelude.{ℕ, suc, zero, List, [], ◌++◌, length, nat_lt, codes, unwrap_or, Option, Result, Ok, Err, if◌then◌else◌}
+use Rattle.hgs_marks.specs.Bookmarks.{Mark}
+use Rattle.hgs_phases.specs.declared.phase.Phase.{Phase}
 use Rattle.hgs_plan.specs.declared.damage.Part.{Part}
 use Rattle.hgs_plan.specs.declared.damage.Part.TheVariants as parts
 use Rattle.hgs_revlog.specs.declared.fault.RevFault.{RevFault}
 use Rattle.hgs_revlog.specs.declared.fault.RevFault.TheVariants as faults
-use Rattle.hgs_revlog.specs.declared.fault.Tail.TheVariants.{Ignore}
-use Rattle.hgs_revlog.specs.Load.{loaded}
 use Rattle.hgs_revlog.specs.Log.{Log}
 use Rattle.hgs_reader.specs.declared.answer.ReadAnswer.{ReadAnswer}
 use Rattle.hgs_reader.specs.declared.answer.ReadAnswer.TheVariants.{Damaged, Limit, Memory}
-use Rattle.hgs_reader.specs.Asks.{Asks, answer, read}
+use Rattle.hgs_reader.specs.Asks.{Asks, read}
 
 abbrev pub changelog_index : List ℕ
 changelog_index = codes "store/00changelog.i"
@@ -17,9 +17,12 @@ changelog_index = codes "store/00changelog.i"
 abbrev pub changelog_data : List ℕ
 changelog_data = codes "store/00changelog.d"
 
--- the history that was loaded
+-- what was loaded: the history, the bookmarks, the changesets that are the two working parents, and the phase of each changeset
 pub record View : Type 0 where
   pub changelog : Log
+  pub bookmarks : List Mark
+  pub working : Option ℕ × Option ℕ
+  pub phases : List Phase
 
 abbrev pub damaged : List ℕ → Part → ℕ → ℕ → ReadAnswer
 damaged path part number place = Damaged (record { path = path; what = record { part = part; number = number; place = place } })
@@ -55,14 +58,6 @@ pieces_then path (suc left) bytes more =
     read path (length bytes) piece_length (λ piece.
     if nat_lt (length (unwrap_or piece [])) piece_length then more (bytes ++ unwrap_or piece []) else pieces_then path left (bytes ++ unwrap_or piece []) more)
 
-abbrev pub view_of_log : Result Log RevFault → Result View ReadAnswer
-view_of_log (Ok log) = Ok (record { changelog = log })
-view_of_log (Err f) = Err (revlog_refusal changelog_index f)
-
--- the view of an index; a rest that is no whole entry is passed over
-abbrev pub view_of : List ℕ → Result View ReadAnswer
-view_of index = view_of_log (loaded Ignore index)
-
--- what opening a session asks
-abbrev pub open_asks : Asks (Result View ReadAnswer)
-open_asks = pieces_then changelog_index most_pieces [] (λ index. answer (view_of index))
+abbrev pub log_answer : List ℕ → Result Log RevFault → Result Log ReadAnswer
+log_answer index (Ok log) = Ok log
+log_answer index (Err f) = Err (revlog_refusal index f)

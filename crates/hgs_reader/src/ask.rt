@@ -1,5 +1,5 @@
 //! One read of a file that others may change meanwhile.
-ghost use Rattle.std.specs.Prelude.{◌≡◌, ◌≤◌, Bool, true, length, IfOk, IfSome};
+ghost use Rattle.std.specs.Prelude.{◌≡◌, ◌≤◌, [], Bool, true, length, unwrap_or, IfOk, IfSome};
 ghost use Rattle.hgs_files.specs.Reads.{Grows};
 ghost use Rattle.hgs_reader.specs.Answer.{HasFaultCause};
 ghost use Rattle.hgs_reader.specs.Asks.{IsPart};
@@ -30,5 +30,15 @@ pub fn read_part<R: Reads>(
         Ok(Some(_)) => Ok(Some(Bytes::from_vec(part))),
         Ok(None) => Ok(None),
         Err(fault) => Err(of_files(fault)),
+    }
+}
+
+// The bytes that a read gave, none where the file isn't there.
+pub(crate) fn bytes_of(part: &Option<Bytes>) -> &[u8]
+    ensures { result.now ≡ unwrap_or part.now [] }
+{
+    match part {
+        Some(bytes) => bytes.as_slice(),
+        None => &[],
     }
 }

@@ -1,22 +1,31 @@
 //! A load as a machine that asks for one read after another.
-ghost use Rattle.std.specs.Prelude.{◌≡◌, ◌<◌, ◌||◌, ◌==◌, [], length, nat_lt, unwrap_or};
-ghost use Rattle.std.specs.Option.{ForNone, option_copied};
-ghost use Rattle.hgs_reader.specs.View.{piece_length};
+ghost use Rattle.std.specs.Prelude.{◌≡◌};
+ghost use Rattle.hgs_bytes.specs.Answer.{Gives};
+ghost use Rattle.hgs_reader.specs.Answer.{is_of_outside, NeverFaults};
+ghost use Rattle.hgs_reader.specs.Marks.{dirstate_path, nodes_of};
+ghost use Rattle.hgs_reader.specs.Open.{view_of};
+ghost use Rattle.hgs_reader.specs.Refresh.{view_after};
+ghost use Rattle.hgs_reader.specs.View.{changelog_index};
 
 use crate::answer::ReadAnswer;
-use crate::paths::ChangelogPaths;
-use crate::refusal::of_revlog;
+use crate::marks::{WorkingNodes, working_parents_of};
+use crate::paths::{ChangelogPaths, LoadPaths};
+use crate::pieces::{IndexLoad, PIECE};
+use crate::refresh::first_changed;
+use crate::refusal::damage;
 use crate::session::Session;
+use crate::whole::{
+    MOST_BOOKMARKS_TEXT, MOST_DIRSTATE, MOST_REQUIRES, MOST_ROOTS, take_bookmarks, take_nodes,
+    take_requirements, take_roots,
+};
 use hgs_files::path::StorePath;
-use hgs_revlog::fault::Tail;
+use hgs_index::entry::Entry;
+use hgs_marks::bookmarks::Bookmarks;
+use hgs_phases::roots::Roots;
+use hgs_plan::damage::Part;
 use hgs_revlog::revlog::Revlog;
 use std::alloc::{AllocError, Global};
-
-/// The bytes of one read of an index: 1,024 entries.
-const PIECE: u64 = 65_536;
-
-/// As many pieces hold more entries than a revlog may have.
-const MOST_PIECES: u32 = 977;
+use std::mem;
 
 /// What a load asks for next.
 #[derive(Drop)]
@@ -30,41 +39,73 @@ pub enum LoadNext<'a> {
     End,
 }
 
-// The bytes of a read, none where the file isn't there.
-fn piece_of(part: Option<&[u8]>) -> &[u8]
-    ensures { result.now ≡ unwrap_or (option_copied part.entry) [] }
+// The session that what was read gives. The path is that of the file that names the working parents.
+fn session_of(
+    alloc: Global,
+    path: &StorePath,
+    bookmarks: Bookmarks,
+    nodes: &WorkingNodes,
+    log: Revlog,
+    roots: &Roots,
+) -> Result<Session, ReadAnswer>
+    requires { path.now ≡ dirstate_path }
+    ensures session { Gives is_of_outside (λ session. session) result (view_of bookmarks (nodes_of nodes.now) log roots.now) }
+    ensures inner { NeverFaults result }
 {
-    match part {
-        Some(piece) => piece,
-        None => &[],
+    let working = match working_parents_of(alloc, path, &log, nodes) {
+        Ok(working) => working,
+        Err(refusal) => return Err(refusal),
+    };
+    let phases = roots.phases_of(alloc, &log)?;
+    let paths = ChangelogPaths::new(alloc)?;
+    Ok(Session::of(alloc, paths, log, bookmarks, working, phases))
+}
+
+// The same for a history that has to begin with the old entries. The paths are those of the file that names the working
+// parents and of the changelog's index.
+fn session_after(
+    alloc: Global,
+    path: &StorePath,
+    index: &StorePath,
+    old: &[Entry],
+    bookmarks: Bookmarks,
+    nodes: &WorkingNodes,
+    log: Revlog,
+    roots: &Roots,
+) -> Result<Session, ReadAnswer>
+    requires path { path.now ≡ dirstate_path }
+    requires index { index.now ≡ changelog_index }
+    ensures session { Gives is_of_outside (λ session. session) result (view_after old.now bookmarks (nodes_of nodes.now) log roots.now) }
+    ensures inner { NeverFaults result }
+{
+    match first_changed(old, &log) {
+        Some(rev) => Err(damage(alloc, index, Part::Shrunk, 1, rev as u64)),
+        None => session_of(alloc, path, bookmarks, nodes, log, roots),
     }
 }
 
-// Whether this piece is the last of an index, so many being allowed.
-fn is_last(piece: &[u8], left: u32) -> bool
-    ensures { result ≡ (nat_lt (length piece.now) piece_length || left == 1) }
-{
-    (piece.len() as u64) < PIECE || left == 1
-}
-
-/// A load under way: what was read so far of the changelog's index, and the changelog once it was read to its end.
+/// A load under way: what was read so far, and the session once all was.
 #[derive(Drop)]
 pub struct LoadMachine {
     alloc: Global,
-    paths: ChangelogPaths,
-    left: u32,
-    index: Vec<u8>,
-    changelog: Option<Revlog>,
-    ghost some_left: { ForNone changelog (0 < left) },
+    paths: LoadPaths,
+    changelog: ChangelogPaths,
+    former: Vec<Entry>,
+    required: bool,
+    bookmarks: Option<Bookmarks>,
+    nodes: Option<WorkingNodes>,
+    index: IndexLoad,
+    session: Option<Session>,
 }
 
 impl LoadMachine {
-    ghost use Rattle.std.specs.Prelude.{◌≡◌, ◌<◌, List, ℕ, IfOk, OnOk, Ok, Option};
+    ghost use Rattle.std.specs.Prelude.{◌≡◌, ◌<◌, List, ℕ, IfOk, OnOk, Ok, Option, None, true, false, is_some};
     ghost use Rattle.std.specs.Option.{option_copied};
     ghost use Rattle.hgs_reader.specs.Answer.{NeverFaults};
     ghost use Rattle.hgs_reader.specs.Asks.{answer};
-    ghost use Rattle.hgs_reader.specs.Load.{asks_of, reads_left, IsNext, AsksFor, Feeds, HasEnded, Finishes};
-    ghost use Rattle.hgs_reader.specs.View.{open_asks, view_of};
+    ghost use Rattle.hgs_reader.specs.Load.{asks_of, reads_left, index_asks, IsNext, AsksFor, Feeds, HasEnded};
+    ghost use Rattle.hgs_reader.specs.Open.{open_asks};
+    ghost use Rattle.hgs_reader.specs.Refresh.{refresh_asks};
 
     /// A load that has read nothing.
     pub fn open(alloc: Global) -> Result<LoadMachine, AllocError>
@@ -72,40 +113,215 @@ impl LoadMachine {
     {
         Ok(LoadMachine {
             alloc,
-            paths: ChangelogPaths::new(alloc)?,
-            left: MOST_PIECES,
-            index: Vec::new(alloc),
-            changelog: None,
+            paths: LoadPaths::new(alloc)?,
+            changelog: ChangelogPaths::new(alloc)?,
+            former: Vec::new(alloc),
+            required: false,
+            bookmarks: None,
+            nodes: None,
+            index: IndexLoad::new(alloc),
+            session: None,
         })
+    }
+
+    /// A load of what has changed since a session was loaded. It does not read `requires` again, and is refused where the
+    /// history does not begin with that of the session.
+    pub fn refresh(alloc: Global, session: &Session) -> Result<LoadMachine, AllocError>
+        ensures asks { IfOk result (λ machine. asks_of machine ≡ refresh_asks session.now) }
+    {
+        Ok(LoadMachine {
+            alloc,
+            paths: LoadPaths::new(alloc)?,
+            changelog: ChangelogPaths::new(alloc)?,
+            former: session.entries()?,
+            required: true,
+            bookmarks: None,
+            nodes: None,
+            index: IndexLoad::new(alloc),
+            session: None,
+        })
+    }
+
+    // What is asked for where only the changelog's index and the phase roots are left.
+    fn next_late(&self) -> LoadNext<'_>
+        requires required { self.now.required ≡ true }
+        requires bookmarks { is_some self.now.bookmarks ≡ true }
+        requires nodes { is_some self.now.nodes ≡ true }
+        requires session { self.now.session ≡ None }
+        ensures { IsNext (asks_of self.now) result }
+    {
+        match self.index.log() {
+            Some(_) => LoadNext::Read {
+                path: self.paths.roots(),
+                from: 0,
+                most: MOST_ROOTS + 1,
+            },
+            None => LoadNext::Read {
+                path: self.changelog.index(),
+                from: self.index.len(),
+                most: PIECE,
+            },
+        }
+    }
+
+    // What is asked for where `requires` has been read.
+    fn next_part(&self) -> LoadNext<'_>
+        requires required { self.now.required ≡ true }
+        requires session { self.now.session ≡ None }
+        ensures { IsNext (asks_of self.now) result }
+    {
+        if self.bookmarks.is_none() {
+            return LoadNext::Read {
+                path: self.paths.bookmarks(),
+                from: 0,
+                most: MOST_BOOKMARKS_TEXT + 1,
+            };
+        }
+        if self.nodes.is_none() {
+            return LoadNext::Read {
+                path: self.paths.dirstate(),
+                from: 0,
+                most: MOST_DIRSTATE + 1,
+            };
+        }
+        self.next_late()
     }
 
     /// What the load asks for next. Takes no memory.
     pub fn next(&self) -> LoadNext<'_>
         ensures { IsNext (asks_of self.now) result }
     {
-        match self.changelog {
-            Some(_) => LoadNext::End,
-            None => LoadNext::Read {
-                path: self.paths.index(),
-                from: self.index.len() as u64,
-                most: PIECE,
-            },
+        if self.session.is_some() {
+            return LoadNext::End;
+        }
+        if !self.required {
+            return LoadNext::Read {
+                path: self.paths.requires_file(),
+                from: 0,
+                most: MOST_REQUIRES + 1,
+            };
+        }
+        self.next_part()
+    }
+
+    fn feed_requires(&mut self, part: Option<&[u8]>) -> Result<(), ReadAnswer>
+        requires required { self.old.required ≡ false }
+        requires session { self.old.session ≡ None }
+        ensures fed { Feeds (asks_of self.old) (option_copied part.entry) (asks_of self.new) result }
+        ensures fewer { OnOk result (reads_left self.new < reads_left self.old) }
+        ensures inner { NeverFaults result }
+    {
+        match take_requirements(self.alloc, part) {
+            Ok(()) => {
+                self.required = true;
+                Ok(())
+            }
+            Err(refusal) => Err(refusal),
         }
     }
 
-    // Loads the changelog from the index that was read.
-    fn finish(&mut self) -> Result<(), ReadAnswer>
-        ensures done { Finishes (view_of self.old.index.items) (asks_of self.new) result }
-        ensures ended { OnOk result (reads_left self.new ≡ 0) }
+    fn feed_bookmarks(&mut self, part: Option<&[u8]>) -> Result<(), ReadAnswer>
+        requires required { self.old.required ≡ true }
+        requires bookmarks { self.old.bookmarks ≡ None }
+        requires session { self.old.session ≡ None }
+        ensures fed { Feeds (asks_of self.old) (option_copied part.entry) (asks_of self.new) result }
+        ensures fewer { OnOk result (reads_left self.new < reads_left self.old) }
         ensures inner { NeverFaults result }
     {
-        match Revlog::load(self.alloc, &self.index, Tail::Ignore) {
-            Ok(changelog) => {
-                self.changelog = Some(changelog);
+        match take_bookmarks(self.alloc, self.paths.bookmarks(), part) {
+            Ok(bookmarks) => {
+                self.bookmarks = Some(bookmarks);
                 Ok(())
             }
-            Err(fault) => Err(of_revlog(self.alloc, self.paths.index(), fault)),
+            Err(refusal) => Err(refusal),
         }
+    }
+
+    fn feed_dirstate(&mut self, part: Option<&[u8]>) -> Result<(), ReadAnswer>
+        requires required { self.old.required ≡ true }
+        requires bookmarks { is_some self.old.bookmarks ≡ true }
+        requires nodes { self.old.nodes ≡ None }
+        requires session { self.old.session ≡ None }
+        ensures fed { Feeds (asks_of self.old) (option_copied part.entry) (asks_of self.new) result }
+        ensures fewer { OnOk result (reads_left self.new < reads_left self.old) }
+        ensures inner { NeverFaults result }
+    {
+        match take_nodes(self.alloc, self.paths.dirstate(), part) {
+            Ok(nodes) => {
+                self.nodes = Some(nodes);
+                Ok(())
+            }
+            Err(refusal) => Err(refusal),
+        }
+    }
+
+    fn feed_piece(&mut self, part: Option<&[u8]>) -> Result<(), ReadAnswer>
+        requires required { self.old.required ≡ true }
+        requires bookmarks { is_some self.old.bookmarks ≡ true }
+        requires nodes { is_some self.old.nodes ≡ true }
+        requires session { self.old.session ≡ None }
+        requires asked { AsksFor (index_asks self.old.index) (option_copied part) }
+        ensures fed { Feeds (asks_of self.old) (option_copied part.entry) (asks_of self.new) result }
+        ensures fewer { OnOk result (reads_left self.new < reads_left self.old) }
+        ensures inner { NeverFaults result }
+    {
+        self.index.feed(self.changelog.index(), part)
+    }
+
+    fn feed_roots(&mut self, part: Option<&[u8]>) -> Result<(), ReadAnswer>
+        requires required { self.old.required ≡ true }
+        requires bookmarks { is_some self.old.bookmarks ≡ true }
+        requires nodes { is_some self.old.nodes ≡ true }
+        requires session { self.old.session ≡ None }
+        requires whole { is_some self.old.index.log ≡ true }
+        ensures fed { Feeds (asks_of self.old) (option_copied part.entry) (asks_of self.new) result }
+        ensures fewer { OnOk result (reads_left self.new < reads_left self.old) }
+        ensures inner { NeverFaults result }
+    {
+        let roots = match take_roots(self.alloc, self.paths.roots(), part) {
+            Ok(roots) => roots,
+            Err(refusal) => return Err(refusal),
+        };
+        let Some(nodes) = self.nodes else {
+            unreachable!()
+        };
+        let Some(bookmarks) = self.bookmarks.take() else {
+            unreachable!()
+        };
+        let log = mem::replace(&mut self.index, IndexLoad::new(self.alloc)).take();
+        match session_after(
+            self.alloc,
+            self.paths.dirstate(),
+            self.changelog.index(),
+            &self.former,
+            bookmarks,
+            &nodes,
+            log,
+            &roots,
+        ) {
+            Ok(session) => {
+                self.session = Some(session);
+                Ok(())
+            }
+            Err(refusal) => Err(refusal),
+        }
+    }
+
+    // Takes a part of the changelog's index, or the phase roots.
+    fn feed_late(&mut self, part: Option<&[u8]>) -> Result<(), ReadAnswer>
+        requires required { self.old.required ≡ true }
+        requires bookmarks { is_some self.old.bookmarks ≡ true }
+        requires nodes { is_some self.old.nodes ≡ true }
+        requires session { self.old.session ≡ None }
+        requires asked { AsksFor (asks_of self.old) (option_copied part) }
+        ensures fed { Feeds (asks_of self.old) (option_copied part.entry) (asks_of self.new) result }
+        ensures fewer { OnOk result (reads_left self.new < reads_left self.old) }
+        ensures inner { NeverFaults result }
+    {
+        if self.index.is_whole() {
+            return self.feed_roots(part);
+        }
+        self.feed_piece(part)
     }
 
     /// Takes the bytes that were read where `next` asked, none where the file isn't there.
@@ -117,13 +333,16 @@ impl LoadMachine {
         ensures fewer { OnOk result (reads_left self.new < reads_left self.old) }
         ensures inner { NeverFaults result }
     {
-        let piece = piece_of(part);
-        self.index.extend_from_slice(piece)?;
-        if is_last(piece, self.left) {
-            return self.finish();
+        if !self.required {
+            return self.feed_requires(part);
         }
-        self.left -= 1;
-        Ok(())
+        if self.bookmarks.is_none() {
+            return self.feed_bookmarks(part);
+        }
+        if self.nodes.is_none() {
+            return self.feed_dirstate(part);
+        }
+        self.feed_late(part)
     }
 
     /// The session of a load that has ended. Takes no memory.
@@ -132,14 +351,18 @@ impl LoadMachine {
         ensures { asks_of self ≡ answer (Ok result) }
     {
         let LoadMachine {
-            alloc,
-            paths,
-            left: _,
+            alloc: _,
+            paths: _,
+            changelog: _,
+            former: _,
+            required: _,
+            bookmarks: _,
+            nodes: _,
             index: _,
-            changelog,
+            session,
         } = self;
-        match changelog {
-            Some(changelog) => Session::of(alloc, paths, changelog),
+        match session {
+            Some(session) => session,
             None => unreachable!(),
         }
     }

@@ -1,6 +1,8 @@
 //! The paths of the files that a reader reads.
 ghost use Rattle.std.specs.Prelude.{◌≡◌, true, IfOk};
 ghost use Rattle.hgs_files.specs.Path.{is_store_path};
+ghost use Rattle.hgs_reader.specs.Marks.{bookmarks_path, dirstate_path, roots_path};
+ghost use Rattle.hgs_reader.specs.Open.{requires_path};
 ghost use Rattle.hgs_reader.specs.View.{changelog_index, changelog_data};
 
 use hgs_files::path::{NameFault, StorePath};
@@ -45,5 +47,53 @@ impl ChangelogPaths {
         ensures { result.now ≡ changelog_data }
     {
         &self.chunks
+    }
+}
+
+/// The files that a load reads beside the changelog.
+#[derive(Drop)]
+pub struct LoadPaths {
+    requires_file: StorePath,
+    bookmarks: StorePath,
+    dirstate: StorePath,
+    roots: StorePath,
+    ghost names_requires: { requires_file ≡ requires_path },
+    ghost names_bookmarks: { bookmarks ≡ bookmarks_path },
+    ghost names_dirstate: { dirstate ≡ dirstate_path },
+    ghost names_roots: { roots ≡ roots_path },
+}
+
+impl LoadPaths {
+    pub fn new(alloc: Global) -> Result<LoadPaths, AllocError> {
+        Ok(LoadPaths {
+            requires_file: path_of(alloc, b"requires")?,
+            bookmarks: path_of(alloc, b"bookmarks")?,
+            dirstate: path_of(alloc, b"dirstate")?,
+            roots: path_of(alloc, b"store/phaseroots")?,
+        })
+    }
+
+    pub fn requires_file(&self) -> &StorePath
+        ensures { result.now ≡ requires_path }
+    {
+        &self.requires_file
+    }
+
+    pub fn bookmarks(&self) -> &StorePath
+        ensures { result.now ≡ bookmarks_path }
+    {
+        &self.bookmarks
+    }
+
+    pub fn dirstate(&self) -> &StorePath
+        ensures { result.now ≡ dirstate_path }
+    {
+        &self.dirstate
+    }
+
+    pub fn roots(&self) -> &StorePath
+        ensures { result.now ≡ roots_path }
+    {
+        &self.roots
     }
 }

@@ -1,12 +1,13 @@
 //! What a fault of a revlog or of a text is to a reader.
 ghost use Rattle.std.specs.Prelude.{◌≡◌, false};
 ghost use Rattle.hgs_reader.specs.Answer.{IsRefusal, is_fault};
+ghost use Rattle.hgs_reader.specs.Contents.{manifest_index, manifest_refusal};
 ghost use Rattle.hgs_reader.specs.Line.{change_refusal};
 ghost use Rattle.hgs_reader.specs.View.{changelog_index, revlog_refusal, damaged};
 
 use crate::answer::ReadAnswer;
 use hgs_files::path::StorePath;
-use hgs_index::texts::ChangeFault;
+use hgs_index::texts::{ChangeFault, ManifestFault};
 use hgs_plan::damage::{Damage, Part, What};
 use hgs_revlog::fault::RevFault;
 use std::alloc::Global;
@@ -56,4 +57,17 @@ pub fn of_change(alloc: Global, path: &StorePath, rev: u32, fault: ChangeFault) 
         ChangeFault::Memory => return ReadAnswer::Memory,
     };
     damage(alloc, path, Part::Change, number, rev as u64)
+}
+
+/// What a fault of the text of a manifest is.
+pub fn of_manifest(alloc: Global, path: &StorePath, fault: ManifestFault) -> ReadAnswer
+    requires { path.now ≡ manifest_index }
+    ensures refusal { IsRefusal result (manifest_refusal fault) }
+    ensures inner { is_fault result ≡ false }
+{
+    match fault {
+        ManifestFault::Line(line) => damage(alloc, path, Part::Manifest, 1, line),
+        ManifestFault::Order(line) => damage(alloc, path, Part::Manifest, 2, line),
+        ManifestFault::Memory => ReadAnswer::Memory,
+    }
 }

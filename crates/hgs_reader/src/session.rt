@@ -1,30 +1,28 @@
 //! A session: what was loaded of a repository, and the questions that it answers.
-ghost use Rattle.std.specs.Prelude.{◌≡◌, [], unwrap_or};
 
 use crate::answer::ReadAnswer;
-use crate::ask::read_part;
+use crate::ask::{bytes_of, read_part};
+use crate::contents::{add_file, add_files, manifest_of};
 use crate::heads::heads_of;
 use crate::line::line_of;
 use crate::load::LoadMachine;
+use crate::marks::WorkingParents;
+use crate::names::revision_named;
 use crate::paths::ChangelogPaths;
+use crate::refresh::entries_of;
 use crate::refusal::{of_change, of_revlog};
-use crate::step::feed_next;
-use hgs_bytes::bytes::Bytes;
+use crate::shown::{mark_lines, parent_lines};
+use crate::step::load_with;
 use hgs_changelog::text::ChangeText;
 use hgs_files::files::Reads;
+use hgs_index::entry::Entry;
+use hgs_manifest::manifest::Manifest;
+use hgs_marks::bookmarks::Bookmarks;
+use hgs_phases::phase::Phase;
+use hgs_phases::phases::Phases;
 use hgs_revlog::revlog::Revlog;
 use std::alloc::{AllocError, Global};
 use std::marker::Model;
-
-// The bytes that a read gave, none where the file isn't there.
-fn bytes_of(part: &Option<Bytes>) -> &[u8]
-    ensures { result.now ≡ unwrap_or part.now [] }
-{
-    match part {
-        Some(bytes) => bytes.as_slice(),
-        None => &[],
-    }
-}
 
 /// What was loaded of a repository. Contracts see it as the history that it holds.
 #[derive(Drop)]
@@ -32,35 +30,61 @@ pub struct Session {
     alloc: Global,
     paths: ChangelogPaths,
     changelog: Revlog,
+    bookmarks: Bookmarks,
+    working: WorkingParents,
+    phases: Phases,
 }
 
 impl Model for Session {
+    ghost use Rattle.std.specs.Prelude.{◌≡◌, ◌<◌, length, IfSome};
+    ghost use Rattle.hgs_reader.specs.Marks.{working_of};
     ghost use Rattle.hgs_reader.specs.View.{View};
 
     ghost Value = { View };
 
-    ghost view = { λ s. record { changelog = s.changelog } };
+    ghost view = { λ s. record { changelog = s.changelog; bookmarks = s.bookmarks; working = working_of s.working; phases = s.phases } };
+
+    ghost invariant = { λ s. IfSome s.working.first (λ rev. rev < length s.changelog.entries) × IfSome s.working.second (λ rev. rev < length s.changelog.entries) × (length s.phases ≡ length s.changelog.entries) };
 }
 
 impl Session {
-    ghost use Rattle.std.specs.Prelude.{◌≡◌, ◌<◌, ◌≤◌, ◌++◌, true, length, slice_get, IfSome, OnOk, OnErr};
+    ghost use Rattle.std.specs.Prelude.{◌≡◌, ◌<◌, ◌≤◌, ◌++◌, true, length, slice_get, Some, IfOk, IfSome, OnOk, OnErr};
     ghost use Rattle.hgs_bytes.specs.Answer.{Gives};
     ghost use Rattle.hgs_files.specs.Reads.{Grows};
     ghost use Rattle.hgs_changelog.specs.View.{view_change};
     ghost use Rattle.hgs_reader.specs.Answer.{is_of_outside, HasFaultCause, NeverFaults};
     ghost use Rattle.hgs_reader.specs.Asks.{Answers, AddsAnswer};
+    ghost use Rattle.hgs_reader.specs.Contents.{tree_asks, files_asks, cat_asks};
     ghost use Rattle.hgs_reader.specs.Heads.{heads_text};
-    ghost use Rattle.hgs_reader.specs.Line.{change_at, line_at, line_asks};
-    ghost use Rattle.hgs_reader.specs.View.{open_asks};
+    ghost use Rattle.hgs_reader.specs.Line.{change_at, change_asks, line_at, line_asks};
+    ghost use Rattle.hgs_reader.specs.Load.{Refreshes};
+    ghost use Rattle.hgs_reader.specs.Marks.{working_of};
+    ghost use Rattle.hgs_reader.specs.Refresh.{refresh_asks};
+    ghost use Rattle.hgs_reader.specs.Names.{named};
+    ghost use Rattle.hgs_reader.specs.Open.{open_asks};
+    ghost use Rattle.hgs_reader.specs.Shown.{marks_text, parents_text};
 
-    /// The session that holds this changelog.
-    pub fn of(alloc: Global, paths: ChangelogPaths, changelog: Revlog) -> Session
-        ensures { result ≡ record { changelog = changelog } }
+    /// The session that holds what was loaded.
+    pub fn of(
+        alloc: Global,
+        paths: ChangelogPaths,
+        changelog: Revlog,
+        bookmarks: Bookmarks,
+        working: WorkingParents,
+        phases: Phases,
+    ) -> Session
+        requires first { IfSome working.first (λ rev. rev < length changelog.entries) }
+        requires second { IfSome working.second (λ rev. rev < length changelog.entries) }
+        requires phases { length phases ≡ length changelog.entries }
+        ensures { result ≡ record { changelog = changelog; bookmarks = bookmarks; working = working_of working; phases = phases } }
     {
         Session {
             alloc,
             paths,
             changelog,
+            bookmarks,
+            working,
+            phases,
         }
     }
 
@@ -72,13 +96,44 @@ impl Session {
         ensures still { R.alone ≡ true → R.seen files.new ≡ R.seen files.old }
         ensures cause { HasFaultCause (R.faults files.old) (R.faults files.new) result }
     {
-        let mut machine = LoadMachine::open(alloc)?;
-        loop {
-            match feed_next(alloc, files, &mut machine) {
-                Ok(true) => {}
-                Ok(false) => return Ok(machine.take()),
-                Err(refusal) => return Err(refusal),
+        let machine = LoadMachine::open(alloc)?;
+        load_with(alloc, files, machine)
+    }
+
+    /// A copy of the entries of the history.
+    pub(crate) fn entries(&self) -> Result<Vec<Entry>, AllocError>
+        ensures { IfOk result (λ entries. entries.items ≡ self.now.changelog.entries) }
+    {
+        entries_of(self.alloc, &self.changelog)
+    }
+
+    // Loads again what may have changed.
+    fn reloaded<R: Reads>(&self, files: &mut R) -> Result<Session, ReadAnswer>
+        ensures answer { Answers (λ session. session) (R.seen files.old) (R.start files.old) (R.seen files.new) (refresh_asks self.now) result }
+        ensures seen { Grows (R.seen files.old) (R.seen files.new) }
+        ensures same_start { R.start files.new ≡ R.start files.old }
+        ensures still { R.alone ≡ true → R.seen files.new ≡ R.seen files.old }
+        ensures cause { HasFaultCause (R.faults files.old) (R.faults files.new) result }
+    {
+        let machine = LoadMachine::refresh(self.alloc, self)?;
+        load_with(self.alloc, files, machine)
+    }
+
+    /// Loads again what may have changed, which is all but `requires`. A refusal changes nothing; it is damage of the
+    /// changelog where the history does not begin with the one that was loaded.
+    pub fn refresh<R: Reads>(&mut self, files: &mut R) -> Result<(), ReadAnswer>
+        ensures answer { Refreshes (R.seen files.old) (R.start files.old) (R.seen files.new) (refresh_asks self.old) self.old self.new result }
+        ensures seen { Grows (R.seen files.old) (R.seen files.new) }
+        ensures same_start { R.start files.new ≡ R.start files.old }
+        ensures still { R.alone ≡ true → R.seen files.new ≡ R.seen files.old }
+        ensures cause { HasFaultCause (R.faults files.old) (R.faults files.new) result }
+    {
+        match self.reloaded(files) {
+            Ok(session) => {
+                *self = session;
+                Ok(())
             }
+            Err(refusal) => Err(refusal),
         }
     }
 
@@ -87,6 +142,16 @@ impl Session {
         ensures { result ≡ length self.now.changelog.entries }
     {
         self.changelog.len()
+    }
+
+    /// The revision that a name names: `.` the first working parent, `tip` the last changeset, a decimal number without
+    /// needless zeros itself, 40 lower-case hex digits the changeset with that node, a bookmark its changeset, tried in this
+    /// order. `null` names none, and so does a bookmark of an unknown node. The time is that of a search among the nodes.
+    pub fn resolve(&self, name: &[u8]) -> Option<u32>
+        ensures named { result ≡ named self.now name.now }
+        ensures below { IfSome result (λ rev. rev < length self.now.changelog.entries) }
+    {
+        revision_named(&self.changelog, &self.bookmarks, self.working.first, name)
     }
 
     // The changeset of a revision whose chunk was read.
@@ -148,6 +213,88 @@ impl Session {
         Ok(())
     }
 
+    // Reads the text of a changeset.
+    fn change<R: Reads>(&self, files: &mut R, rev: u32) -> Result<ChangeText, ReadAnswer>
+        requires { rev < length self.now.changelog.entries }
+        ensures answer { Answers view_change (R.seen files.old) (R.start files.old) (R.seen files.new) (change_asks self.now rev) result }
+        ensures seen { Grows (R.seen files.old) (R.seen files.new) }
+        ensures same_start { R.start files.new ≡ R.start files.old }
+        ensures still { R.alone ≡ true → R.seen files.new ≡ R.seen files.old }
+        ensures cause { HasFaultCause (R.faults files.old) (R.faults files.new) result }
+    {
+        let span = self.changelog.text_span(rev);
+        let part = read_part(self.alloc, files, self.paths.chunks(), span.from, span.len)?;
+        self.change_from(rev, bytes_of(&part))
+    }
+
+    // Reads the manifest of a changeset.
+    fn manifest<R: Reads>(&self, files: &mut R, rev: u32) -> Result<Manifest, ReadAnswer>
+        requires { rev < length self.now.changelog.entries }
+        ensures answer { Answers (λ rows. rows) (R.seen files.old) (R.start files.old) (R.seen files.new) (tree_asks self.now rev) result }
+        ensures seen { Grows (R.seen files.old) (R.seen files.new) }
+        ensures same_start { R.start files.new ≡ R.start files.old }
+        ensures still { R.alone ≡ true → R.seen files.new ≡ R.seen files.old }
+        ensures cause { HasFaultCause (R.faults files.old) (R.faults files.new) result }
+    {
+        match self.change(files, rev) {
+            Ok(change) => manifest_of(self.alloc, files, &change.manifest),
+            Err(refusal) => Err(refusal),
+        }
+    }
+
+    /// Adds a line for each file of a changeset, in the order of their paths: node, flag and path. The flag is `-`, `x` or
+    /// `l`. A refusal adds nothing.
+    ///
+    /// It reads the texts of the changeset and of its manifest, and the manifest's index up to that text.
+    pub fn files<R: Reads>(
+        &mut self,
+        files: &mut R,
+        rev: u32,
+        into: &mut Vec<u8>,
+    ) -> Result<(), ReadAnswer>
+        requires { rev < length self.old.changelog.entries }
+        ensures answer { AddsAnswer (R.seen files.old) (R.start files.old) (R.seen files.new) (files_asks self.old rev) into.old.items into.new.items result }
+        ensures kept { self.new ≡ self.old }
+        ensures seen { Grows (R.seen files.old) (R.seen files.new) }
+        ensures same_start { R.start files.new ≡ R.start files.old }
+        ensures still { R.alone ≡ true → R.seen files.new ≡ R.seen files.old }
+        ensures cause { HasFaultCause (R.faults files.old) (R.faults files.new) result }
+    {
+        match self.manifest(files, rev) {
+            Ok(manifest) => {
+                add_files(&manifest, into)?;
+                Ok(())
+            }
+            Err(refusal) => Err(refusal),
+        }
+    }
+
+    /// Adds the body of a file of a changeset. A refusal adds nothing; it is `UnknownPath` exactly where the changeset has
+    /// no such file, and a path that is not tracked is none.
+    ///
+    /// It reads the texts of the changeset, of its manifest and of the file, and the two indexes up to these texts.
+    pub fn cat<R: Reads>(
+        &mut self,
+        files: &mut R,
+        rev: u32,
+        path: &[u8],
+        into: &mut Vec<u8>,
+    ) -> Result<(), ReadAnswer>
+        requires { rev < length self.old.changelog.entries }
+        ensures answer { AddsAnswer (R.seen files.old) (R.start files.old) (R.seen files.new) (cat_asks self.old rev path.now) into.old.items into.new.items result }
+        ensures kept { self.new ≡ self.old }
+        ensures seen { Grows (R.seen files.old) (R.seen files.new) }
+        ensures same_start { R.start files.new ≡ R.start files.old }
+        ensures still { R.alone ≡ true → R.seen files.new ≡ R.seen files.old }
+        ensures cause { HasFaultCause (R.faults files.old) (R.faults files.new) result }
+    {
+        let manifest = match self.manifest(files, rev) {
+            Ok(manifest) => manifest,
+            Err(refusal) => return Err(refusal),
+        };
+        add_file(self.alloc, files, &manifest, path, into)
+    }
+
     /// Adds a line for each changeset without a child, ascending: revision, a space and the node. A refusal adds nothing.
     pub fn heads(&self, into: &mut Vec<u8>) -> Result<(), AllocError>
         ensures ok { OnOk result (into.new.items ≡ into.old.items ++ heads_text self.now) }
@@ -156,5 +303,35 @@ impl Session {
         let lines = heads_of(self.alloc, &self.changelog)?;
         into.extend_from_slice(&lines)?;
         Ok(())
+    }
+
+    /// Adds a line for each bookmark, in byte order of names: name, tab, revision, tab and node. One of an unknown node has no
+    /// line. A refusal adds nothing. The time is quadratic in the number of bookmarks.
+    pub fn bookmarks(&self, into: &mut Vec<u8>) -> Result<(), AllocError>
+        ensures ok { OnOk result (into.new.items ≡ into.old.items ++ marks_text self.now) }
+        ensures err { OnErr result (into.new.items ≡ into.old.items) }
+    {
+        let lines = mark_lines(self.alloc, &self.changelog, &self.bookmarks)?;
+        into.extend_from_slice(&lines)?;
+        Ok(())
+    }
+
+    /// Adds a line for each working parent, the first before the second: revision, a space and the node. A refusal adds
+    /// nothing.
+    pub fn parents(&self, into: &mut Vec<u8>) -> Result<(), AllocError>
+        ensures ok { OnOk result (into.new.items ≡ into.old.items ++ parents_text self.now) }
+        ensures err { OnErr result (into.new.items ≡ into.old.items) }
+    {
+        let lines = parent_lines(self.alloc, &self.changelog, &self.working)?;
+        into.extend_from_slice(&lines)?;
+        Ok(())
+    }
+
+    /// The phase of a changeset.
+    pub fn phase(&self, rev: u32) -> Phase
+        requires { rev < length self.now.changelog.entries }
+        ensures { slice_get self.now.phases rev ≡ Some result }
+    {
+        self.phases.get(rev)
     }
 }

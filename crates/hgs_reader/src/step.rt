@@ -3,11 +3,13 @@ ghost use Rattle.std.specs.Prelude.{◌≡◌, ◌<◌, true};
 ghost use Rattle.std.specs.Option.{option_map};
 ghost use Rattle.hgs_files.specs.Reads.{Grows};
 ghost use Rattle.hgs_reader.specs.Answer.{HasFaultCause};
+ghost use Rattle.hgs_reader.specs.Asks.{Answers};
 ghost use Rattle.hgs_reader.specs.Load.{asks_of, reads_left, Advances};
 
 use crate::answer::ReadAnswer;
 use crate::ask::read_part;
 use crate::load::{LoadMachine, LoadNext};
+use crate::session::Session;
 use hgs_bytes::bytes::Bytes;
 use hgs_files::files::Reads;
 use std::alloc::Global;
@@ -42,5 +44,27 @@ pub fn feed_next<R: Reads>(
     match machine.feed(slice_of(&part)) {
         Ok(()) => Ok(true),
         Err(refusal) => Err(refusal),
+    }
+}
+
+/// Makes the reads of a load to its end.
+pub fn load_with<R: Reads>(
+    alloc: Global,
+    files: &mut R,
+    load: LoadMachine,
+) -> Result<Session, ReadAnswer>
+    ensures answer { Answers (λ session. session) (R.seen files.old) (R.start files.old) (R.seen files.new) (asks_of load) result }
+    ensures seen { Grows (R.seen files.old) (R.seen files.new) }
+    ensures same_start { R.start files.new ≡ R.start files.old }
+    ensures still { R.alone ≡ true → R.seen files.new ≡ R.seen files.old }
+    ensures cause { HasFaultCause (R.faults files.old) (R.faults files.new) result }
+{
+    let mut machine = load;
+    loop {
+        match feed_next(alloc, files, &mut machine) {
+            Ok(true) => {}
+            Ok(false) => return Ok(machine.take()),
+            Err(refusal) => return Err(refusal),
+        }
     }
 }

@@ -10,8 +10,10 @@ use Rattle.hgs_reader.specs.declared.answer.ReadAnswer.TheVariants.{Damaged, Fau
 use Rattle.hgs_reader.specs.Answer.{status_of, refusal_line}
 use Rattle.hgs_top.specs.declared.stopped.Stopped.{Stopped}
 use Rattle.hgs_top.specs.declared.stopped.Stopped.TheVariants.{Refused, Unwritten}
-use Rattle.hgs_top.specs.Outcome.{Outcome}
-use Rattle.hgs_top.specs.Run.{IsTold, IsFrontWritten, IsCutShort, Answered, EndsLine, Concludes, status_of_ending, ending_of, status_of_sink}
+use Rattle.hgs_top.specs.declared.stopped.Said.{Said}
+use Rattle.hgs_top.specs.declared.stopped.Said.TheVariants.{Whole, UnknownRevision}
+use Rattle.hgs_top.specs.Outcome.{Outcome, Reply, told, unknown_revision}
+use Rattle.hgs_top.specs.Run.{IsReplied, IsFrontWritten, IsCutShort, Answered, Replied, EndsLine, Concludes, unknown_line, status_of_ending, ending_of, status_of_sink}
 use Rattle.hgs_top.proofs.Written.{adds_on, front_on}
 
 -- written, and then a front of a line
@@ -44,8 +46,9 @@ sink_status : (f : IoFault) (status : ℕ) → status ≡ status_of_sink f → (
 sink_status io_faults.Failed status e = inl e
 sink_status io_faults.Memory status e = inr e
 
-pub concluded : (o : Outcome) (first old new : Option (List ℕ)) (status : ℕ) (r : Result Unit Stopped) → IsTold o first old r → Concludes r old new status → Answered o status first new
-concluded o first old new status (Ok x) h c =
+concluded : (o : Outcome) (first old new : Option (List ℕ)) (status : ℕ) (r : Result Said Stopped) → IsReplied (told o) first old r → Concludes r old new status → Answered o status first new
+concluded o first old new status (Ok UnknownRevision) h c = absurd h
+concluded o first old new status (Ok Whole) h c =
     let P : Option (List ℕ) → Type 0 = λ n. IsWritten first n (o.text ++ ending_of o.refusal) in
     let Q : List ℕ → Type 0 = λ b. IsWritten first old b in
     inl (c.0 ∙ sym (ap status_of_ending h.0), subst P (sym c.1) (subst Q (sym (ap (λ q. o.text ++ ending_of q) h.0 ∙ append-nil o.text)) h.1))
@@ -60,3 +63,39 @@ concluded o first old new status (Err (Unwritten f)) h c =
     let P : Option (List ℕ) → Type 0 = λ n. IsFrontWritten first n (take h.0 o.text ++ refusal_line Fault) in
     let Q : List ℕ → Type 0 = λ b. IsWritten first old b in
     inr (inr (sink_status f status c.0, (h.0, Fault, subst P (sym c.1) (length (take h.0 o.text), subst Q (sym (take_at (take h.0 o.text) (refusal_line Fault) (length (take h.0 o.text)) refl)) h.1))))
+
+-- no revision has the name
+module _ (first new : Option (List ℕ)) (status : ℕ) where
+  no_revision : (old : Option (List ℕ)) → old ≡ first → EndsLine unknown_line 12 status old new → Replied unknown_revision status first new
+  no_revision old s c = by (let P : Option (List ℕ) → Type 0 = λ o. EndsLine unknown_line 12 status o new in subst P s c)
+    where
+      by : EndsLine unknown_line 12 status first new → Replied unknown_revision status first new
+      by (inl l) = inl l
+      by (inr l) = inr (inr (l.0, inl l.1))
+
+  unknown_fault : (old : Option (List ℕ)) → old ≡ first → EndsLine (refusal_line Fault) 16 status old new → Replied unknown_revision status first new
+  unknown_fault old s c = by (let P : Option (List ℕ) → Type 0 = λ o. EndsLine (refusal_line Fault) 16 status o new in subst P s c)
+    where
+      by : EndsLine (refusal_line Fault) 16 status first new → Replied unknown_revision status first new
+      by (inl l) = inr (inl l)
+      by (inr l) = inr (inr (l.0, inr (0, Fault, l.1)))
+
+  unknown_memory : (old : Option (List ℕ)) → old ≡ first → EndsLine (refusal_line Memory) 30 status old new → Replied unknown_revision status first new
+  unknown_memory old s c = by (let P : Option (List ℕ) → Type 0 = λ o. EndsLine (refusal_line Memory) 30 status o new in subst P s c)
+    where
+      by : EndsLine (refusal_line Memory) 30 status first new → Replied unknown_revision status first new
+      by (inl l) = inr (inr (inr l.0, inr (0, Memory, whole_front first new (refusal_line Memory) l.1)))
+      by (inr l) = inr (inr (l.0, inr (0, Memory, l.1)))
+
+pub replied : (reply : Reply) (first old new : Option (List ℕ)) (status : ℕ) (r : Result Said Stopped) → IsReplied reply first old r → Concludes r old new status → Replied reply status first new
+replied (told o) first old new status r h c = concluded o first old new status r h c
+replied unknown_revision first old new status (Ok Whole) h c = absurd h
+replied unknown_revision first old new status (Ok UnknownRevision) h c = no_revision first new status old h c
+replied unknown_revision first old new status (Err (Refused (Damaged d))) h c = absurd h
+replied unknown_revision first old new status (Err (Refused Fault)) h c = unknown_fault first new status old h c
+replied unknown_revision first old new status (Err (Refused (Limit w))) h c = absurd h
+replied unknown_revision first old new status (Err (Refused UnknownPath)) h c = absurd h
+replied unknown_revision first old new status (Err (Refused NotARepository)) h c = absurd h
+replied unknown_revision first old new status (Err (Refused (Requirement w))) h c = absurd h
+replied unknown_revision first old new status (Err (Refused Memory)) h c = unknown_memory first new status old h c
+replied unknown_revision first old new status (Err (Unwritten f)) h c = absurd h

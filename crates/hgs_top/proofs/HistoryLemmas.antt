@@ -28,8 +28,10 @@ use Rattle.hgs_revlog.proofs.LoadLemmas.{taken_entry}
 use Rattle.hgs_reader.specs.declared.answer.ReadAnswer.{ReadAnswer}
 use Rattle.hgs_reader.specs.Asks.{Asks, answer, part_of, at_rest}
 use Rattle.hgs_reader.specs.Line.{field, parent_text, change_fields, line_asks, line_at, line_text, line_of_entry, line_of_change, chunk_asks, change_of_chunk, change_of_text}
-use Rattle.hgs_reader.specs.View.{View, changelog_index, changelog_data, open_asks, pieces_then, piece_length, most_pieces, view_of, view_of_log}
-use Rattle.hgs_top.specs.History.{Changeset, revisions_of, IsRead, bytes_at, HoldsHistory, line_among, lines_from, history_text}
+use Rattle.hgs_reader.specs.View.{View, changelog_index, changelog_data, pieces_then, piece_length, most_pieces, log_answer}
+use Rattle.hgs_reader.specs.Open.{open_asks, log_asks, log_of}
+use Rattle.hgs_top.proofs.OpenLemmas.{opening, log_opened}
+use Rattle.hgs_top.specs.History.{Changeset, revisions_of, IsRead, bytes_at, HoldsHistory, line_among, lines_from, history_text, Opens}
 use Rattle.hgs_top.specs.Outcome.{Outcome, line_then, lines_down, lines_of_view, log_of_view, log_outcome}
 
 -- ---- the index, piece by piece
@@ -75,13 +77,13 @@ pieces_front {A} t path (suc left) bytes rest more e =
     by false h on = on ∙ ap (λ l. at_rest t (more l)) (append_assoc bytes (take piece_length rest) (take (left * piece_length) (drop piece_length rest)) ∙ ap (λ l. bytes ++ l) (sym (take-add piece_length (left * piece_length) rest)))
 
 -- as much of a file as is read
-abbrev front_of : List ℕ → List ℕ
+abbrev pub front_of : List ℕ → List ℕ
 front_of index = take (most_pieces * piece_length) index
 
-opened : (t : Tree) → at_rest t open_asks ≡ view_of (front_of (bytes_at t changelog_index))
-opened t = pieces_front t changelog_index most_pieces [] (bytes_at t changelog_index) (λ index. answer (view_of index)) refl
+pub pieces_read : (t : Tree) → at_rest t log_asks ≡ log_of (front_of (bytes_at t changelog_index))
+pieces_read t = pieces_front t changelog_index most_pieces [] (bytes_at t changelog_index) (λ index. answer (log_of index)) refl
 
-few_pieces : (n : ℕ) → n / 64 ≤ 1000000 → n < most_pieces * piece_length
+pub few_pieces : (n : ℕ) → n / 64 ≤ 1000000 → n < most_pieces * piece_length
 few_pieces n h = let e : n < 64 * (n / 64 + 1) = lt-mul-div-succ n (omega arith) in omega (arith, e, h)
 
 -- ---- the lines
@@ -121,7 +123,7 @@ line_asked : (t : Tree) (view : View) (rev : ℕ) (e : Entry) → slice_get view
     → at_rest t (line_asks view rev) ≡ line_of_change rev e (change_of_chunk rev (text_of view.changelog.entries rev (chunk_in (bytes_at t changelog_data) e)))
 line_asked t view rev e at =
     let chunk = chunk_in (bytes_at t changelog_data) e in
-    ap (λ o. at_rest t (chunk_asks o (line_at view rev))) at
+    ap (λ o. at_rest t (chunk_asks changelog_data o (line_at view rev))) at
     ∙ ap (λ b. line_at view rev b) (part_is (t changelog_data) e.offset e.stored)
     ∙ ap (λ o. line_of_entry view rev chunk o) at
 
@@ -181,14 +183,16 @@ lines_are t view history texts nodes_are reads =
     ∙ down_from (λ rev. at_rest t (line_asks view rev)) (nodes_of entries) 0 history lines
     ∙ ap (λ l. let all : Outcome = record { text = l; refusal = None } in all) (append-nil (lines_from (nodes_of entries) 0 history) ∙ ap (λ known. lines_from known 0 history) nodes_are)
 
-pub history-log : (t : Tree) (history : List Changeset) → HoldsHistory t history → AreWithinLimits (revisions_of history) (bytes_at t changelog_data) → log_outcome t ≡ record { text = history_text history; refusal = None }
-history-log t history h within =
+pub history-log : (t : Tree) (history : List Changeset) → HoldsHistory t history → Opens t (nodes (revisions_of history)) → AreWithinLimits (revisions_of history) (bytes_at t changelog_data) → log_outcome t ≡ record { text = history_text history; refusal = None }
+history-log t history h opens within =
     let index = bytes_at t changelog_index in
-    let loads = held-ignored index (bytes_at t changelog_data) (revisions_of history) h.held h.whole within in
+    let data_bytes = bytes_at t changelog_data in
+    let loads = held-ignored index data_bytes (revisions_of history) h.held h.whole within in
     let few : length index / 64 ≤ 1000000 = (let a = h.whole in let b = within.few in omega (arith, a, b)) in
     let room = few_pieces (length index) few in
     let all : front_of index ≡ index = take_all (most_pieces * piece_length) index (omega (arith, room)) in
-    ap (log_of_view t) (opened t ∙ ap view_of all ∙ ap view_of_log loads.1) ∙ lines_are t (record { changelog = loads.0 }) history loads.2 loads.3 h.read
+    let o = opening t loads.0 (nodes (revisions_of history)) (pieces_read t ∙ ap log_of all ∙ ap (log_answer changelog_index) loads.1) loads.3 opens in
+    ap (log_of_view t) o.1 ∙ lines_are t o.0 history (ap (λ (l : Log). read_all l.entries data_bytes) o.2 ∙ loads.2) (ap (λ (l : Log). nodes_of l.entries) o.2 ∙ loads.3) h.read
 
 -- ---- the other direction
 
@@ -265,9 +269,9 @@ few_entries index log h =
 whole_front : (index : List ℕ) → length (front_of index) / 64 ≤ most_revisions → front_of index ≡ index
 whole_front index few = let size = length-take (most_pieces * piece_length) index in take_all (most_pieces * piece_length) index (omega (arith, few, size))
 
-log_in : (r : Result Log RevFault) (view : View) → view_of_log r ≡ Ok view → r ≡ Ok view.changelog
-log_in (Err f) view h = cc
-log_in (Ok log) view h = cc
+log_in : (r : Result Log RevFault) (log : Log) → log_answer changelog_index r ≡ Ok log → r ≡ Ok log
+log_in (Err f) log h = cc
+log_in (Ok x) log h = cc
 
 pub log-history : (t : Tree) → IsBytes (bytes_at t changelog_index) → (log_outcome t).refusal ≡ None → (history : List Changeset) × HoldsHistory t history × ((log_outcome t).text ≡ history_text history)
 log-history t are none = by (at_rest t open_asks) refl none
@@ -277,7 +281,7 @@ log-history t are none = by (at_rest t open_asks) refl none
     by (Ok view) is h =
         let index = bytes_at t changelog_index in
         let data_bytes = bytes_at t changelog_data in
-        let front_load : loaded Ignore (front_of index) ≡ Ok view.changelog = log_in (loaded Ignore (front_of index)) view (sym (opened t) ∙ is) in
+        let front_load : loaded Ignore (front_of index) ≡ Ok view.changelog = log_in (loaded Ignore (front_of index)) view.changelog (sym (pieces_read t) ∙ log_opened t view is) in
         let all : front_of index ≡ index = whole_front index (few_entries (front_of index) view.changelog front_load) in
         let load : loaded Ignore index ≡ Ok view.changelog = ap (loaded Ignore) (sym all) ∙ front_load in
         let told = history_of t view [] view.changelog.entries refl (lines_ok (λ rev. at_rest t (line_asks view rev)) (length view.changelog.entries) h) in

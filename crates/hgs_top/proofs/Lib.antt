@@ -1,5 +1,8 @@
+pub mod ChangesetLemmas
 pub mod ConcludeLemmas
-pub mod HeadsLemmas
+pub mod ContentsLemmas
 pub mod HistoryLemmas
+pub mod ListingLemmas
 pub mod LogLemmas
+pub mod OpenLemmas
 pub mod Written

@@ -10,7 +10,8 @@ use Rattle.hgs_reader.specs.declared.answer.ReadAnswer.{ReadAnswer}
 use Rattle.hgs_reader.specs.Answer.{is_of_outside}
 use Rattle.hgs_reader.specs.Asks.{at_rest, Answers, AddsAnswer}
 use Rattle.hgs_reader.specs.Line.{line_asks}
-use Rattle.hgs_reader.specs.View.{View, open_asks}
+use Rattle.hgs_reader.specs.View.{View}
+use Rattle.hgs_reader.specs.Open.{open_asks}
 use Rattle.hgs_reader.proofs.AskLemmas.{either}
 use Rattle.hgs_reader.proofs.RestLemmas.{answers_at_rest, refused_at_rest, adds_at_rest, adds_refused_at_rest}
 use Rattle.hgs_top.specs.declared.stopped.Stopped.{Stopped}

@@ -1,12 +1,18 @@
 -- Files that hold a history, and its lines.
-use Rattle.std.specs.Prelude.{◌≡◌, ℕ, suc, ◌/◌, List, [], ◌∷◌, ◌++◌, length, map, decimal, slice_index_or, unwrap_or, Ok}
+use Rattle.std.specs.Prelude.{◌≡◌, ℕ, suc, ◌/◌, List, [], ◌∷◌, ◌++◌, length, map, decimal, slice_index_or, unwrap_or, Some, Ok, true, ◌⊎◌, position}
 use Rattle.std.specs.List.{AllByRecursion}
+use Rattle.hgs_bytes.specs.Bytes.{same}
 use Rattle.hgs_files.specs.Tree.{Tree}
 use Rattle.hgs_index.specs.ChangeText.{Change, read_change}
 use Rattle.hgs_index.specs.Hex.{hex}
 use Rattle.hgs_index.specs.Node.{null_node}
 use Rattle.hgs_index.specs.Revision.{Revision, nodes}
 use Rattle.hgs_index.specs.Revlog.{BeginsWithRevisions}
+use Rattle.hgs_marks.specs.Bookmarks.{Mark}
+use Rattle.hgs_phases.specs.declared.roots.Root.{Root}
+use Rattle.hgs_reader.specs.Asks.{at_rest}
+use Rattle.hgs_reader.specs.Marks.{Nodes}
+use Rattle.hgs_reader.specs.Open.{requires_asks, bookmarks_asks, dirstate_asks, roots_asks}
 use Rattle.hgs_reader.specs.Line.{field, parent_text, change_fields}
 use Rattle.hgs_reader.specs.View.{changelog_index, changelog_data}
 
@@ -46,3 +52,19 @@ lines_from known rev (c ∷ newer) = lines_from known (suc rev) newer ++ line_am
 -- a line for each changeset, newest first
 abbrev pub history_text : List Changeset → List ℕ
 history_text history = lines_from (nodes (revisions_of history)) 0 history
+
+-- a node of the history, or none
+abbrev pub IsKnown : List (List ℕ) → List ℕ → Type 0
+IsKnown known node = (same node null_node ≡ true) ⊎ ((rev : ℕ) × (position (λ n. same n node) known ≡ Some rev))
+
+-- The other files that a session loads can be read: what the repository requires is known, bookmarks, working parents and phase roots have their forms, and the working parents are among these nodes.
+pub record Opens (t : Tree) (known : List (List ℕ)) : Type 0 where
+  pub required : at_rest t requires_asks ≡ Ok tt
+  pub marks : List Mark
+  pub bookmarks : at_rest t bookmarks_asks ≡ Ok marks
+  pub nodes : Nodes
+  pub dirstate : at_rest t dirstate_asks ≡ Ok nodes
+  pub roots : List Root
+  pub phases : at_rest t roots_asks ≡ Ok roots
+  pub first : IsKnown known nodes.0
+  pub second : IsKnown known nodes.1

@@ -11,9 +11,11 @@ use Rattle.hgs_reader.specs.declared.answer.ReadAnswer.TheVariants.{Fault}
 use Rattle.hgs_reader.specs.Answer.{status_of, refusal_line, is_of_outside}
 use Rattle.hgs_top.specs.declared.stopped.Stopped.{Stopped}
 use Rattle.hgs_top.specs.declared.stopped.Stopped.TheVariants.{Refused, Unwritten}
-use Rattle.hgs_top.specs.declared.words.Command.{Command}
-use Rattle.hgs_top.specs.declared.words.Command.TheVariants.{Log, Heads}
-use Rattle.hgs_top.specs.Outcome.{Outcome, log_outcome, heads_outcome}
+use Rattle.hgs_top.specs.declared.stopped.Said.{Said}
+use Rattle.hgs_top.specs.declared.stopped.Said.TheVariants.{Whole, UnknownRevision}
+use Rattle.hgs_top.specs.Outcome.{Outcome, Reply, told, unknown_revision, its_files, its_file, its_phase, log_outcome, listing_outcome, contents_reply}
+use Rattle.hgs_top.specs.declared.listing.Listing.TheVariants.{Heads, Bookmarks, Parents}
+use Rattle.hgs_top.specs.Words.{Question, ask_log, ask_heads, ask_bookmarks, ask_parents, ask_files, ask_cat, ask_phase}
 
 -- a front of these bytes was written at the end
 abbrev pub IsFrontWritten : Option (List ℕ) → Option (List ℕ) → List ℕ → Type 0
@@ -46,6 +48,16 @@ IsUnwritten (Unwritten f) = ⊤
 abbrev pub StopsAt : Stopped → ReadAnswer → Option (List ℕ) → Option (List ℕ) → List ℕ → Type 0
 StopsAt (Refused e) refusal old new bytes = (e ≡ refusal) × IsWritten old new bytes
 StopsAt (Unwritten f) refusal old new bytes = IsFrontWritten old new bytes
+
+-- the same of a reply: its text was told, or the name names no revision and nothing was written
+abbrev pub IsReplied : Reply → Option (List ℕ) → Option (List ℕ) → Result Said Stopped → Type 0
+IsReplied (told o) old new (Ok Whole) = IsTold o old new (Ok tt)
+IsReplied (told o) old new (Ok UnknownRevision) = ⊥
+IsReplied (told o) old new (Err e) = IsTold o old new (Err e)
+IsReplied unknown_revision old new (Ok Whole) = ⊥
+IsReplied unknown_revision old new (Ok UnknownRevision) = new ≡ old
+IsReplied unknown_revision old new (Err (Refused e)) = MatchBool (is_of_outside e) (new ≡ old) ⊥
+IsReplied unknown_revision old new (Err (Unwritten f)) = ⊥
 
 -- ---- the whole run
 
@@ -85,20 +97,37 @@ SaysBadWord place status old new =
 abbrev pub EndsLine : List ℕ → ℕ → ℕ → Option (List ℕ) → Option (List ℕ) → Type 0
 EndsLine line wanted status old new = ((status ≡ wanted) × IsWritten old new line) ⊎ (((status ≡ 19) ⊎ (status ≡ 30)) × IsFrontWritten old new line)
 
+abbrev pub unknown_line : List ℕ
+unknown_line = codes "abort: unknown revision" ++ 10 ∷ []
+
 -- what is said at the end of a command, and its status: nothing where it came to its end or the sink takes no more, else the line of its refusal
-abbrev pub Concludes : Result Unit Stopped → Option (List ℕ) → Option (List ℕ) → ℕ → Type 0
-Concludes (Ok x) old new status = (status ≡ 0) × (new ≡ old)
+abbrev pub Concludes : Result Said Stopped → Option (List ℕ) → Option (List ℕ) → ℕ → Type 0
+Concludes (Ok Whole) old new status = (status ≡ 0) × (new ≡ old)
+Concludes (Ok UnknownRevision) old new status = EndsLine unknown_line 12 status old new
 Concludes (Err (Refused e)) old new status = EndsLine (refusal_line e) (status_of e) status old new
 Concludes (Err (Unwritten f)) old new status = (status ≡ status_of_sink f) × (new ≡ old)
 
--- what is said over files in this tree
-abbrev pub outcome_of : Command → Tree → Outcome
-outcome_of Log t = log_outcome t
-outcome_of Heads t = heads_outcome t
+-- The run replied to the question: it answered it; or the name names no revision, and the run says so unless the files failed, or the sink, or there was no memory.
+abbrev pub Replied : Reply → ℕ → Option (List ℕ) → Option (List ℕ) → Type 0
+Replied (told o) status old new = Answered o status old new
+Replied unknown_revision status old new =
+    ((status ≡ 12) × IsWritten old new unknown_line)
+    ⊎ (((status ≡ 16) × IsWritten old new (refusal_line Fault))
+    ⊎ (((status ≡ 19) ⊎ (status ≡ 30)) × (IsFrontWritten old new unknown_line ⊎ IsCutShort [] old new)))
+
+-- the reply over files in this tree
+abbrev pub reply_to : Question → Tree → Reply
+reply_to ask_log t = told (log_outcome t)
+reply_to ask_heads t = told (listing_outcome Heads t)
+reply_to ask_bookmarks t = told (listing_outcome Bookmarks t)
+reply_to ask_parents t = told (listing_outcome Parents t)
+reply_to (ask_files rev) t = contents_reply rev its_files t
+reply_to (ask_cat rev path) t = contents_reply rev (its_file path) t
+reply_to (ask_phase rev) t = contents_reply rev its_phase t
 
 -- what a run leaves in the sink, by its words
-abbrev pub Says : Result Command ℕ → Option (List Op) → Tree → ℕ → Option (List ℕ) → Option (List ℕ) → Type 0
-Says (Ok command) log start status old new = OfTree log start (λ t. Answered (outcome_of command t) status old new)
+abbrev pub Says : Result Question ℕ → Option (List Op) → Tree → ℕ → Option (List ℕ) → Option (List ℕ) → Type 0
+Says (Ok question) log start status old new = OfTree log start (λ t. Replied (reply_to question t) status old new)
 Says (Err place) log start status old new = SaysBadWord place status old new
 
 -- one of these

@@ -1,8 +1,10 @@
 -- Which words fit, and what they ask for.
-use Rattle.std.specs.Prelude.{ℕ, ◌+◌, ◌-◌, Bool, true, false, ◌&&◌, ◌==◌, not, List, [], ◌∷◌, Option, Some, None, Result, Ok, Err, codes, if◌then◌else◌}
+use Rattle.std.specs.Prelude.{ℕ, ◌+◌, ◌-◌, Bool, true, false, ◌&&◌, ◌==◌, not, List, [], ◌∷◌, Option, Some, None, Result, Ok, Err, codes, map, slice_index_or, if◌then◌else◌}
+use Rattle.std.specs.String.{string_bytes}
 use Rattle.hgs_bytes.specs.Bytes.{same, begins_with}
 use Rattle.hgs_top.specs.declared.words.Command.{Command}
-use Rattle.hgs_top.specs.declared.words.Command.TheVariants.{Log, Heads}
+use Rattle.hgs_top.specs.declared.words.Command.TheVariants.{Log, Heads, Bookmarks, Parents, Files, Cat, Phase}
+use Rattle.hgs_top.specs.declared.words.Rest.{Rest}
 
 abbrev pub with_operand : List ℕ → Result (List (List ℕ)) ℕ → Result (List (List ℕ)) ℕ
 with_operand word (Ok words) = Ok (word ∷ words)
@@ -18,19 +20,69 @@ operands ended needed place (word ∷ words) =
     else if needed == 0 then Err place
     else with_operand word (operands ended (needed - 1) (place + 1) words)
 
-abbrev pub alone : Command → Result (List (List ℕ)) ℕ → Result Command ℕ
-alone command (Ok words) = Ok command
-alone command (Err place) = Err place
+-- what a command asks for; revisions by their names
+pub data Question : Type 0 where
+  ask_log : Question
+  ask_heads : Question
+  ask_bookmarks : Question
+  ask_parents : Question
+  ask_files : List ℕ → Question
+  ask_cat : List ℕ → List ℕ → Question
+  ask_phase : List ℕ → Question
 
-abbrev pub command_named : List ℕ → Option Command
-command_named word = if same word (codes "log") then Some Log else if same word (codes "heads") then Some Heads else None
+abbrev pub question_of : Command → Question
+question_of Log = ask_log
+question_of Heads = ask_heads
+question_of Bookmarks = ask_bookmarks
+question_of Parents = ask_parents
+question_of (Files rev) = ask_files rev.now
+question_of (Cat rev path) = ask_cat rev.now path.now
+question_of (Phase rev) = ask_phase rev.now
 
--- neither command takes operands
-abbrev pub command_with : Option Command → List (List ℕ) → Result Command ℕ
-command_with None words = Err 0
-command_with (Some command) words = alone command (operands false 0 1 words)
+-- the question with these operands
+abbrev pub asked_with : (List (List ℕ) → Question) → Result (List (List ℕ)) ℕ → Result Question ℕ
+asked_with question (Ok words) = Ok (question words)
+asked_with question (Err place) = Err place
 
--- the command that the words are, or the place of the first word that doesn't fit
-abbrev pub command_of : List (List ℕ) → Result Command ℕ
-command_of [] = Err 0
-command_of (word ∷ words) = command_with (command_named word) words
+abbrev pub operand : List (List ℕ) → ℕ → List ℕ
+operand words n = slice_index_or words n []
+
+-- the questions without operands
+abbrev pub alone_named : List ℕ → Option Question
+alone_named name =
+    if same name (codes "log") then Some ask_log
+    else if same name (codes "heads") then Some ask_heads
+    else if same name (codes "bookmarks") then Some ask_bookmarks
+    else if same name (codes "parents") then Some ask_parents
+    else None
+
+-- those about a changeset
+abbrev pub about_named : List ℕ → List (List ℕ) → Result Question ℕ
+about_named name words =
+    if same name (codes "files") then asked_with (λ w. ask_files (operand w 0)) (operands false 1 1 words)
+    else if same name (codes "cat") then asked_with (λ w. ask_cat (operand w 0) (operand w 1)) (operands false 2 1 words)
+    else if same name (codes "phase") then asked_with (λ w. ask_phase (operand w 0)) (operands false 1 1 words)
+    else Err 0
+
+abbrev pub alone_else : Option Question → Result Question ℕ → List (List ℕ) → Result Question ℕ
+alone_else None about words = about
+alone_else (Some question) about words = asked_with (λ w. question) (operands false 0 1 words)
+
+-- the question of the command with this name
+abbrev pub question_named : List ℕ → List (List ℕ) → Result Question ℕ
+question_named name words = alone_else (alone_named name) (about_named name words) words
+
+-- the question that the words are, or the place of the first word that doesn't fit
+abbrev pub question_of_words : List (List ℕ) → Result Question ℕ
+question_of_words [] = Err 0
+question_of_words (name ∷ words) = question_named name words
+
+-- ---- the words that are not read yet
+
+abbrev pub operands_in : Rest → ℕ → Result (List (List ℕ)) ℕ
+operands_in rest needed = operands rest.ended needed rest.place (map string_bytes rest.words.now)
+
+-- whether the `--` that ends the options stands first
+abbrev pub ends_here : Bool → List (List ℕ) → Bool
+ends_here ended [] = false
+ends_here ended (word ∷ words) = not ended && same word (codes "--")

@@ -1,16 +1,19 @@
 //! A command over files at rest, and the line of its refusal.
 ghost use Rattle.std.specs.Prelude.{◌≡◌, ◌≤◌, Err, Ok, true, OnOk, IfOk, ℕ, List, [], ◌∷◌, ◌++◌, ◌⊎◌, ◌≢◌, ◌^◌, ◌<◌};
+ghost use Rattle.std.specs.Result.{result_map_both};
 ghost use Rattle.hgs_files.specs.Reads.{Rose};
 ghost use Rattle.hgs_files.specs.Streams.{IsWritten};
 ghost use Rattle.hgs_files.specs.declared.streams.IoFault.TheVariants.{Failed};
 ghost use Rattle.hgs_reader.specs.declared.answer.ReadAnswer.TheVariants.{Fault};
 ghost use Rattle.hgs_reader.specs.Answer.{refusal_line, status_of};
-ghost use Rattle.hgs_top.specs.Run.{IsOneOf, OfTree, IsTold, Answered, SaysBadWord, Concludes, bad_word_line, outcome_of, EndsLine, status_of_sink};
+ghost use Rattle.hgs_top.specs.Run.{IsOneOf, OfTree, IsReplied, Replied, SaysBadWord, Concludes, bad_word_line, reply_to, EndsLine, status_of_sink};
+ghost use Rattle.hgs_top.specs.Words.{question_of};
 
-use crate::heads::write_heads;
+use crate::contents::{About, write_contents};
+use crate::listing::{Listing, write_listing};
 use crate::log::write_log;
 use crate::output::write_all;
-use crate::stopped::Stopped;
+use crate::stopped::{Said, Stopped};
 use crate::words::Command;
 use hgs_files::files::{Files, Reads};
 use hgs_files::streams::{IoFault, Sink};
@@ -77,29 +80,40 @@ fn refuse<K: Sink>(alloc: Global, refusal: &ReadAnswer, out: &mut K) -> u8
     }
 }
 
-// Says why a command did not come to its end, if so, and gives the status.
-fn conclude<K: Sink>(alloc: Global, ended: Result<(), Stopped>, out: &mut K) -> u8
+// Says that no revision has the name, or why a command did not come to its end, if so, and gives the status.
+fn conclude<K: Sink>(alloc: Global, ended: Result<Said, Stopped>, out: &mut K) -> u8
     ensures concluded { Concludes ended (K.written out.old) (K.written out.new) result }
     ensures later { K.faults out.old ≤ K.faults out.new }
     ensures sink { ended ≢ Err (Stopped.Unwritten Failed) → result ≡ 19 → Rose (K.faults out.old) (K.faults out.new) }
     ensures fault { result ≡ 16 → ended ≡ Err (Stopped.Refused Fault) }
-    ensures statuses { IsOneOf (0 ∷ 15 ∷ 16 ∷ 19 ∷ 20 ∷ 23 ∷ 24 ∷ 27 ∷ 30 ∷ []) result }
+    ensures statuses { IsOneOf (0 ∷ 12 ∷ 15 ∷ 16 ∷ 19 ∷ 20 ∷ 23 ∷ 24 ∷ 27 ∷ 30 ∷ []) result }
 {
     match ended {
-        Ok(()) => 0,
+        Ok(Said::Whole) => 0,
+        Ok(Said::UnknownRevision) => end_with(out, b"abort: unknown revision\n", 12),
         Err(Stopped::Refused(refusal)) => refuse(alloc, &refusal, out),
         Err(Stopped::Unwritten(fault)) => status_of_fault(fault),
+    }
+}
+
+// What a command came to that has no name of a revision.
+fn whole(ended: Result<(), Stopped>) -> Result<Said, Stopped>
+    ensures { result ≡ result_map_both (λ _. Said.Whole) (λ stopped. stopped) ended }
+{
+    match ended {
+        Ok(()) => Ok(Said::Whole),
+        Err(stopped) => Err(stopped),
     }
 }
 
 // Answers the question that a command is, or says what stopped it.
 fn answer<R: Reads, K: Sink>(
     alloc: Global,
-    command: Command,
+    command: Command<'_>,
     files: &mut R,
     out: &mut K,
-) -> Result<(), Stopped>
-    ensures told { R.alone ≡ true → OfTree (R.seen files.old) (R.start files.old) (λ t. IsTold (outcome_of command t) (K.written out.old) (K.written out.new) result) }
+) -> Result<Said, Stopped>
+    ensures told { R.alone ≡ true → OfTree (R.seen files.old) (R.start files.old) (λ t. IsReplied (reply_to (question_of command.entry) t) (K.written out.old) (K.written out.new) result) }
     ensures same_start { R.start files.new ≡ R.start files.old }
     ensures still { R.alone ≡ true → R.seen files.new ≡ R.seen files.old }
     ensures fault { result ≡ Err (Stopped.Refused Fault) → Rose (R.faults files.old) (R.faults files.new) }
@@ -108,24 +122,29 @@ fn answer<R: Reads, K: Sink>(
     ensures failed { result ≡ Err (Stopped.Unwritten Failed) → Rose (K.faults out.old) (K.faults out.new) }
 {
     match command {
-        Command::Log => write_log(alloc, files, out),
-        Command::Heads => write_heads(alloc, files, out),
+        Command::Log => whole(write_log(alloc, files, out)),
+        Command::Heads => whole(write_listing(alloc, files, Listing::Heads, out)),
+        Command::Bookmarks => whole(write_listing(alloc, files, Listing::Bookmarks, out)),
+        Command::Parents => whole(write_listing(alloc, files, Listing::Parents, out)),
+        Command::Files { rev } => write_contents(alloc, files, rev, About::Files, out),
+        Command::Cat { rev, path } => write_contents(alloc, files, rev, About::Body(path), out),
+        Command::Phase { rev } => write_contents(alloc, files, rev, About::AtPhase, out),
     }
 }
 
 /// Does a command over files at rest, and gives the status.
 pub fn run_command<F: Files, K: Sink>(
     alloc: Global,
-    command: Command,
+    command: Command<'_>,
     files: &mut F,
     out: &mut K,
 ) -> u8
-    ensures says { OfTree (F.log files.old) (F.start files.old) (λ t. Answered (outcome_of command t) result (K.written out.old) (K.written out.new)) }
+    ensures says { OfTree (F.log files.old) (F.start files.old) (λ t. Replied (reply_to (question_of command.entry) t) result (K.written out.old) (K.written out.new)) }
     ensures fault { result ≡ 16 → Rose (F.faults files.old) (F.faults files.new) }
     ensures sink { result ≡ 19 → Rose (K.faults out.old) (K.faults out.new) }
     ensures log { F.log files.new ≡ F.log files.old }
     ensures same_start { F.start files.new ≡ F.start files.old }
-    ensures statuses { IsOneOf (0 ∷ 15 ∷ 16 ∷ 19 ∷ 20 ∷ 23 ∷ 24 ∷ 27 ∷ 30 ∷ []) result }
+    ensures statuses { IsOneOf (0 ∷ 12 ∷ 15 ∷ 16 ∷ 19 ∷ 20 ∷ 23 ∷ 24 ∷ 27 ∷ 30 ∷ []) result }
 {
     let ended = answer(alloc, command, files, out);
     conclude(alloc, ended, out)

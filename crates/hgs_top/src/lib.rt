@@ -2,9 +2,14 @@
 #![tactic(auto)]
 
 pub mod command;
-pub mod heads;
+pub mod contents;
+#[cfg(test)]
+mod contents_tests;
 pub mod laws;
+pub mod listing;
 pub mod log;
+#[cfg(test)]
+mod marks_tests;
 pub mod output;
 pub mod run;
 pub mod stopped;

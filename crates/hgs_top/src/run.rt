@@ -4,7 +4,7 @@ ghost use Rattle.std.specs.String.{string_bytes};
 ghost use Rattle.hgs_files.specs.Reads.{Rose};
 ghost use Rattle.hgs_files.specs.Yard.{IfWhole};
 ghost use Rattle.hgs_top.specs.Run.{Says, IsOneOf};
-ghost use Rattle.hgs_top.specs.Words.{command_of};
+ghost use Rattle.hgs_top.specs.Words.{question_of_words};
 
 use crate::command::{refuse_words, run_command};
 use crate::words::command_from;
@@ -22,9 +22,9 @@ pub struct Ran<Y> {
 
 // Does what the words ask for, over files at rest, and gives the status.
 fn run_words<F: Files, K: Sink>(alloc: Global, words: &[String], files: &mut F, out: &mut K) -> u8
-    ensures says { Says (command_of (map string_bytes words.now)) (F.log files.old) (F.start files.old) result (K.written out.old) (K.written out.new) }
-    ensures statuses { IsOneOf (0 ∷ 15 ∷ 16 ∷ 19 ∷ 20 ∷ 23 ∷ 24 ∷ 27 ∷ 28 ∷ 30 ∷ []) result }
-    ensures words { result ≡ 28 → (place : ℕ) × (command_of (map string_bytes words.now) ≡ Err place) }
+    ensures says { Says (question_of_words (map string_bytes words.now)) (F.log files.old) (F.start files.old) result (K.written out.old) (K.written out.new) }
+    ensures statuses { IsOneOf (0 ∷ 12 ∷ 15 ∷ 16 ∷ 19 ∷ 20 ∷ 23 ∷ 24 ∷ 27 ∷ 28 ∷ 30 ∷ []) result }
+    ensures words { result ≡ 28 → (place : ℕ) × (question_of_words (map string_bytes words.now) ≡ Err place) }
     ensures fault { result ≡ 16 → Rose (F.faults files.old) (F.faults files.new) }
     ensures sink { result ≡ 19 → Rose (K.faults out.old) (K.faults out.new) }
     ensures log { F.log files.new ≡ F.log files.old }
@@ -47,9 +47,9 @@ pub fn run<T, Y: Yard, S: Source, K: Sink>(
     input: &mut S,
     out: &mut K,
 ) -> Ran<Y>
-    ensures says { Says (command_of (map string_bytes words.now)) (Y.A.log (Y.files yard)) (Y.A.start (Y.files yard)) result.status (K.written out.old) (K.written out.new) }
-    ensures statuses { IsOneOf (0 ∷ 15 ∷ 16 ∷ 19 ∷ 20 ∷ 23 ∷ 24 ∷ 27 ∷ 28 ∷ 30 ∷ []) result.status }
-    ensures words { result.status ≡ 28 → (place : ℕ) × (command_of (map string_bytes words.now) ≡ Err place) }
+    ensures says { Says (question_of_words (map string_bytes words.now)) (Y.A.log (Y.files yard)) (Y.A.start (Y.files yard)) result.status (K.written out.old) (K.written out.new) }
+    ensures statuses { IsOneOf (0 ∷ 12 ∷ 15 ∷ 16 ∷ 19 ∷ 20 ∷ 23 ∷ 24 ∷ 27 ∷ 28 ∷ 30 ∷ []) result.status }
+    ensures words { result.status ≡ 28 → (place : ℕ) × (question_of_words (map string_bytes words.now) ≡ Err place) }
     ensures fault { result.status ≡ 16 → IfWhole result.left (λ y. Rose (Y.A.faults (Y.files yard)) (Y.A.faults (Y.files y))) }
     ensures sink { result.status ≡ 19 → Rose (K.faults out.old) (K.faults out.new) }
     ensures left { IfWhole result.left (λ y. (Y.A.log (Y.files y) ≡ Y.A.log (Y.files yard)) × (Y.A.start (Y.files y) ≡ Y.A.start (Y.files yard))) }

@@ -1,4 +1,4 @@
-//! Why a command did not come to its end.
+//! What a command came to.
 use hgs_files::streams::IoFault;
 use hgs_reader::answer::ReadAnswer;
 
@@ -9,4 +9,13 @@ pub enum Stopped {
     Refused(ReadAnswer),
     /// The output took no more.
     Unwritten(IoFault),
+}
+
+/// What a command that came to its end has said.
+#[derive(Clone, Copy, Debug, PartialEq, Eq)]
+pub enum Said {
+    /// All of its text.
+    Whole,
+    /// Nothing, since no revision has the name.
+    UnknownRevision,
 }

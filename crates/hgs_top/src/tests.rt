@@ -8,15 +8,17 @@ use hgs_mem::yard::MemYard;
 use std::alloc::Global;
 use std::test::Fail;
 
-const FIRST: &[u8; 64] =
+pub(crate) const FIRST: &[u8; 64] =
     b"\x00\x00\x00\x01\x00\x00\x00\x00\x00\x00\x007\x00\x00\x006\x00\x00\x00\x00\x00\x00\x00\x00\xff\xff\xff\xff\xff\xff\xff\xff\xcb\x9a\x9f1K\x8b\x07\xbaq\x01/\xcd\xbcTKZM\x82\xff[\x00\x00\x00\x00\x00\x00\x00\x00\x00\x00\x00\x00";
 
-const SECOND: &[u8; 64] =
+pub(crate) const SECOND: &[u8; 64] =
     b"\x00\x00\x00\x00\x007\x00\x00\x00\x00\x008\x00\x00\x007\x00\x00\x00\x01\x00\x00\x00\x01\x00\x00\x00\x00\xff\xff\xff\xff7\xbd\xf1\x92\x19\xc0\xe6\x9b\x87\xd67\x1f\xab\xfa\xf5\xc3\xa67\x94\xd9\x00\x00\x00\x00\x00\x00\x00\x00\x00\x00\x00\x00";
 
-const FIRST_CHUNK: &[u8] = b"ua0c8bcbbb45c63b90b70ad007bf38961f64f2af0\ntest\n0 0\na\n\na";
+pub(crate) const FIRST_CHUNK: &[u8] =
+    b"ua0c8bcbbb45c63b90b70ad007bf38961f64f2af0\ntest\n0 0\na\n\na";
 
-const SECOND_CHUNK: &[u8] = b"ua539ce0c1a22b0ecf34498f9f5ce8ea56df9ecb7\ntest\n60 0\nb\n\nb";
+pub(crate) const SECOND_CHUNK: &[u8] =
+    b"ua539ce0c1a22b0ecf34498f9f5ce8ea56df9ecb7\ntest\n60 0\nb\n\nb";
 
 const FIRST_LINE: &[u8] =
     b"0\x09cb9a9f314b8b07ba71012fcdbc544b5a4d82ff5b\x09-1\x09-1\x090\x090\x09test\x09a\n";
@@ -25,7 +27,7 @@ const SECOND_LINE: &[u8] =
     b"1\x0937bdf19219c0e69b87d6371fabfaf5c3a63794d9\x090\x09-1\x0960\x090\x09test\x09b\n";
 
 /// Files with these bytes of the changelog.
-fn store(alloc: Global, index: &[u8], chunks: &[u8]) -> Result<MemFiles, Fail> {
+pub(crate) fn store(alloc: Global, index: &[u8], chunks: &[u8]) -> Result<MemFiles, Fail> {
     let mut files = MemFiles::new(alloc)?;
     files.put(
         &StorePath::new(alloc, b"requires")?,
@@ -39,7 +41,7 @@ fn store(alloc: Global, index: &[u8], chunks: &[u8]) -> Result<MemFiles, Fail> {
 }
 
 /// What `run` answers to these words.
-fn asked(
+pub(crate) fn asked(
     rt: &HostRuntime,
     files: MemFiles,
     words: &[&str],
@@ -63,7 +65,7 @@ fn asked(
 }
 
 /// The two entries and their chunks, one after the other.
-fn both(alloc: Global, first: &[u8], second: &[u8]) -> Result<Vec<u8>, Fail> {
+pub(crate) fn both(alloc: Global, first: &[u8], second: &[u8]) -> Result<Vec<u8>, Fail> {
     let mut all = Vec::from_slice(alloc, first)?;
     all.extend_from_slice(second)?;
     Ok(all)
@@ -88,6 +90,14 @@ fn words_that_do_not_fit_are_named(rt: HostRuntime) -> Result<(), Fail> {
         (&["log", "-r"], b"abort: bad word 1\n"),
         (&["log", "--", "x"], b"abort: bad word 2\n"),
         (&["heads", "x"], b"abort: bad word 1\n"),
+        (&["files"], b"abort: bad word 1\n"),
+        (&["files", "--"], b"abort: bad word 2\n"),
+        (&["files", "-1"], b"abort: bad word 1\n"),
+        (&["cat", "0"], b"abort: bad word 2\n"),
+        (&["cat", "--", "0", "-a", "b"], b"abort: bad word 4\n"),
+        (&["phase"], b"abort: bad word 1\n"),
+        (&["parents", "0"], b"abort: bad word 1\n"),
+        (&["bookmarks", "--", "0"], b"abort: bad word 2\n"),
     ];
     for (words, line) in table {
         let (status, text) = asked(&rt, store(alloc, b"", b"")?, words, MemSink::new(alloc))?;

@@ -1,0 +1,9 @@
+use Rattle.hgs_index.proofs.AppendLemmas.{front_grows}
+use Rattle.hgs_reader.proofs.ContentLemmas.{line_on}
+use Rattle.hgs_reader.proofs.contents.add_files.Goals as goal
+
+pub loop-i-preserved : goal.loop-i-preserved
+loop-i-preserved c = record {
+  left = line_on _ _ _ _ _ _ c.row.ensures c.in-Ok.ensures.ok c.loop-i.invariant.left;
+  front = front_grows _ _ _ _ c.loop-i.invariant.front c.in-Ok.ensures.ok;
+}

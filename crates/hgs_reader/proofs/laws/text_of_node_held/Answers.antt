@@ -1,0 +1,5 @@
+use Rattle.hgs_reader.proofs.TreeLemmas.{text-held}
+use Rattle.hgs_reader.proofs.laws.text_of_node_held.Goals as goal
+
+pub returns : goal.returns
+returns c = text-held

@@ -1,0 +1,18 @@
+use Rattle.std.proofs.Common.{List, refl}
+use Rattle.hgs_index.specs.Manifest.{Row}
+use Rattle.hgs_reader.specs.Asks.{answer, then_asks}
+use Rattle.hgs_reader.specs.Contents.{tree_asks, file_node, body_asks}
+use Rattle.hgs_reader.proofs.AskLemmas.{adds-then, adds-refused}
+use Rattle.hgs_reader.proofs.session.Session.cat.Goals as goal
+
+pub returns-in-Err-clause-answer : goal.returns-in-Err-clause-answer
+returns-in-Err-clause-answer g c =
+    adds-refused (λ (rows : List Row). rows) (g.R.Reads.seen c.args.files.now) (g.R.Reads.seen c.manifest.new.files) (g.R.Reads.start c.args.files.now)
+    (tree_asks c.args.self.now c.args.rev) (λ (rows : List Row). then_asks (answer (file_node c.args.path.now rows)) (λ node. body_asks c.args.path.now node))
+    c.args.into.now.items c.args.into.now.items c.in-Err.refusal refl c.in-Err.ensures.answer
+
+pub returns-clause-answer : goal.returns-clause-answer
+returns-clause-answer g c =
+    adds-then (λ (rows : List Row). rows) (g.R.Reads.seen c.args.files.now) (g.R.Reads.seen c.manifest.new.files) (g.R.Reads.seen c.add_file.new.files) (g.R.Reads.start c.args.files.now) (g.R.Reads.start c.manifest.new.files)
+    (tree_asks c.args.self.now c.args.rev) (λ (rows : List Row). then_asks (answer (file_node c.args.path.now rows)) (λ node. body_asks c.args.path.now node)) c.in-Ok.manifest c.args.into.now.items c.add_file.new.into.items c.add_file.result
+    c.in-Ok.ensures.seen c.in-Ok.ensures.same_start c.in-Ok.ensures.answer c.add_file.ensures.answer

@@ -1,0 +1,16 @@
+-- Files that hold the texts of a changeset.
+use Rattle.std.specs.Prelude.{◌≡◌, ◌-◌, ℕ, List, length, slice_get, Some}
+use Rattle.hgs_files.specs.Tree.{Tree, bytes_at}
+use Rattle.hgs_index.specs.Revision.{Revision}
+use Rattle.hgs_index.specs.Revlog.{BeginsWithRevisions}
+use Rattle.hgs_revlog.specs.Held.{AreWithinLimits, EndsFirstAt}
+
+-- A revlog with this index and these chunks has this text with this node: its bytes begin with those that hold revisions, of which the last is the first with the node, whatever follows.
+pub record HasText (t : Tree) (index chunks node text : List ℕ) : Type 0 where
+  pub revisions : List Revision
+  pub last : Revision
+  pub held : BeginsWithRevisions (bytes_at t index) (bytes_at t chunks) revisions
+  pub limits : AreWithinLimits revisions (bytes_at t chunks)
+  pub ends : EndsFirstAt node revisions
+  pub is_last : slice_get revisions (length revisions - 1) ≡ Some last
+  pub text_is : last.text ≡ text

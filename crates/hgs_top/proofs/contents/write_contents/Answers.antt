@@ -1,0 +1,42 @@
+use Rattle.std.proofs.Common.{List, ℕ, subst}
+use Rattle.hgs_files.specs.Streams.{IsWritten}
+use Rattle.hgs_top.specs.Outcome.{subject_of}
+use Rattle.hgs_top.specs.Run.{IsFrontWritten, IsUnwritten}
+use Rattle.hgs_top.proofs.ContentsLemmas.{unopened_reply, no_name, refused_contents, written_contents, cut_contents}
+use Rattle.hgs_top.proofs.contents.write_contents.Goals as goal
+
+pub returns-in-Err-clause-told : goal.returns-in-Err-clause-told
+returns-in-Err-clause-told g c = λ alone.
+    let e = c.in-Err.ensures in
+    unopened_reply (g.R.Reads.seen c.args.files.now) (g.R.Reads.seen c.open.new.files) (g.R.Reads.start c.args.files.now) c.args.name.now (subject_of c.args.about) c.in-Err.refusal (g.K.Sink.written c.args.out.now) (e.still alone) e.answer
+
+pub returns-in-None-clause-told : goal.returns-in-None-clause-told
+returns-in-None-clause-told g c = λ alone.
+    let e = c.in-Ok.ensures in
+    no_name (g.R.Reads.seen c.args.files.now) (g.R.Reads.seen c.open.new.files) (g.R.Reads.seen c.open.new.files) (g.R.Reads.start c.args.files.now) (g.R.Reads.start c.open.new.files) c.in-Ok.session c.args.name.now (subject_of c.args.about)
+    (e.still alone) e.same_start e.answer (g.K.Sink.written c.args.out.now) c.in-None.ensures.named
+
+pub returns-in-Err-add_contents-clause-told : goal.returns-in-Err-add_contents-clause-told
+returns-in-Err-add_contents-clause-told g c = λ alone.
+    let e = c.in-Ok.ensures in
+    refused_contents (g.R.Reads.seen c.args.files.now) (g.R.Reads.seen c.open.new.files) (g.R.Reads.seen c.add_contents.new.files) (g.R.Reads.start c.args.files.now) (g.R.Reads.start c.open.new.files) c.in-Ok.session c.args.name.now (subject_of c.args.about)
+    (e.still alone) e.same_start e.answer c.in-Some.rev c.in-Some.ensures.named c.new-text.result.items c.add_contents.new.into.items (c.in-Err-add_contents.ensures.still alone) c.in-Err-add_contents.refusal (g.K.Sink.written c.args.out.now) c.in-Err-add_contents.ensures.answer
+
+pub returns-in-Ok-write_last-clause-told : goal.returns-in-Ok-write_last-clause-told
+returns-in-Ok-write_last-clause-told g c = λ alone.
+    let e = c.in-Ok.ensures in
+    let a = c.in-Ok-add_contents.ensures in
+    let W : List ℕ → Type 0 = λ b. IsWritten (g.K.Sink.written c.args.out.now) (g.K.Sink.written c.write_last.new.out) b in
+    written_contents (g.R.Reads.seen c.args.files.now) (g.R.Reads.seen c.open.new.files) (g.R.Reads.seen c.add_contents.new.files) (g.R.Reads.start c.args.files.now) (g.R.Reads.start c.open.new.files) c.in-Ok.session c.args.name.now (subject_of c.args.about)
+    (e.still alone) e.same_start e.answer c.in-Some.rev c.in-Some.ensures.named c.new-text.result.items c.add_contents.new.into.items (a.still alone) c.in-Ok-add_contents.field-0 (g.K.Sink.written c.args.out.now) (g.K.Sink.written c.write_last.new.out)
+    a.answer c.new-text.ensures.items (subst W c.deref.ensures.value c.in-Ok-write_last.ensures.ok)
+
+pub returns-clause-told : goal.returns-clause-told
+returns-clause-told g c = λ alone.
+    let e = c.in-Ok.ensures in
+    let a = c.in-Ok-add_contents.ensures in
+    let s = c.in-Err-write_last.stopped in
+    let F : List ℕ → Type 0 = λ b. IsUnwritten s × IsFrontWritten (g.K.Sink.written c.args.out.now) (g.K.Sink.written c.write_last.new.out) b in
+    cut_contents (g.R.Reads.seen c.args.files.now) (g.R.Reads.seen c.open.new.files) (g.R.Reads.seen c.add_contents.new.files) (g.R.Reads.start c.args.files.now) (g.R.Reads.start c.open.new.files) c.in-Ok.session c.args.name.now (subject_of c.args.about)
+    (e.still alone) e.same_start e.answer c.in-Some.rev c.in-Some.ensures.named c.new-text.result.items c.add_contents.new.into.items (a.still alone) c.in-Ok-add_contents.field-0 (g.K.Sink.written c.args.out.now) (g.K.Sink.written c.write_last.new.out)
+    a.answer c.new-text.ensures.items s (subst F c.deref.ensures.value c.in-Err-write_last.ensures.err)
