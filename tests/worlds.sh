@@ -18,15 +18,55 @@ lay_store() {
     mkdir .hg && cp -r "$here"/fixtures/separate/. .hg && rm -rf .hg/expected
 }
 
-# The store of a history whose lines fill more than a pipe holds.
-lay_long_store() { python3 -Bc "import sys; sys.path.insert(0, '$here/../bench'); import log; log.write_store('.', 3000)"; }
+# The store of a history of so many changesets.
+lay_history() { python3 -Bc "import sys; sys.path.insert(0, '$here/../bench'); import log; log.write_store('.', $1)"; }
+
+# The store of one changeset with this text, its escapes as Python reads them.
+lay_text() {
+    lay_history 1
+    python3 -Bc "
+import sys; sys.path.insert(0, '$here/../bench'); import log
+index, data = log.revlog([b'$1'])
+open('.hg/store/00changelog.i', 'wb').write(index)
+open('.hg/store/00changelog.d', 'wb').write(data)"
+}
+header='0000000000000000000000000000000000000000\n' # a null manifest
+
+# The store with a `requires` of so many bytes, all of known words.
+lay_requires() {
+    lay_store
+    python3 -Bc "
+words = b'dotencode\nfncache\nrevlogv1\nstore\n'
+rest = $1 - len(words)
+if rest % 2: words, rest = words + b'revlogv1\n', rest - 9
+while rest % 6: words, rest = words + b'fncache\n', rest - 8
+open('.hg/requires', 'wb').write(words + b'store\n' * (rest // 6))"
+}
+
+# The store with so many bookmarks, all on one changeset.
+lay_bookmarks() {
+    lay_store
+    python3 -Bc "
+for number in range($1): print('3f890414582f19f7c71622dda118938743e80f66 b%05d' % number)" >.hg/bookmarks
+}
 
 # The worlds. Each function lays its own in the current folder.
 no_hg() { :; }
 empty_hg() { mkdir .hg; }
 hg_is_a_file() { echo text >.hg; }
 whole_store() { lay_store; }
-long_store() { lay_long_store; }
+long_store() { lay_history 3000; } # its lines fill more than a pipe holds
+just_a_piece() { lay_history 1024; } # whose index is read again behind its last byte
+one_entry_more() { lay_history 1025; }
+no_shape() { lay_text x; }
+no_node() { lay_text 'x\nuser\n0 0\n\n'; }
+no_date() { lay_text "${header}user\n0 50401\n\n"; }
+no_order() { lay_text "${header}user\n0 0\nb\na\n\n"; }
+surrogate() { lay_text "${header}user\n0 0\n\n\xed\xa0\x80"; }
+fullest_requires() { lay_requires 65536; }
+too_full_requires() { lay_requires 65537; }
+most_bookmarks() { lay_bookmarks 10000; }
+too_many_bookmarks() { lay_bookmarks 10001; }
 unreadable_index() { lay_store && chmod 000 .hg/store/00changelog.i; }
 unreadable_data() { lay_store && chmod 000 .hg/store/00changelog.d; }
 folder_as_index() { lay_store && rm .hg/store/00changelog.i && mkdir .hg/store/00changelog.i; }
@@ -112,6 +152,17 @@ whole_store|reader_gone_default|19|-|log
 no_hg|closed_output|19|-|log
 whole_store|first_line|0|15	3f890414582f19f7c71622dda118938743e80f66	14	-1	1000000900	0	test	c15|log
 long_store|first_line|19|2999	fd19f6ee30a769d7e8aa7f92e3a904baeefa2da6	2998	-1	1000179940	0	Ada Lovelace <ada@example.org>	change 2999 of many|log
+just_a_piece|plain|0|1023 af544b750ab63f8fb09365120c0b549f9ab57611|heads
+one_entry_more|plain|0|1024 5b00c63b95a50afe06dbeeb3ce1d2e7654d305cb|heads
+no_shape|plain|15|abort: damaged store/00changelog.i: change 1 0|log
+no_node|plain|15|abort: damaged store/00changelog.i: change 2 0|log
+no_date|plain|15|abort: damaged store/00changelog.i: change 3 0|log
+no_order|plain|15|abort: damaged store/00changelog.i: change 4 0|log
+surrogate|plain|15|abort: damaged store/00changelog.i: change 5 0|log
+fullest_requires|plain|0|log|log
+too_full_requires|plain|20|abort: limit 9|log
+most_bookmarks|plain|0|b09999	15	3f890414582f19f7c71622dda118938743e80f66|bookmarks
+too_many_bookmarks|plain|20|abort: limit 6|bookmarks
 no_hg|plain|24|abort: not a repository|heads
 empty_hg|plain|24|abort: not a repository|heads
 whole_store|plain|0|15 3f890414582f19f7c71622dda118938743e80f66|heads

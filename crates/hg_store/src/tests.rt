@@ -119,6 +119,7 @@ fn second_names_keep_their_bytes(rt: HostRuntime) -> Result<(), Fail> {
     }
     assert_eq!(rt; text(&rt, &mut files, "a", 0)?.as_str(), "text more");
     assert_eq!(rt; text(&rt, &mut files, "b", 0)?.as_str(), "t");
+    assert_eq!(rt; text(&rt, &mut files, "c", 0)?.as_str(), "");
     fs::remove_dir_all(&rt, folder.as_str())?;
     Ok(())
 }

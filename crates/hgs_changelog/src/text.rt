@@ -95,19 +95,25 @@ mod tests {
         Ok(())
     }
 
+    /// Texts at the bounds of their parts, the last as Mercurial wrote it.
+    const TAKEN: [&[u8]; 3] = [
+        b"0000000000000000000000000000000000000000\ntest\n-1099511627776 50400 branch:x\n\n\n",
+        b"0000000000000000000000000000000000000000\ntest\n1099511627776 -50400\n\n\xf0\x9d\x84\x9e",
+        b"4060c64b877f9572a19aed0b397340287dcb8014\nZo\xc3\xab <z@e>\n1000000000 -3600 branch:x y\nc\ne\nm\nu\nz\n\n\xc3\xbcml\xc3\xa4ut",
+    ];
+
     #[test]
-    fn dates_west_and_before(rt: HostRuntime) -> Result<(), Fail> {
-        let text = b"0000000000000000000000000000000000000000\ntest\n-1 50400 branch:x\n\n\n";
-        let change = ChangeText::read(rt.alloc(), text)?;
-        assert_eq!(rt; change.seconds, -1);
-        assert_eq!(rt; change.offset, 50400);
-        assert_eq!(rt; change.extras.as_slice(), b"branch:x".as_slice());
-        assert_eq!(rt; change.files.len(), 0);
-        assert_eq!(rt; change.description.as_slice(), b"\n".as_slice());
+    fn bounds_are_taken(rt: HostRuntime) -> Result<(), Fail> {
+        for text in TAKEN {
+            let change = ChangeText::read(rt.alloc(), text)?;
+            let mut printed = Vec::new(rt.alloc());
+            change.print(&mut printed)?;
+            assert_eq!(rt; printed.as_slice(), text);
+        }
         Ok(())
     }
 
-    const FAULTS: [(&[u8], ChangeFault); 9] = [
+    const FAULTS: [(&[u8], ChangeFault); 15] = [
         (b"", ChangeFault::Shape),
         (
             b"a0c8bcbbb45c63b90b70ad007bf38961f64f2af0\ntest\n\n0 0",
@@ -139,6 +145,31 @@ mod tests {
         ),
         (
             b"a0c8bcbbb45c63b90b70ad007bf38961f64f2af0\n\xff\n0 0\na\nb\n\n",
+            ChangeFault::Utf8,
+        ),
+        (
+            b"a0c8bcbbb45c63b90b70ad007bf38961f64f2af0\ntest\n-1099511627777 0\n\n",
+            ChangeFault::Date,
+        ),
+        (
+            b"a0c8bcbbb45c63b90b70ad007bf38961f64f2af0\ntest\n0 -50401\n\n",
+            ChangeFault::Date,
+        ),
+        // what RFC 3629 rules out: a needlessly long form, half of a pair, a code above the greatest, a cut one
+        (
+            b"a0c8bcbbb45c63b90b70ad007bf38961f64f2af0\ntest\n0 0\n\n\xc0\x80",
+            ChangeFault::Utf8,
+        ),
+        (
+            b"a0c8bcbbb45c63b90b70ad007bf38961f64f2af0\ntest\n0 0\n\n\xed\xa0\x80",
+            ChangeFault::Utf8,
+        ),
+        (
+            b"a0c8bcbbb45c63b90b70ad007bf38961f64f2af0\ntest\n0 0\n\n\xf4\x90\x80\x80",
+            ChangeFault::Utf8,
+        ),
+        (
+            b"a0c8bcbbb45c63b90b70ad007bf38961f64f2af0\ntest\n0 0\n\n\xe2\x82",
             ChangeFault::Utf8,
         ),
     ];

@@ -6,7 +6,7 @@ use Rattle.std.proofs.lemmas.Bool.Decides.{nat_tests}
 use Rattle.hgs_index.specs.Revision.{Parents, ParentsBefore}
 use Rattle.hgs_index.specs.Ancestor.{IsAncestor, itself, of_parent, ancestors_at, ancestors_from, is_ancestor}
 
-abbrev member : ℕ → List ℕ → Bool
+abbrev pub member : ℕ → List ℕ → Bool
 member a xs = list_any (λ x. x == a) xs
 
 same-number : (a : ℕ) → (a == a) ≡ true
@@ -30,7 +30,7 @@ or-right : (a b : Bool) → b ≡ true → (a || b) ≡ true
 or-right true b h = refl
 or-right false b h = h
 
-member-append : (a : ℕ) (xs ys : List ℕ) → member a (xs ++ ys) ≡ (member a xs || member a ys)
+pub member-append : (a : ℕ) (xs ys : List ℕ) → member a (xs ++ ys) ≡ (member a xs || member a ys)
 member-append a [] ys = refl
 member-append a (x ∷ xs) ys = ap (λ b. (x == a) || b) (member-append a xs ys) ∙ or-assoc (x == a) (member a xs) (member a ys)
   where

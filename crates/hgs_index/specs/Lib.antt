@@ -5,6 +5,7 @@ pub mod FileText
 pub mod Hex
 pub mod Limit
 pub mod Manifest
+pub mod MarkName
 pub mod Node
 pub mod Revision
 pub mod Revlog

@@ -1,7 +1,8 @@
 -- The hash of a revision.
-use Rattle.std.specs.Prelude.{ℕ, List, ◌++◌, replicate, if◌then◌else◌}
+use Rattle.std.specs.Prelude.{◌≡◌, ℕ, List, ◌++◌, length, replicate, if◌then◌else◌}
 use Rattle.std.specs.Cmp.Lexicographic.{slice_cmp}
 use Rattle.std.specs.Ordering.{nat_cmp, is_gt}
+use Rattle.hex.specs.Hex.{IsBytes}
 use Rattle.sha1.specs.Sha1.{sha1}
 
 abbrev pub smaller : List ℕ → List ℕ → List ℕ
@@ -17,3 +18,8 @@ node_hash p1 p2 text = sha1 (smaller p1 p2 ++ larger p1 p2 ++ text)
 -- what stands for no revision
 abbrev pub null_node : List ℕ
 null_node = replicate 20 0
+
+-- a node is 20 bytes
+pub record IsNode (node : List ℕ) : Type 0 where
+  pub size : length node ≡ 20
+  pub bytes : IsBytes node

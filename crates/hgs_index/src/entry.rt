@@ -199,17 +199,27 @@ mod tests {
     use hex::FromHex;
     use std::test::Fail;
 
-    /// Digits that an index has, and what they say: offset, stored length, text length, base and link, first parent, node.
-    struct Row(&'static str, u64, u32, u32, u32, Option<u32>, &'static str);
+    /// Digits that an index has, and what they say: offset, stored length, text length, base and link, both parents, node.
+    struct Row(
+        &'static str,
+        u64,
+        u32,
+        u32,
+        u32,
+        Option<u32>,
+        Option<u32>,
+        &'static str,
+    );
 
-    // The first is of a store with one changeset, the others are the first and the third of a store that Mercurial made.
-    const ROWS: [Row; 3] = [
+    // The first is of a store with one changeset, the others are the first, the third and a merge of stores that Mercurial made.
+    const ROWS: [Row; 4] = [
         Row(
             "000000010000000000000037000000360000000000000000ffffffffffffffffcb9a9f314b8b07ba71012fcdbc544b5a4d82ff5b000000000000000000000000",
             0,
             55,
             54,
             0,
+            None,
             None,
             "cb9a9f314b8b07ba71012fcdbc544b5a4d82ff5b",
         ),
@@ -220,6 +230,7 @@ mod tests {
             164,
             0,
             None,
+            None,
             "3f96c076ae9cef57ed0d71fd2e0f9f7a80c3643e",
         ),
         Row(
@@ -229,12 +240,23 @@ mod tests {
             96,
             2,
             Some(1),
+            None,
             "2ac2ecd314a54d7c896fc5e4c2f83aff6a0ea28e",
+        ),
+        Row(
+            "0000000002210000000000600000005f00000005000000050000000400000003c0919d73f162ec7c5862121d97d6c9fae88785e9000000000000000000000000",
+            545,
+            96,
+            95,
+            5,
+            Some(4),
+            Some(3),
+            "c0919d73f162ec7c5862121d97d6c9fae88785e9",
         ),
     ];
 
     fn entry_of(row: &Row) -> Result<Entry, Fail> {
-        let Row(_, offset, stored, size, rev, p1, node) = row;
+        let Row(_, offset, stored, size, rev, p1, p2, node) = row;
         Ok(Entry {
             offset: *offset,
             flags: 0,
@@ -243,7 +265,7 @@ mod tests {
             base: *rev,
             link: *rev,
             p1: *p1,
-            p2: None,
+            p2: *p2,
             node: Node(<[u8; 20] as FromHex>::from_hex(*node)?),
         })
     }
@@ -272,7 +294,7 @@ mod tests {
             link: 0,
             p1: None,
             p2: None,
-            node: Node(<[u8; 20] as FromHex>::from_hex(ROWS[1].6)?),
+            node: Node(<[u8; 20] as FromHex>::from_hex(ROWS[1].7)?),
         };
         let bytes = <[u8; 64] as FromHex>::from_hex(ROWS[1].0)?;
         assert_eq!(rt; encode(&entry, Some(header)), bytes);
@@ -290,7 +312,7 @@ mod tests {
             link: 2,
             p1: Some(1),
             p2: None,
-            node: Node(<[u8; 20] as FromHex>::from_hex(ROWS[2].6)?),
+            node: Node(<[u8; 20] as FromHex>::from_hex(ROWS[2].7)?),
         };
         let bytes = <[u8; 64] as FromHex>::from_hex(ROWS[2].0)?;
         assert_eq!(rt; encode(&entry, None), bytes);

@@ -92,7 +92,7 @@ impl Manifest {
     }
 
     /// Adds a row at the end, or changes nothing where there is no memory.
-    pub fn add(&mut self, row: Row<'_>) -> Result<(), AllocError>
+    pub(crate) fn add(&mut self, row: Row<'_>) -> Result<(), AllocError>
         requires { length self.old < 33554432 }
         ensures ok { OnOk result (self.new ≡ self.old ++ view_row row.entry ∷ []) }
         ensures err { OnErr result (self.new ≡ self.old) }

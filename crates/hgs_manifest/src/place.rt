@@ -26,7 +26,7 @@ pub struct Place {
 }
 
 /// The row whose path stands at this place of the paths.
-pub fn row_of<'a>(paths: &'a [u8], place: &Place) -> Row<'a>
+pub(crate) fn row_of<'a>(paths: &'a [u8], place: &Place) -> Row<'a>
     ensures { view_row result ≡ row_in paths.now place.now }
 {
     Row {
@@ -37,7 +37,11 @@ pub fn row_of<'a>(paths: &'a [u8], place: &Place) -> Row<'a>
 }
 
 /// Adds a row at the end, or changes nothing where there is no memory.
-pub fn add_row(paths: &mut Vec<u8>, places: &mut Vec<Place>, row: Row<'_>) -> Result<(), AllocError>
+pub(crate) fn add_row(
+    paths: &mut Vec<u8>,
+    places: &mut Vec<Place>,
+    row: Row<'_>,
+) -> Result<(), AllocError>
     requires held { IsHeld paths.old.items places.old.items }
     requires room { length places.old.items < 33554432 }
     ensures held { IsHeld paths.new.items places.new.items }
@@ -61,7 +65,7 @@ pub fn add_row(paths: &mut Vec<u8>, places: &mut Vec<Place>, row: Row<'_>) -> Re
 }
 
 /// The node and the flag of the row with this path.
-pub fn find(paths: &[u8], places: &[Place], path: &[u8]) -> Option<(Node, Flag)>
+pub(crate) fn find(paths: &[u8], places: &[Place], path: &[u8]) -> Option<(Node, Flag)>
     ensures { option_map (λ x. (x.0.0, x.1)) result ≡ found_in path.now (map (row_in paths.now) places.now) }
 {
     for place in places {

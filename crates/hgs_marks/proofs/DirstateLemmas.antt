@@ -1,6 +1,6 @@
 -- Entries, one after another.
-use Rattle.std.proofs.Common.{◌≡◌, ◌<◌, ◌≤◌, ℕ, zero, suc, ◌+◌, ◌-◌, Bool, true, false, List, [], ◌∷◌, ◌++◌, length, drop, Option, Some, None, Result, Ok, Err, refl, sym, ◌∙◌, ap, cond, arith, append_assoc}
-use Rattle.std.specs.Prelude.{◌==◌, if◌then◌else◌}
+use Rattle.std.proofs.Common.{◌≡◌, ◌<◌, ◌≤◌, ℕ, zero, suc, ◌-◌, Bool, true, false, List, [], ◌∷◌, ◌++◌, length, Result, Ok, Err, refl, sym, ◌∙◌, ap, cond, arith, append_assoc}
+use Rattle.std.specs.Prelude.{◌==◌}
 use Rattle.std.proofs.lemmas.List.{append-nil}
 use Rattle.hgs_marks.specs.declared.fault.MarkFault.{MarkFault}
 use Rattle.hgs_marks.specs.Dirstate.{Entry, next_entry, entry_then, entry_and_more, entries_from, entry_path, tracked, paths_with}
@@ -20,7 +20,7 @@ then_paths : (paths : List (List ℕ)) (e : Entry) (r : Result (List Entry) Mark
 then_paths paths e (Ok es) = ap (λ l. Ok l) (more_tracked (e.state == 114) paths (entry_path e) (tracked es))
 then_paths paths e (Err f) = refl
 
-one_step : (n len : ℕ) (rest : List ℕ) → 0 < length rest → entries_from (suc n) len rest ≡ entry_and_more (next_entry (len - length rest) rest) (λ r. entries_from n len r)
+pub one_step : (n len : ℕ) (rest : List ℕ) → 0 < length rest → entries_from (suc n) len rest ≡ entry_and_more (next_entry (len - length rest) rest) (λ r. entries_from n len r)
 one_step n len rest h = rw (not_zero (length rest) h)
 
 pub one_entry : (paths new : List (List ℕ)) (e : Entry) (len : ℕ) (rest behind : List ℕ) (all : Result (List (List ℕ)) MarkFault) → 0 < length rest → length behind < length rest → AllPaths paths len rest all →

@@ -1,9 +1,6 @@
 -- The entries of a map as bookmarks.
-use Rattle.std.proofs.Common.{◌≡◌, ℕ, Bool, true, false, List, [], ◌∷◌, ◌++◌, length, map, Option, Some, None, refl, sym, ◌∙◌, ap, cond}
-use Rattle.std.specs.Prelude.{Vec, is_some, option_map, slice_get}
-use Rattle.std.specs.Iterator.{Yields}
-use Rattle.std.specs.Map.Iter.{TakesFirst}
-use Rattle.std.proofs.lemmas.Map.Iter.{rest_so_far}
+use Rattle.std.proofs.Common.{◌≡◌, ℕ, Bool, true, false, List, [], ◌∷◌, map, Option, Some, None, refl, sym, ◌∙◌, ap, cond}
+use Rattle.std.specs.Prelude.{Vec, is_some, option_map}
 use Rattle.std.specs.declared.cmp.Ordering.{Ordering}
 use Rattle.std.specs.declared.cmp.Ordering.TheVariants.{Less, Equal, Greater}
 use Rattle.std.specs.Ordering.{nat_cmp, is_eq, match_ordering}
@@ -48,17 +45,7 @@ removed name (e ∷ es) =
     removed-step (is_eq (slice_cmp nat_cmp name e.0.items)) es (remove_entry (λ k. is_eq (slice_cmp nat_cmp name k.items)) es) e (without name (map mark_in es)) (removed name es)
     ∙ ap (λ b. cond b (map mark_in es) (mark_in e ∷ without name (map mark_in es))) (sym (texts_ties name e.0.items))
 
--- ---- the entry at a place
-
-got : {Y A : Type 0} (shows : A → Vec ℕ Y × Node) (xs : List A) (e : Vec ℕ Y × Node) (es : List (Vec ℕ Y × Node)) → slice_get (map mark_in (map shows xs ++ e ∷ es)) (length xs) ≡ Some (mark_in e)
-got shows [] e es = refl
-got shows (x ∷ xs) e es = got shows xs e es
-
-pub at_place : {Y A : Type 0} (shows : A → Vec ℕ Y × Node) (xs : List A) (all s t u : List (Vec ℕ Y × Node)) (e : Vec ℕ Y × Node) (i : ℕ) (marks : List Mark) → s ≡ all → Yields (TakesFirst shows) s xs t → t ≡ e ∷ u → length xs ≡ i → map mark_in all ≡ marks →
-    slice_get marks i ≡ Some (mark_in e)
-at_place shows xs all s t u e i marks start yielded step count view =
-    ap (λ ms. slice_get ms i) (sym view ∙ ap (map mark_in) (sym start ∙ rest_so_far shows xs s t yielded ∙ ap (λ l. map shows xs ++ l) step))
-    ∙ ap (slice_get (map mark_in (map shows xs ++ e ∷ u))) (sym count) ∙ got shows xs e u
+-- ---- what stands
 
 some_alike : (o : Option Node) → is_some o ≡ is_some (option_map (λ n. n.0) o)
 some_alike None = refl

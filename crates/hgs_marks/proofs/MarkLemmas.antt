@@ -1,8 +1,8 @@
 -- Bookmarks in their places.
-use Rattle.std.proofs.Common.{◌≡◌, ℕ, ◌+◌, Bool, true, false, List, [], ◌∷◌, map, Option, Some, None, Result, Ok, Err, refl, sym, ◌∙◌, ap, cond}
+use Rattle.std.proofs.Common.{◌≡◌, ℕ, ◌+◌, Bool, List, ◌∷◌, Result, Ok, Err, refl, sym, ◌∙◌, ap}
 use Rattle.hgs_bytes.specs.Text.{lines_of}
 use Rattle.hgs_marks.specs.declared.fault.MarkFault.{MarkFault}
-use Rattle.hgs_marks.specs.Bookmarks.{Mark, mark_of, mark_then, marks_from, all_with, with_mark, with_marks}
+use Rattle.hgs_marks.specs.Bookmarks.{Mark, mark_of, mark_then, marks_from, all_with, with_mark}
 
 then_all : (marks : List Mark) (m : Mark) (r : Result (List Mark) MarkFault) → all_with marks (mark_then (Ok m) r) ≡ all_with (with_mark marks m) r
 then_all marks m (Ok more) = refl

@@ -1,5 +1,5 @@
 -- The text of the bookmarks: a line for each, a node in hex, a space and the name.
-use Rattle.std.specs.Prelude.{◌==◌, ◌+◌, ℕ, Bool, true, false, List, [], ◌∷◌, ◌++◌, take, drop, Option, Some, None, Result, Ok, Err, if◌then◌else◌, map, flat_map}
+use Rattle.std.specs.Prelude.{◌+◌, ℕ, Bool, true, false, List, [], ◌∷◌, ◌++◌, take, drop, Option, Some, None, Result, Ok, Err, if◌then◌else◌, flat_map}
 use Rattle.std.specs.Cmp.Lexicographic.{slice_cmp}
 use Rattle.std.specs.Ordering.{nat_cmp, match_ordering}
 use Rattle.hgs_bytes.specs.Bytes.{same, begins_with}
@@ -7,7 +7,7 @@ use Rattle.hgs_bytes.specs.Text.{Line as TextLine, line, lines_of}
 use Rattle.hgs_index.specs.Hex.{hex, node_at}
 use Rattle.hgs_marks.specs.declared.fault.MarkFault.{MarkFault}
 use Rattle.hgs_marks.specs.declared.fault.MarkFault.TheVariants.{Line, Name, Short, State, Memory}
-use Rattle.hgs_marks.specs.Name.{is_mark_name}
+use Rattle.hgs_index.specs.MarkName.{is_mark_name}
 
 -- a bookmark: its name and the node of its changeset
 pub record Mark : Type 0 where

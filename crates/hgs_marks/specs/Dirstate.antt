@@ -1,10 +1,10 @@
 -- The text of the working parents and the tracked paths.
-use Rattle.std.specs.Prelude.{◌==◌, ◌+◌, ◌*◌, ◌-◌, ◌^◌, ◌&&◌, ◌||◌, ℕ, zero, suc, Bool, true, false, not, nat_le, List, [], ◌∷◌, ◌++◌, length, take, drop, Option, Some, None, Result, Ok, Err, if◌then◌else◌, map, flat_map, slice_index}
+use Rattle.std.specs.Prelude.{◌==◌, ◌+◌, ◌-◌, ◌&&◌, ◌||◌, ℕ, zero, suc, Bool, nat_le, List, [], ◌∷◌, ◌++◌, length, take, drop, Option, Some, None, Result, Ok, Err, if◌then◌else◌, flat_map, slice_index}
 use Rattle.std.specs.Int.{w32, to_be_bytes, from_be_bytes}
 use Rattle.hgs_bytes.specs.Text.{split}
 use Rattle.hgs_index.specs.Node.{null_node}
 use Rattle.hgs_marks.specs.declared.fault.MarkFault.{MarkFault}
-use Rattle.hgs_marks.specs.declared.fault.MarkFault.TheVariants.{Line, Name, Short, State, Memory}
+use Rattle.hgs_marks.specs.declared.fault.MarkFault.TheVariants.{Short, State}
 
 -- the working parents, and the tracked paths in the order of the text
 pub record Dirstate : Type 0 where

@@ -1,5 +1,5 @@
 -- Bookmarks as the code holds them.
-use Rattle.std.specs.Prelude.{ℕ, List, Vec}
+use Rattle.std.specs.Prelude.{ℕ, Vec}
 use Rattle.hgs_index.specs.declared.node.Node.{Node}
 use Rattle.hgs_marks.specs.Bookmarks.{Mark}
 use Rattle.hgs_marks.specs.Dirstate.{Dirstate, Entry}

@@ -1,4 +1,4 @@
 pub mod Bookmarks
 pub mod Dirstate
 pub mod Held
-pub mod Name
+pub mod Texts

@@ -1,10 +1,10 @@
 //! Bookmarks (Mercurial's file `bookmarks`).
-ghost use Rattle.std.specs.Prelude.{◌≡◌, ◌<◌, ℕ, [], length, slice_get, Some, OnOk, OnErr, is_some, not};
+ghost use Rattle.std.specs.Prelude.{◌≡◌, ℕ, [], length, map, OnOk, OnErr, is_some};
 ghost use Rattle.std.specs.Option.{option_map};
 ghost use Rattle.std.specs.Result.{result_map_both};
 ghost use Rattle.hgs_bytes.specs.Answer.{Gives};
 ghost use Rattle.hgs_marks.specs.Bookmarks.{Mark, node_of, with_mark, without, mark_of, set_mark, read_bookmarks, is_memory};
-ghost use Rattle.hgs_marks.specs.Held.{view_mark};
+ghost use Rattle.hgs_marks.specs.Held.{mark_in, view_mark};
 
 use crate::fault::MarkFault;
 use crate::name::is_mark_name;
@@ -79,18 +79,11 @@ impl Bookmarks {
         self.marks.get(name).copied()
     }
 
-    /// The bookmark at place `i` in byte order of names, from 0. The time is that of going to it from the first.
-    pub fn at(&self, i: usize) -> Mark<'_>
-        requires { i < length self.now }
-        ensures { slice_get self.now i ≡ Some (view_mark result) }
+    /// The node of each name, in byte order of names.
+    pub fn as_map(&self) -> &BTreeMap<Vec<u8>, Node>
+        ensures { map mark_in result.now.entries ≡ self.now }
     {
-        match self.marks.iter().nth(i) {
-            Some((name, node)) => Mark {
-                name: name.as_slice(),
-                node: *node,
-            },
-            None => unreachable!(),
-        }
+        &self.marks
     }
 
     // Adds a bookmark in its place, or changes nothing where there is no memory.

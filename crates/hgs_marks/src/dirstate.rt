@@ -1,5 +1,6 @@
 //! The working parents and the tracked paths (Mercurial's file `dirstate`, its first version).
-ghost use Rattle.std.specs.Prelude.{◌≡◌, ◌<◌, ◌≤◌, ◌+◌, ◌++◌, ◌||◌, ◌==◌, ℕ, [], ◌∷◌, length, take, drop, Some, IfOk, IfSome, OnOk, OnErr, if◌then◌else◌};
+ghost use Rattle.std.specs.Prelude.{◌≡◌, ◌<◌, ◌≤◌, ◌+◌, ◌^◌, ◌++◌, ◌||◌, ◌==◌, ℕ, [], ◌∷◌, length, take, drop, Some, IfOk, IfSome, OnOk, OnErr, if◌then◌else◌};
+ghost use Rattle.std.specs.List.{All};
 ghost use Rattle.std.specs.Option.{option_map};
 ghost use Rattle.hgs_bytes.specs.Answer.{Gives};
 ghost use Rattle.hgs_bytes.specs.Bytes.{IsPrefixOf};
@@ -108,7 +109,8 @@ fn track(alloc: Global, paths: &mut Names, entry: Entry<'_>) -> Result<(), Alloc
 /// The tracked paths of a text that has the parents.
 fn paths_from(alloc: Global, text: &[u8]) -> Result<Names, MarkFault>
     requires { 40 ≤ length text.now }
-    ensures { Gives is_memory (λ paths. paths) result (read_paths text.now) }
+    ensures read { Gives is_memory (λ paths. paths) result (read_paths text.now) }
+    ensures fits { IfOk result (λ paths. All (λ path. length path < 2 ^ 32) paths) }
 {
     let mut paths = Names::new(alloc);
     let mut rest = past(text, 40);
@@ -122,9 +124,10 @@ fn paths_from(alloc: Global, text: &[u8]) -> Result<Names, MarkFault>
 
 impl Dirstate {
     /// The working parents and the tracked paths of a text, or its first fault. An empty text has null parents and no
-    /// paths; removed files are not tracked.
+    /// paths; removed files are not tracked. What is read can be printed.
     pub fn read(alloc: Global, text: &[u8]) -> Result<Dirstate, MarkFault>
-        ensures { Gives is_memory view_dirstate result (read_dirstate text.now) }
+        ensures read { Gives is_memory view_dirstate result (read_dirstate text.now) }
+        ensures fits { IfOk result (λ d. All (λ path. length path < 2 ^ 32) d.paths) }
     {
         if text.len() == 0 {
             return Ok(Dirstate {

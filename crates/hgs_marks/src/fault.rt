@@ -4,7 +4,7 @@ use std::alloc::{AllocError, AllocFailed};
 /// Why a text gives no bookmarks or no working parents. Lines are counted from 1, bytes from 0.
 #[derive(Clone, Copy, Debug, PartialEq, Eq)]
 pub enum MarkFault {
-    /// The first line that is no node, a space and something behind it.
+    /// The first line that does not begin with a node and a space.
     Line(u64),
     /// The first line whose name no bookmark can have; 0 for a name that is set.
     Name(u64),

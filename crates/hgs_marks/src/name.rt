@@ -3,7 +3,7 @@ ghost use Rattle.std.specs.Prelude.{◌≡◌, ◌<◌, not, length, codes, ◌�
 ghost use Rattle.std.specs.List.{list_any, list_all};
 ghost use Rattle.std.specs.Str.{is_utf8};
 ghost use Rattle.hgs_bytes.specs.Bytes.{among};
-ghost use Rattle.hgs_marks.specs.Name.{reserved_names, is_name_end, is_digit, ends_in_space, is_mark_name};
+ghost use Rattle.hgs_index.specs.MarkName.{reserved_names, is_name_end, is_digit, ends_in_space, is_mark_name};
 
 use hgs_bytes::parts::equal;
 

@@ -21,8 +21,8 @@ use std::collections::BTreeMap;
 
 /// Files in memory, which tell all that was done on them, and can be told to fail or to stop at a call.
 ///
-/// Each reading or writing call has a number, from 0. A call that is to fail after some bytes does just these, and then
-/// answers `Failed`; one that brings no bytes does nothing then.
+/// Each reading or writing call has a number, from 0. An append or a `put` that is to fail after some bytes does just
+/// these, and then answers `Failed`; every other call does nothing then.
 #[derive(Drop)]
 pub struct MemFiles {
     kept: LoggedFiles,

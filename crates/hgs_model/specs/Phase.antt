@@ -12,3 +12,19 @@ abbrev pub phase_name : Phase → List ℕ
 phase_name Public = codes "public"
 phase_name Draft = codes "draft"
 phase_name Secret = codes "secret"
+
+-- the one with the greater number
+abbrev pub greater : Phase → Phase → Phase
+greater Public q = q
+greater Draft Secret = Secret
+greater Draft Draft = Draft
+greater Draft Public = Draft
+greater Secret q = Secret
+
+-- the one with the lesser number
+abbrev pub lesser : Phase → Phase → Phase
+lesser Public q = Public
+lesser Draft Public = Public
+lesser Draft Draft = Draft
+lesser Draft Secret = Draft
+lesser Secret q = q

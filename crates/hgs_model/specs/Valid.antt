@@ -4,25 +4,12 @@ use Rattle.std.specs.List.{AllByRecursion, list_any, list_all}
 use Rattle.hgs_bytes.specs.Bytes.{among, begins_with}
 use Rattle.hgs_bytes.specs.Text.{Lacks, ascends}
 use Rattle.hgs_index.specs.ChangeText.{most_seconds, most_offset}
+use Rattle.hgs_index.specs.MarkName.{is_mark_name}
 use Rattle.hgs_index.specs.TrackedPath.{is_tracked}
 use Rattle.hgs_model.specs.declared.command.NewChange.{NewChange}
 use Rattle.hgs_model.specs.declared.files.NewFile.{NewFile}
 use Rattle.hgs_model.specs.declared.command.Command.{Command}
 use Rattle.hgs_model.specs.declared.command.Command.TheVariants.{Commit, Move, Mark, Unmark}
-
-abbrev pub is_digit : ℕ → Bool
-is_digit b = nat_le 48 b && nat_le b 57
-
--- not `tip`, `.` or `null`, without `:`, NUL, CR and LF, not digits alone, 1 to 255 bytes of UTF-8 without a space at either end
-pub record IsMarkName (name : List ℕ) : Type 0 where
-  pub free : among name (codes "tip" ∷ codes "." ∷ codes "null" ∷ []) ≡ false
-  pub bytes : list_any (λ b. b == 58 || b == 0 || b == 13 || b == 10) name ≡ false
-  pub no_number : list_all is_digit name ≡ false
-  pub least : 1 ≤ length name
-  pub most : length name ≤ 255
-  pub utf8 : IsUtf8 name
-  pub front : slice_index name 0 ≢ 32
-  pub end : slice_index name (length name - 1) ≢ 32
 
 -- no path is a directory of another
 abbrev pub has_directory : List (List ℕ) → Bool
@@ -41,7 +28,7 @@ pub record IsNewChange (c : NewChange) : Type 0 where
   pub user_line : list_any (λ b. b == 0 || b == 10) c.user ≡ false
   pub seconds : unsigned_abs c.seconds ≤ most_seconds
   pub offset : unsigned_abs c.offset ≤ most_offset
-  pub bookmark : IfSome c.bookmark IsMarkName
+  pub bookmark : IfSome c.bookmark (λ name. is_mark_name name ≡ true)
   pub description : IsUtf8 c.description
   pub description_most : length c.description ≤ 65536
   pub count : length c.files ≤ 20000
@@ -54,5 +41,5 @@ pub record IsNewChange (c : NewChange) : Type 0 where
 abbrev pub IsValid : Command → Type 0
 IsValid (Commit c) = IsNewChange c
 IsValid (Move rev phase force) = Unit {0}
-IsValid (Mark name rev) = IsMarkName name
+IsValid (Mark name rev) = is_mark_name name ≡ true
 IsValid (Unmark name) = Unit {0}

@@ -1,6 +1,6 @@
 //! Phases.
 ghost use Rattle.std.specs.Prelude.{◌≡◌};
-ghost use Rattle.hgs_model.specs.Phase.{phase_name, phase_number};
+ghost use Rattle.hgs_model.specs.Phase.{phase_name, phase_number, greater, lesser};
 
 /// How far a changeset has been shared, and whether its history may still change.
 ///
@@ -35,6 +35,30 @@ impl Phase {
             Phase::Public => b"public",
             Phase::Draft => b"draft",
             Phase::Secret => b"secret",
+        }
+    }
+
+    /// The one with the greater number.
+    pub fn or_greater(self, other: Phase) -> Phase
+        ensures { result ≡ greater self other }
+    {
+        match (self, other) {
+            (Phase::Public, _) => other,
+            (Phase::Draft, Phase::Secret) => other,
+            (Phase::Draft, _) => self,
+            (Phase::Secret, _) => self,
+        }
+    }
+
+    /// The one with the lesser number.
+    pub fn or_lesser(self, other: Phase) -> Phase
+        ensures { result ≡ lesser self other }
+    {
+        match (self, other) {
+            (Phase::Public, _) => self,
+            (Phase::Draft, Phase::Public) => other,
+            (Phase::Draft, _) => self,
+            (Phase::Secret, _) => other,
         }
     }
 }

@@ -168,7 +168,7 @@ apart-back p q = false_from_ne_true (same (listed_name p D) (listed_name q I)) (
 same-listed : (q p : List ℕ) (x : Ext) → same q p ≡ same (listed_name q x) (listed_name p x)
 same-listed q p x = bool-same _ _ (λ e. ap (λ l. same (listed_name q x) (listed_name l x)) (sym (same-eq q p e)) ∙ same-refl (listed_name q x)) (λ e. ap (same q) (sym (listed-once q p x x (same-eq (listed_name q x) (listed_name p x) e)).0) ∙ same-refl q)
 
-with-one : (files : List ℕ → Ext → Bool) (p : List ℕ) (e : Ext) (q : List ℕ) (x : Ext) → with_file files p e q x ≡ (files q x || same (listed_name q x) (listed_name p e))
+pub with-one : (files : List ℕ → Ext → Bool) (p : List ℕ) (e : Ext) (q : List ℕ) (x : Ext) → with_file files p e q x ≡ (files q x || same (listed_name q x) (listed_name p e))
 with-one files p I q I = ap (λ t. files q I || t) (same-listed q p I)
 with-one files p I q D = or-false (files q D) _ (apart-back q p)
 with-one files p D q I = or-false (files q I) _ (apart q p)

@@ -1,3 +1,4 @@
+pub mod AddedLemmas
 pub mod CheckLemmas
 pub mod ClashLemmas
 pub mod EnterLemmas

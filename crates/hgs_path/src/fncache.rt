@@ -279,6 +279,89 @@ mod tests {
         Ok(())
     }
 
+    // The list of a store that Mercurial 6.3.2 wrote, and the paths of its files in this order.
+    const WRITTEN: &[u8] = b"data/A_b/f.i\n\
+        data/d.i.hg/f.i\n\
+        data/aux.c.i\n\
+        data/aaaaaaaaaaaaaaaaaaaaaaaaaaaaaaaaaaaaaaaaaaaaaaaaaaaaaaaaaaaaaaaaaaaaaaaaaaaaaaaaaaaaaaaaaaaaaaaaaaaaaaaaaaaaaaaaaa.i\n\
+        data/d.hg.hg/f.i\n\
+        data/.x/y.i\n\
+        data/d.d.hg/f.i\n";
+
+    const PATHS: [&[u8]; 7] = [
+        b"A_b/f",
+        b"d.i/f",
+        b"aux.c",
+        b"aaaaaaaaaaaaaaaaaaaaaaaaaaaaaaaaaaaaaaaaaaaaaaaaaaaaaaaaaaaaaaaaaaaaaaaaaaaaaaaaaaaaaaaaaaaaaaaaaaaaaaaaaaaaaaaaaa",
+        b"d.hg/f",
+        b".x/y",
+        b"d.d/f",
+    ];
+
+    #[test]
+    fn written_list(rt: HostRuntime) -> Result<(), Fail> {
+        let fncache = Fncache::read(rt.alloc(), WRITTEN)?;
+        let mut text = Vec::new(rt.alloc());
+        for path in PATHS {
+            assert!(rt; fncache.contains(path, Ext::I));
+            assert!(rt; !fncache.contains(path, Ext::D));
+            Fncache::add_line(path, Ext::I, &mut text)?;
+        }
+        assert!(rt; text.as_slice() == WRITTEN);
+        Ok(())
+    }
+
+    // The lists of two stores with the same eight files, as Mercurial wrote them: with data files and with none.
+    const SEPARATE: &[u8] = b"data/src/d6/file6.txt.i\n\
+        data/src/d5/file5.txt.d\n\
+        data/src/d6/file6.txt.d\n\
+        data/src/d2/file2.txt.i\n\
+        data/src/d7/file7.txt.i\n\
+        data/src/d4/file4.txt.d\n\
+        data/src/d1/file1.txt.d\n\
+        data/src/d2/file2.txt.d\n\
+        data/src/d0/file0.txt.d\n\
+        data/src/d7/file7.txt.d\n\
+        data/src/d1/file1.txt.i\n\
+        data/src/d3/file3.txt.d\n\
+        data/src/d4/file4.txt.i\n\
+        data/src/d5/file5.txt.i\n\
+        data/src/d0/file0.txt.i\n\
+        data/src/d3/file3.txt.i\n";
+
+    const ORDINARY: &[u8] = b"data/src/d5/file5.txt.i\n\
+        data/src/d0/file0.txt.i\n\
+        data/src/d3/file3.txt.i\n\
+        data/src/d1/file1.txt.i\n\
+        data/src/d6/file6.txt.i\n\
+        data/src/d4/file4.txt.i\n\
+        data/src/d7/file7.txt.i\n\
+        data/src/d2/file2.txt.i\n";
+
+    const FILES: [&[u8]; 8] = [
+        b"src/d0/file0.txt",
+        b"src/d1/file1.txt",
+        b"src/d2/file2.txt",
+        b"src/d3/file3.txt",
+        b"src/d4/file4.txt",
+        b"src/d5/file5.txt",
+        b"src/d6/file6.txt",
+        b"src/d7/file7.txt",
+    ];
+
+    #[test]
+    fn lists_with_and_without_data_files(rt: HostRuntime) -> Result<(), Fail> {
+        let separate = Fncache::read(rt.alloc(), SEPARATE)?;
+        let ordinary = Fncache::read(rt.alloc(), ORDINARY)?;
+        for path in FILES {
+            assert!(rt; separate.contains(path, Ext::I));
+            assert!(rt; separate.contains(path, Ext::D));
+            assert!(rt; ordinary.contains(path, Ext::I));
+            assert!(rt; !ordinary.contains(path, Ext::D));
+        }
+        Ok(())
+    }
+
     #[test]
     fn bad_lines(rt: HostRuntime) {
         for (text, line) in [

@@ -1,11 +1,13 @@
 //! What the definitions of this crate imply. Each function is one law; none does anything.
-ghost use Rattle.std.specs.Prelude.{◌≡◌, ◌⊎◌, true, List, ℕ, is_ok};
+ghost use Rattle.std.specs.Prelude.{◌≡◌, ◌⊎◌, ◌∷◌, ◌++◌, true, Bool, List, [], ℕ, Ok, is_ok};
 ghost use Rattle.hex.specs.Hex.{IsBytes};
+ghost use Rattle.hgs_bytes.specs.Text.{line};
 ghost use Rattle.hgs_index.specs.TrackedPath.{is_tracked};
 ghost use Rattle.sha1.specs.Sha1.{sha1};
 ghost use Rattle.hgs_path.specs.declared.name.Ext.{Ext};
 ghost use Rattle.hgs_path.specs.declared.name.Ext.TheVariants.{I, D};
-ghost use Rattle.hgs_path.specs.Fncache.{clashes};
+ghost use Rattle.hgs_path.specs.Fncache.{clashes, files_of, with_file};
+ghost use Rattle.hgs_path.specs.ListedNames.{names_of};
 ghost use Rattle.hgs_path.specs.Check.{checked};
 ghost use Rattle.hgs_path.specs.StoreName.{is_plain, is_short, listed_name, store_name};
 
@@ -17,6 +19,13 @@ pub fn tracked_without_fault()
 /// The list has one name for each file.
 pub fn listed_names_differ()
     ensures { (p q : List ℕ) (e f : Ext) → listed_name p e ≡ listed_name q f → (p ≡ q) × (e ≡ f) }
+{}
+
+/// The list with one more line, that of a tracked path's file, has the same names and last this one, and so the same files
+/// and this one.
+pub fn added_lines_are_read()
+    ensures name { (path : List ℕ) (ext : Ext) (text : List ℕ) (names : List (List ℕ)) → checked path ≡ Ok tt → names_of text ≡ Ok names → names_of (text ++ line (listed_name path ext)) ≡ Ok (names ++ listed_name path ext ∷ []) }
+    ensures file { (path : List ℕ) (ext : Ext) (text : List ℕ) (files : List ℕ → Ext → Bool) → checked path ≡ Ok tt → files_of text ≡ Ok files → files_of (text ++ line (listed_name path ext)) ≡ Ok (with_file files path ext) }
 {}
 
 /// Files whose names are not hashed have different names.

@@ -6,9 +6,9 @@ use Rattle.std.proofs.lemmas.List.{get_or-set_same, get_or-set_other, length-set
 use Rattle.hgs_index.specs.Ancestor.{is_ancestor}
 use Rattle.hgs_index.specs.Revision.{Parents}
 use Rattle.hgs_index.specs.declared.entry.Entry.{Entry}
-use Rattle.hgs_phases.specs.declared.phase.Phase.{Phase}
-use Rattle.hgs_phases.specs.declared.phase.Phase.TheVariants.{Public}
-use Rattle.hgs_phases.specs.Phase.{lesser}
+use Rattle.hgs_model.specs.declared.phase.Phase.{Phase}
+use Rattle.hgs_model.specs.declared.phase.Phase.TheVariants.{Public}
+use Rattle.hgs_model.specs.Phase.{lesser}
 use Rattle.hgs_phases.specs.Phases.{history_of}
 use Rattle.hgs_phases.specs.Moves.{advanced, advanced_at, lowered, marked}
 use Rattle.hgs_phases.proofs.PhaseLemmas.{same_when, or-cases, or-left, or-right, same-number, number-same, reaches_parent, earlier, earlier-low, ancestor_step, below-or-here, history-at, by_place}

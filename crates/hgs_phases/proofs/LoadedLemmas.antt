@@ -22,7 +22,8 @@ use Rattle.hgs_revlog.proofs.HeldLemmas.{below}
 use Rattle.hgs_revlog.proofs.LogLemmas.{position_push_none, position_push_some, same_itself}
 use Rattle.hgs_revlog.proofs.ReadLemmas.{bytes_take}
 use Rattle.hgs_phases.proofs.PhaseLemmas.{some_is}
-use Rattle.hgs_phases.specs.Changelog.{IsNode, HaveNodes, HaveOwnNodes, IsChangelog}
+use Rattle.hgs_index.specs.Node.{IsNode}
+use Rattle.hgs_phases.specs.Changelog.{HaveNodes, HaveOwnNodes, IsChangelog}
 use Rattle.hgs_phases.specs.Phases.{history_of}
 
 ok_is : (x y : Log) → (let a : Result Log RevFault = Ok x in a) ≡ Ok y → x ≡ y

@@ -6,12 +6,13 @@ use Rattle.std.proofs.lemmas.Bool.Decides.{nat_tests}
 use Rattle.std.proofs.lemmas.List.{get_or-set_same, get_or-set_other, length-set}
 use Rattle.hgs_index.specs.Ancestor.{is_ancestor, ancestors_at, ancestors_from}
 use Rattle.hgs_index.specs.Revision.{Parents}
+use Rattle.hgs_index.proofs.AncestorTestLemmas.{member, member-append}
 use Rattle.hgs_index.specs.declared.entry.Entry.{Entry}
 use Rattle.hgs_revlog.specs.Log.{place_of}
-use Rattle.hgs_phases.specs.declared.phase.Phase.{Phase}
-use Rattle.hgs_phases.specs.declared.phase.Phase.TheVariants.{Public, Draft, Secret}
+use Rattle.hgs_model.specs.declared.phase.Phase.{Phase}
+use Rattle.hgs_model.specs.declared.phase.Phase.TheVariants.{Public, Draft, Secret}
 use Rattle.hgs_phases.specs.declared.roots.Root.{Root}
-use Rattle.hgs_phases.specs.Phase.{greater}
+use Rattle.hgs_model.specs.Phase.{greater}
 use Rattle.hgs_phases.specs.Phases.{history_of, reaches, phase_by, phases_by, parent_phase, stands_at, own_phase, raised, raised_root}
 
 -- ---- the greater of two phases
@@ -134,17 +135,6 @@ cut-some {A} d n xs q look none some = by (nat_lt q n) refl
 pub phases-cut : (n : ℕ) (phases : List Phase) (o : Option ℕ) → parent_phase (take n phases) o ≡ parent_phase phases (earlier n o)
 phases-cut n phases None = refl
 phases-cut n phases (Some q) = cut-some Public n phases q (parent_phase phases) refl refl
-
-abbrev member : ℕ → List ℕ → Bool
-member a xs = list_any (λ x. x == a) xs
-
-member-append : (a : ℕ) (xs ys : List ℕ) → member a (xs ++ ys) ≡ (member a xs || member a ys)
-member-append a [] ys = refl
-member-append a (x ∷ xs) ys = ap (λ b. (x == a) || b) (member-append a xs ys) ∙ or-assoc (x == a) (member a xs) (member a ys)
-  where
-    or-assoc : (p q r : Bool) → (p || (q || r)) ≡ ((p || q) || r)
-    or-assoc true q r = refl
-    or-assoc false q r = refl
 
 abbrev row_of : List (List ℕ) → Parents → List ℕ
 row_of known p = length known ∷ ancestors_at known p.0 ++ ancestors_at known p.1

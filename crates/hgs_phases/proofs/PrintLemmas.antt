@@ -2,7 +2,7 @@
 use Rattle.std.proofs.Common.{◌≡◌, ℕ, zero, suc, ◌+◌, List, [], ◌∷◌, ◌++◌, drop, Some, refl, sym, ◌∙◌, ap, append_assoc, arith}
 use Rattle.std.specs.Prelude.{slice_get}
 use Rattle.hgs_index.specs.declared.entry.Entry.{Entry}
-use Rattle.hgs_phases.specs.declared.phase.Phase.{Phase}
+use Rattle.hgs_model.specs.declared.phase.Phase.{Phase}
 use Rattle.hgs_phases.specs.declared.roots.Root.{Root}
 use Rattle.hgs_phases.specs.Printed.{root_at, roots_in}
 use Rattle.hgs_phases.specs.Roots.{root_text, roots_text}

@@ -5,12 +5,12 @@ use Rattle.std.specs.List.{range_with_len}
 use Rattle.hgs_index.specs.Ancestor.{IsParent, IsAncestor, itself, of_parent, is_ancestor}
 use Rattle.hgs_index.specs.declared.entry.Entry.{Entry}
 use Rattle.hgs_index.proofs.AncestorTestLemmas.{is_ancestor-decides}
-use Rattle.hgs_phases.specs.declared.phase.Phase.{Phase}
-use Rattle.hgs_phases.specs.declared.phase.Phase.TheVariants.{Public, Draft, Secret}
+use Rattle.hgs_model.specs.declared.phase.Phase.{Phase}
+use Rattle.hgs_model.specs.declared.phase.Phase.TheVariants.{Public, Draft, Secret}
 use Rattle.hgs_phases.specs.declared.roots.Root.{Root}
 use Rattle.hgs_phases.specs.Changelog.{IsChangelog, ArePhases}
 use Rattle.hgs_phases.specs.Moves.{advanced, advanced_at, retracted, retracted_at}
-use Rattle.hgs_phases.specs.Phase.{number, greater, lesser}
+use Rattle.hgs_model.specs.Phase.{phase_number, greater, lesser}
 use Rattle.hgs_phases.specs.Phases.{history_of, parent_phase, phase_by, phases_by, own_phase}
 use Rattle.hgs_phases.proofs.LoadedLemmas.{get-push}
 use Rattle.hgs_phases.proofs.PhaseLemmas.{phase_of_parent, phase_step, earlier, history-at, history-length}
@@ -27,7 +27,7 @@ above-parent entries q i rev parent (of_parent is h) = of_parent is (above-paren
 
 -- ---- the order of phases
 
-upper : (a b : Phase) → number b ≤ number (greater a b)
+upper : (a b : Phase) → phase_number b ≤ phase_number (greater a b)
 upper Public b = omega arith
 upper Draft Public = omega arith
 upper Draft Draft = omega arith
@@ -36,21 +36,21 @@ upper Secret Public = omega arith
 upper Secret Draft = omega arith
 upper Secret Secret = omega arith
 
-first-upper : (a b : Phase) → number a ≤ number (greater a b)
+first-upper : (a b : Phase) → phase_number a ≤ phase_number (greater a b)
 first-upper Public b = omega arith
 first-upper Draft Public = omega arith
 first-upper Draft Draft = omega arith
 first-upper Draft Secret = omega arith
 first-upper Secret b = omega arith
 
-least-upper : (a b : Phase) (n : ℕ) → number a ≤ n → number b ≤ n → number (greater a b) ≤ n
+least-upper : (a b : Phase) (n : ℕ) → phase_number a ≤ n → phase_number b ≤ n → phase_number (greater a b) ≤ n
 least-upper Public b n h k = k
 least-upper Draft Public n h k = h
 least-upper Draft Draft n h k = h
 least-upper Draft Secret n h k = k
 least-upper Secret b n h k = h
 
-lower-bound : (a b : Phase) → number (lesser a b) ≤ number a
+lower-bound : (a b : Phase) → phase_number (lesser a b) ≤ phase_number a
 lower-bound Public b = omega arith
 lower-bound Draft Public = omega arith
 lower-bound Draft Draft = omega arith
@@ -59,22 +59,22 @@ lower-bound Secret Public = omega arith
 lower-bound Secret Draft = omega arith
 lower-bound Secret Secret = omega arith
 
-second-bound : (a b : Phase) → number (lesser a b) ≤ number b
+second-bound : (a b : Phase) → phase_number (lesser a b) ≤ phase_number b
 second-bound Public b = omega arith
 second-bound Draft Public = omega arith
 second-bound Draft Draft = omega arith
 second-bound Draft Secret = omega arith
 second-bound Secret b = omega arith
 
-greatest-lower : (a b : Phase) (n : ℕ) → n ≤ number a → n ≤ number b → n ≤ number (lesser a b)
+greatest-lower : (a b : Phase) (n : ℕ) → n ≤ phase_number a → n ≤ phase_number b → n ≤ phase_number (lesser a b)
 greatest-lower Public b n h k = h
 greatest-lower Draft Public n h k = k
 greatest-lower Draft Draft n h k = h
 greatest-lower Draft Secret n h k = h
 greatest-lower Secret b n h k = k
 
-raised-both : (x y : Bool) (a b to : Phase) → (x ≡ true → y ≡ true) → number a ≤ number b → number (if x then greater a to else a) ≤ number (if y then greater b to else b)
-raised-both true true a b to up le = least-upper a to (number (greater b to)) (let k = first-upper b to in omega (arith, le, k)) (upper b to)
+raised-both : (x y : Bool) (a b to : Phase) → (x ≡ true → y ≡ true) → phase_number a ≤ phase_number b → phase_number (if x then greater a to else a) ≤ phase_number (if y then greater b to else b)
+raised-both true true a b to up le = least-upper a to (phase_number (greater b to)) (let k = first-upper b to in omega (arith, le, k)) (upper b to)
 raised-both false true a b to up le = let k = first-upper b to in omega (arith, le, k)
 raised-both false false a b to up le = le
 raised-both true false a b to up le = absurd (none (up refl))
@@ -82,8 +82,8 @@ raised-both true false a b to up le = absurd (none (up refl))
     none : false ≡ true → ⊥
     none e = cc
 
-lowered-both : (x y : Bool) (a b to : Phase) → (y ≡ true → x ≡ true) → number a ≤ number b → number (if x then lesser a to else a) ≤ number (if y then lesser b to else b)
-lowered-both true true a b to down le = greatest-lower b to (number (lesser a to)) (let k = lower-bound a to in omega (arith, le, k)) (second-bound a to)
+lowered-both : (x y : Bool) (a b to : Phase) → (y ≡ true → x ≡ true) → phase_number a ≤ phase_number b → phase_number (if x then lesser a to else a) ≤ phase_number (if y then lesser b to else b)
+lowered-both true true a b to down le = greatest-lower b to (phase_number (lesser a to)) (let k = lower-bound a to in omega (arith, le, k)) (second-bound a to)
 lowered-both true false a b to down le = let k = lower-bound a to in omega (arith, le, k)
 lowered-both false false a b to down le = le
 lowered-both false true a b to down le = absurd (none (down refl))
@@ -135,8 +135,8 @@ given_rise roots entries log = record {
       let second : parent_phase (phases_by roots entries) e.p2 ≡ phase_of_parent roots entries (earlier rev e.p2) = given-parent roots entries rev e.p2 lt low.1 ∙ ap (phase_of_parent roots entries) (sym (earlier-all rev e.p2 low.1)) in
       let here : slice_index_or (phases_by roots entries) rev Public ≡ greater (own_phase roots entries rev) (greater (phase_of_parent roots entries (earlier rev e.p1)) (phase_of_parent roots entries (earlier rev e.p2))) =
       placed-here (phase_by roots entries) (length entries) rev lt ∙ phase_step roots entries rev (e.p1, e.p2) (history-at entries rev e there) in
-      subst (λ p. number (greater (parent_phase (phases_by roots entries) e.p1) (parent_phase (phases_by roots entries) e.p2)) ≤ number p) (sym here)
-      (subst (λ p. number p ≤ number (greater (own_phase roots entries rev) (greater (phase_of_parent roots entries (earlier rev e.p1)) (phase_of_parent roots entries (earlier rev e.p2)))))
+      subst (λ p. phase_number (greater (parent_phase (phases_by roots entries) e.p1) (parent_phase (phases_by roots entries) e.p2)) ≤ phase_number p) (sym here)
+      (subst (λ p. phase_number p ≤ phase_number (greater (own_phase roots entries rev) (greater (phase_of_parent roots entries (earlier rev e.p1)) (phase_of_parent roots entries (earlier rev e.p2)))))
       (ap (λ p. greater p (phase_of_parent roots entries (earlier rev e.p2))) (sym first) ∙ ap (greater (parent_phase (phases_by roots entries) e.p1)) (sym second))
       (upper (own_phase roots entries rev) (greater (phase_of_parent roots entries (earlier rev e.p1)) (phase_of_parent roots entries (earlier rev e.p2)))));
 }
@@ -145,13 +145,13 @@ given_rise roots entries log = record {
 
 -- what is kept between each parent and its child
 abbrev Keeps : List Entry → List Phase → (ℕ → Phase) → Type 0
-Keeps entries phases f = (q i : ℕ) → IsParent (history_of entries) q i → q < i → i < length entries → number (slice_index_or phases q Public) ≤ number (slice_index_or phases i Public) → number (f q) ≤ number (f i)
+Keeps entries phases f = (q i : ℕ) → IsParent (history_of entries) q i → q < i → i < length entries → phase_number (slice_index_or phases q Public) ≤ phase_number (slice_index_or phases i Public) → phase_number (f q) ≤ phase_number (f i)
 
 parent-kept : (entries : List Entry) (phases : List Phase) (f : ℕ → Phase) (n i : ℕ) (o : Option ℕ) → n ≡ length entries → Keeps entries phases f → i < length entries → IfSome o (λ a. a < i) → ((q : ℕ) → o ≡ Some q → IsParent (history_of entries) q i) →
-    number (parent_phase phases o) ≤ number (slice_index_or phases i Public) → number (parent_phase (map f (range_with_len 0 n)) o) ≤ number (f i)
+    phase_number (parent_phase phases o) ≤ phase_number (slice_index_or phases i Public) → phase_number (parent_phase (map f (range_with_len 0 n)) o) ≤ phase_number (f i)
 parent-kept entries phases f n i None same keeps lt low parent le = omega arith
 parent-kept entries phases f n i (Some q) same keeps lt low parent le =
-    subst (λ p. number p ≤ number (f i)) (sym (placed-here f n q (omega (arith, lt, low, same)))) (keeps q i (parent q refl) low lt le)
+    subst (λ p. phase_number p ≤ phase_number (f i)) (sym (placed-here f n q (omega (arith, lt, low, same)))) (keeps q i (parent q refl) low lt le)
 
 moved : (entries : List Entry) (phases : List Phase) (f : ℕ → Phase) → IsChangelog entries → ArePhases entries phases → Keeps entries phases f → ArePhases entries (map f (range_with_len 0 (length phases)))
 moved entries phases f log are keeps = record {
@@ -164,8 +164,8 @@ moved entries phases f log are keeps = record {
       let first = first-upper (parent_phase phases e.p1) (parent_phase phases e.p2) in
       let second = upper (parent_phase phases e.p1) (parent_phase phases e.p2) in
       let at = history-at entries rev e there in
-      subst (λ p. number (greater (parent_phase (map f (range_with_len 0 (length phases))) e.p1) (parent_phase (map f (range_with_len 0 (length phases))) e.p2)) ≤ number p) (sym (placed-here f (length phases) rev (omega (arith, lt, same))))
-      (least-upper (parent_phase (map f (range_with_len 0 (length phases))) e.p1) (parent_phase (map f (range_with_len 0 (length phases))) e.p2) (number (f rev))
+      subst (λ p. phase_number (greater (parent_phase (map f (range_with_len 0 (length phases))) e.p1) (parent_phase (map f (range_with_len 0 (length phases))) e.p2)) ≤ phase_number p) (sym (placed-here f (length phases) rev (omega (arith, lt, same))))
+      (least-upper (parent_phase (map f (range_with_len 0 (length phases))) e.p1) (parent_phase (map f (range_with_len 0 (length phases))) e.p2) (phase_number (f rev))
       (parent-kept entries phases f (length phases) rev e.p1 same keeps lt low.0 (λ q is. ((e.p1, e.p2), at, inl is)) (omega (arith, le, first)))
       (parent-kept entries phases f (length phases) rev e.p2 same keeps lt low.1 (λ q is. ((e.p1, e.p2), at, inr is)) (omega (arith, le, second))));
 }
@@ -188,7 +188,7 @@ parent-stays : (phases : List Phase) (phase : Phase) (n : ℕ) (o : Option ℕ) 
 parent-stays phases phase n None le low = refl
 parent-stays phases phase n (Some q) le low = sym (push-left phases phase q (omega (arith, le, low)))
 
-pub pushed_rise : (entries : List Entry) (e : Entry) (phases : List Phase) (phase : Phase) → IsChangelog (entries ++ e ∷ []) → ArePhases entries phases → number (greater (parent_phase phases e.p1) (parent_phase phases e.p2)) ≤ number phase →
+pub pushed_rise : (entries : List Entry) (e : Entry) (phases : List Phase) (phase : Phase) → IsChangelog (entries ++ e ∷ []) → ArePhases entries phases → phase_number (greater (parent_phase phases e.p1) (parent_phase phases e.p2)) ≤ phase_number phase →
     ArePhases (entries ++ e ∷ []) (phases ++ phase ∷ [])
 pushed_rise entries e phases phase log are above = record {
   count = (let l = length-append phases (phase ∷ []) in let k = length-append entries (e ∷ []) in let c = are.count in omega (arith, l, k, c));
@@ -200,11 +200,11 @@ pushed_rise entries e phases phase log are above = record {
       let room : rev ≤ length phases = omega (arith, lt, long, c) in
       let first = parent-stays phases phase rev x.p1 room low.0 in
       let second = parent-stays phases phase rev x.p2 room low.1 in
-      subst (λ p. number p ≤ number (slice_index_or (phases ++ phase ∷ []) rev Public))
+      subst (λ p. phase_number p ≤ phase_number (slice_index_or (phases ++ phase ∷ []) rev Public))
       (ap (λ p. greater p (parent_phase phases x.p2)) first ∙ ap (greater (parent_phase (phases ++ phase ∷ []) x.p1)) second)
       (elim (get-push entries e rev x there) [
-        | inl b ↦ subst (λ p. number (greater (parent_phase phases x.p1) (parent_phase phases x.p2)) ≤ number p) (sym (push-left phases phase rev (let l = there-below entries rev x b in omega (arith, l, c)))) (are.each rev x b)
-        | inr b ↦ subst (λ p. number (greater (parent_phase phases x.p1) (parent_phase phases x.p2)) ≤ number p) (sym (push-last phases phase) ∙ ap (λ k. slice_index_or (phases ++ phase ∷ []) k Public) (c ∙ sym b.0))
-            (subst (λ (y : Entry). number (greater (parent_phase phases y.p1) (parent_phase phases y.p2)) ≤ number phase) b.1 above)
+        | inl b ↦ subst (λ p. phase_number (greater (parent_phase phases x.p1) (parent_phase phases x.p2)) ≤ phase_number p) (sym (push-left phases phase rev (let l = there-below entries rev x b in omega (arith, l, c)))) (are.each rev x b)
+        | inr b ↦ subst (λ p. phase_number (greater (parent_phase phases x.p1) (parent_phase phases x.p2)) ≤ phase_number p) (sym (push-last phases phase) ∙ ap (λ k. slice_index_or (phases ++ phase ∷ []) k Public) (c ∙ sym b.0))
+            (subst (λ (y : Entry). phase_number (greater (parent_phase phases y.p1) (parent_phase phases y.p2)) ≤ phase_number phase) b.1 above)
       ]);
 }

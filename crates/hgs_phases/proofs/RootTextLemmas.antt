@@ -8,11 +8,11 @@ use Rattle.hgs_bytes.proofs.TextLemmas.{lines_split, lines_last, split_over, unl
 use Rattle.hgs_index.specs.Hex.{hex, node_at}
 use Rattle.hgs_index.proofs.HexText.{hex_lacks, node_back, node_found}
 use Rattle.hgs_phases.specs.declared.fault.RootsFault.{RootsFault}
-use Rattle.hgs_phases.specs.declared.phase.Phase.{Phase}
-use Rattle.hgs_phases.specs.declared.phase.Phase.TheVariants.{Public, Draft, Secret}
+use Rattle.hgs_model.specs.declared.phase.Phase.{Phase}
+use Rattle.hgs_model.specs.declared.phase.Phase.TheVariants.{Public, Draft, Secret}
 use Rattle.hgs_phases.specs.declared.roots.Root.{Root}
-use Rattle.hgs_phases.specs.Changelog.{IsNode}
-use Rattle.hgs_phases.specs.Phase.{number}
+use Rattle.hgs_index.specs.Node.{IsNode}
+use Rattle.hgs_model.specs.Phase.{phase_number}
 use Rattle.hgs_phases.specs.Roots.{HasNode, IsTextOf, roots_text, phase_from, root_with, root_of, with_root, root_then, roots_from, read_roots}
 use Rattle.hgs_phases.proofs.PhaseLemmas.{some_is, number-same}
 
@@ -20,14 +20,14 @@ use Rattle.hgs_phases.proofs.PhaseLemmas.{some_is, number-same}
 
 -- a root's line without its LF
 abbrev pub item : Root → List ℕ
-item r = (48 + number r.phase) ∷ 32 ∷ hex r.node.0
+item r = (48 + phase_number r.phase) ∷ 32 ∷ hex r.node.0
 
-phase-back : (phase : Phase) → phase_from ((48 + number phase) ∷ 32 ∷ []) ≡ Some phase
+phase-back : (phase : Phase) → phase_from ((48 + phase_number phase) ∷ 32 ∷ []) ≡ Some phase
 phase-back Public = refl
 phase-back Draft = refl
 phase-back Secret = refl
 
-digit-lacks : (phase : Phase) → ((48 + number phase) == 10) ≡ false
+digit-lacks : (phase : Phase) → ((48 + phase_number phase) == 10) ≡ false
 digit-lacks Public = refl
 digit-lacks Draft = refl
 digit-lacks Secret = refl
@@ -66,7 +66,7 @@ unended-is r (s ∷ rs) = append_assoc (item r) (10 ∷ []) (roots_text (s ∷ r
 unended-back : (n : ℕ) (r : Root) (rs : List Root) → AllByRecursion HasNode (r ∷ rs) → roots_from n (lines_of (unended r rs)) ≡ Ok (r ∷ rs)
 unfolding unended
 unended-back n r [] h =
-    ap (roots_from n) (lines_last (48 + number r.phase) (32 ∷ hex r.node.0) (lacks-split 10 (item r) (item-lacks r))) ∙ ap (λ o. root_then (n + 1) o (Ok [])) (root-back r h.0)
+    ap (roots_from n) (lines_last (48 + phase_number r.phase) (32 ∷ hex r.node.0) (lacks-split 10 (item r) (item-lacks r))) ∙ ap (λ o. root_then (n + 1) o (Ok [])) (root-back r h.0)
 unended-back n r (s ∷ rs) h = line-back n r (unended s rs) (s ∷ rs) h.0 (unended-back (n + 1) s rs h.1)
 
 cons_is : (x y : ℕ) (xs ys : List ℕ) → (let a : List ℕ = x ∷ xs in a) ≡ y ∷ ys → (x ≡ y) × (xs ≡ ys)
@@ -95,14 +95,14 @@ both : (a b : Bool) → (a && b) ≡ true → (a ≡ true) × (b ≡ true)
 both true b h = (refl, h)
 both false b h = cc
 
-phase-found : (b c : ℕ) (p : Phase) → phase_from (b ∷ c ∷ []) ≡ Some p → (b ≡ 48 + number p) × (c ≡ 32)
+phase-found : (b c : ℕ) (p : Phase) → phase_from (b ∷ c ∷ []) ≡ Some p → (b ≡ 48 + phase_number p) × (c ≡ 32)
 phase-found b c p h = by (b == 48 && c == 32) (b == 49 && c == 32) (b == 50 && c == 32) refl refl refl h
   where
-    of : (q : Phase) → Some q ≡ Some p → (b ≡ 48 + number q) × (c ≡ 32) → (b ≡ 48 + number p) × (c ≡ 32)
-    of q e s = subst (λ (x : Phase). (b ≡ 48 + number x) × (c ≡ 32)) (some_is q p e) s
+    of : (q : Phase) → Some q ≡ Some p → (b ≡ 48 + phase_number q) × (c ≡ 32) → (b ≡ 48 + phase_number p) × (c ≡ 32)
+    of q e s = subst (λ (x : Phase). (b ≡ 48 + phase_number x) × (c ≡ 32)) (some_is q p e) s
 
     by : (x y z : Bool) → (b == 48 && c == 32) ≡ x → (b == 49 && c == 32) ≡ y → (b == 50 && c == 32) ≡ z → (if x then Some Public else (if y then Some Draft else (if z then Some Secret else None))) ≡ Some p →
-        (b ≡ 48 + number p) × (c ≡ 32)
+        (b ≡ 48 + phase_number p) × (c ≡ 32)
     by true y z d e f k = let s = both (b == 48) (c == 32) d in of Public k (number-same b 48 s.0, number-same c 32 s.1)
     by false true z d e f k = let s = both (b == 49) (c == 32) e in of Draft k (number-same b 49 s.0, number-same c 32 s.1)
     by false false true d e f k = let s = both (b == 50) (c == 32) f in of Secret k (number-same b 50 s.0, number-same c 32 s.1)
@@ -120,7 +120,7 @@ root-with-found b c rest (Some p) (Some bytes) r phase node h =
     let digits = node_found rest bytes node in
     subst (λ (x : Root). IsItem (b ∷ c ∷ rest) x) (some_is (record { phase = p; node = record { 0 = bytes } }) r h)
     (record {
-      spelled = ap (λ x. x ∷ c ∷ rest) first.0 ∙ ap (λ x. (48 + number p) ∷ x ∷ rest) first.1 ∙ ap (λ x. (48 + number p) ∷ 32 ∷ x) digits.text;
+      spelled = ap (λ x. x ∷ c ∷ rest) first.0 ∙ ap (λ x. (48 + phase_number p) ∷ x ∷ rest) first.1 ∙ ap (λ x. (48 + phase_number p) ∷ 32 ∷ x) digits.text;
       node = record { size = digits.len; bytes = digits.bytes };
     })
 

@@ -6,11 +6,11 @@ use Rattle.std.proofs.lemmas.Bool.Decides.{nat_tests}
 use Rattle.hgs_index.specs.Revision.{Parents, ParentsBefore}
 use Rattle.hgs_index.specs.declared.entry.Entry.{Entry}
 use Rattle.hgs_revlog.specs.Log.{place_of}
-use Rattle.hgs_phases.specs.declared.phase.Phase.{Phase}
-use Rattle.hgs_phases.specs.declared.phase.Phase.TheVariants.{Public, Draft, Secret}
+use Rattle.hgs_model.specs.declared.phase.Phase.{Phase}
+use Rattle.hgs_model.specs.declared.phase.Phase.TheVariants.{Public, Draft, Secret}
 use Rattle.hgs_phases.specs.declared.roots.Root.{Root}
 use Rattle.hgs_phases.specs.Changelog.{HaveNodes, IsChangelog, ArePhases}
-use Rattle.hgs_phases.specs.Phase.{number, greater}
+use Rattle.hgs_model.specs.Phase.{phase_number, greater}
 use Rattle.hgs_phases.specs.Phases.{history_of, parent_phase, phase_by, phases_by, own_phase, stands_at}
 use Rattle.hgs_phases.specs.Printed.{is_root, root_at, roots_in, written_roots}
 use Rattle.hgs_phases.specs.Roots.{HasNode, read_roots, roots_text}
@@ -97,8 +97,8 @@ own-in phase phases k (e ∷ es) entries rev (suc j) x stand at there =
     ∙ own-in phase phases (k + 1) es entries rev j x (others-stand entries es k e stand) (omega (arith, at)) there
 
 -- a root of its phase or the phase of a parent
-by-cases : (own inherited : Phase) → number inherited ≤ number own →
-    greater (greater (if (number own == number Draft) && nat_lt (number inherited) (number Draft) then Draft else Public) (if (number own == number Secret) && nat_lt (number inherited) (number Secret) then Secret else Public)) inherited ≡ own
+by-cases : (own inherited : Phase) → phase_number inherited ≤ phase_number own →
+    greater (greater (if (phase_number own == phase_number Draft) && nat_lt (phase_number inherited) (phase_number Draft) then Draft else Public) (if (phase_number own == phase_number Secret) && nat_lt (phase_number inherited) (phase_number Secret) then Secret else Public)) inherited ≡ own
 by-cases Public Public h = refl
 by-cases Public Draft h = absurd (omega (arith, h))
 by-cases Public Secret h = absurd (omega (arith, h))

@@ -3,16 +3,12 @@ use Rattle.std.specs.Prelude.{◌≡◌, ◌≤◌, ℕ, List, length, Some, sli
 use Rattle.hex.specs.Hex.{IsBytes}
 use Rattle.hgs_index.specs.Revision.{ParentsBefore}
 use Rattle.hgs_index.specs.declared.entry.Entry.{Entry}
+use Rattle.hgs_index.specs.Node.{IsNode}
 use Rattle.hgs_revlog.specs.Log.{place_of}
-use Rattle.hgs_phases.specs.declared.phase.Phase.{Phase}
-use Rattle.hgs_phases.specs.declared.phase.Phase.TheVariants.{Public}
-use Rattle.hgs_phases.specs.Phase.{number, greater}
+use Rattle.hgs_model.specs.declared.phase.Phase.{Phase}
+use Rattle.hgs_model.specs.declared.phase.Phase.TheVariants.{Public}
+use Rattle.hgs_model.specs.Phase.{phase_number, greater}
 use Rattle.hgs_phases.specs.Phases.{history_of, parent_phase}
-
--- a node is 20 bytes
-pub record IsNode (node : List ℕ) : Type 0 where
-  pub size : length node ≡ 20
-  pub bytes : IsBytes node
 
 abbrev pub HaveNodes : List Entry → Type 0
 HaveNodes entries = (rev : ℕ) (e : Entry) → slice_get entries rev ≡ Some e → IsNode e.node.0
@@ -29,4 +25,4 @@ pub record IsChangelog (entries : List Entry) : Type 0 where
 -- a phase for each changeset, none below that of a parent
 pub record ArePhases (entries : List Entry) (phases : List Phase) : Type 0 where
   pub count : length phases ≡ length entries
-  pub each : (rev : ℕ) (e : Entry) → slice_get entries rev ≡ Some e → number (greater (parent_phase phases e.p1) (parent_phase phases e.p2)) ≤ number (slice_index_or phases rev Public)
+  pub each : (rev : ℕ) (e : Entry) → slice_get entries rev ≡ Some e → phase_number (greater (parent_phase phases e.p1) (parent_phase phases e.p2)) ≤ phase_number (slice_index_or phases rev Public)

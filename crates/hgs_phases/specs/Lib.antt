@@ -1,6 +1,5 @@
 pub mod Changelog
 pub mod Moves
-pub mod Phase
 pub mod Phases
 pub mod Printed
 pub mod Roots

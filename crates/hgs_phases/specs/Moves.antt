@@ -3,9 +3,9 @@ use Rattle.std.specs.Prelude.{ℕ, Bool, true, false, List, length, Option, Some
 use Rattle.std.specs.List.{range_with_len}
 use Rattle.hgs_index.specs.Ancestor.{is_ancestor}
 use Rattle.hgs_index.specs.Revision.{Parents}
-use Rattle.hgs_phases.specs.declared.phase.Phase.{Phase}
-use Rattle.hgs_phases.specs.declared.phase.Phase.TheVariants.{Public}
-use Rattle.hgs_phases.specs.Phase.{greater, lesser}
+use Rattle.hgs_model.specs.declared.phase.Phase.{Phase}
+use Rattle.hgs_model.specs.declared.phase.Phase.TheVariants.{Public}
+use Rattle.hgs_model.specs.Phase.{greater, lesser}
 
 -- the phase of a changeset after another and its descendants were raised to at least this phase
 abbrev pub retracted_at : List Parents → ℕ → Phase → List Phase → ℕ → Phase

@@ -5,10 +5,10 @@ use Rattle.hgs_index.specs.Ancestor.{is_ancestor}
 use Rattle.hgs_index.specs.Revision.{Parents}
 use Rattle.hgs_index.specs.declared.entry.Entry.{Entry}
 use Rattle.hgs_revlog.specs.Log.{place_of}
-use Rattle.hgs_phases.specs.declared.phase.Phase.{Phase}
-use Rattle.hgs_phases.specs.declared.phase.Phase.TheVariants.{Public}
+use Rattle.hgs_model.specs.declared.phase.Phase.{Phase}
+use Rattle.hgs_model.specs.declared.phase.Phase.TheVariants.{Public}
 use Rattle.hgs_phases.specs.declared.roots.Root.{Root}
-use Rattle.hgs_phases.specs.Phase.{greater}
+use Rattle.hgs_model.specs.Phase.{greater}
 
 -- the parents of each changeset
 abbrev pub history_of : List Entry → List Parents

@@ -1,16 +1,16 @@
 -- The roots that are written of phases.
 use Rattle.std.specs.Prelude.{◌==◌, ◌&&◌, ◌+◌, ℕ, Bool, nat_lt, List, [], ◌∷◌, ◌++◌, if◌then◌else◌, slice_index_or}
 use Rattle.hgs_index.specs.declared.entry.Entry.{Entry}
-use Rattle.hgs_phases.specs.declared.phase.Phase.{Phase}
-use Rattle.hgs_phases.specs.declared.phase.Phase.TheVariants.{Public, Draft, Secret}
+use Rattle.hgs_model.specs.declared.phase.Phase.{Phase}
+use Rattle.hgs_model.specs.declared.phase.Phase.TheVariants.{Public, Draft, Secret}
 use Rattle.hgs_phases.specs.declared.roots.Root.{Root}
-use Rattle.hgs_phases.specs.Phase.{number, greater}
+use Rattle.hgs_model.specs.Phase.{phase_number, greater}
 use Rattle.hgs_phases.specs.Phases.{parent_phase}
 
 -- whether a changeset has this phase, and it is greater than each parent's
 abbrev pub is_root : Phase → List Phase → ℕ → Entry → Bool
 is_root phase phases rev e =
-    (number (slice_index_or phases rev Public) == number phase) && nat_lt (number (greater (parent_phase phases e.p1) (parent_phase phases e.p2))) (number phase)
+    (phase_number (slice_index_or phases rev Public) == phase_number phase) && nat_lt (phase_number (greater (parent_phase phases e.p1) (parent_phase phases e.p2))) (phase_number phase)
 
 -- the changeset as a root of the phase, if it is one
 abbrev pub root_at : Phase → List Phase → ℕ → Entry → List Root

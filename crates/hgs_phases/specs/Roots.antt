@@ -5,16 +5,16 @@ use Rattle.hgs_bytes.specs.Text.{Line as TextLine, MayLackLastLf, line, lines_of
 use Rattle.hgs_index.specs.Hex.{hex, node_at}
 use Rattle.hgs_phases.specs.declared.fault.RootsFault.{RootsFault}
 use Rattle.hgs_phases.specs.declared.fault.RootsFault.TheVariants.{Line, Memory}
-use Rattle.hgs_phases.specs.declared.phase.Phase.{Phase}
-use Rattle.hgs_phases.specs.declared.phase.Phase.TheVariants.{Public, Draft, Secret}
+use Rattle.hgs_model.specs.declared.phase.Phase.{Phase}
+use Rattle.hgs_model.specs.declared.phase.Phase.TheVariants.{Public, Draft, Secret}
 use Rattle.hgs_phases.specs.declared.roots.Root.{Root}
-use Rattle.hgs_phases.specs.Changelog.{IsNode}
-use Rattle.hgs_phases.specs.Phase.{number}
+use Rattle.hgs_index.specs.Node.{IsNode}
+use Rattle.hgs_model.specs.Phase.{phase_number}
 
 -- ---- the text that is written
 
 abbrev pub root_text : Root → List ℕ
-root_text r = line ((48 + number r.phase) ∷ 32 ∷ hex r.node.0)
+root_text r = line ((48 + phase_number r.phase) ∷ 32 ∷ hex r.node.0)
 
 abbrev pub roots_text : List Root → List ℕ
 roots_text roots = flat_map root_text roots

@@ -4,11 +4,11 @@ ghost use Rattle.hex.specs.Hex.{IsBytes};
 ghost use Rattle.hgs_index.specs.Ancestor.{IsAncestor, is_ancestor};
 ghost use Rattle.hgs_index.specs.Revision.{ParentsBefore};
 ghost use Rattle.hgs_index.specs.declared.entry.Entry.{Entry};
-ghost use Rattle.hgs_phases.specs.declared.phase.Phase.{Phase};
+ghost use Rattle.hgs_model.specs.declared.phase.Phase.{Phase};
 ghost use Rattle.hgs_phases.specs.declared.roots.Root.{Root};
 ghost use Rattle.hgs_phases.specs.Changelog.{ArePhases, HaveNodes, HaveOwnNodes, IsChangelog};
 ghost use Rattle.hgs_phases.specs.Moves.{advanced, retracted};
-ghost use Rattle.hgs_phases.specs.Phase.{greater, number};
+ghost use Rattle.hgs_model.specs.Phase.{greater, phase_number};
 ghost use Rattle.hgs_phases.specs.Phases.{history_of, parent_phase, phases_by};
 ghost use Rattle.hgs_phases.specs.Printed.{written_roots};
 ghost use Rattle.hgs_phases.specs.Roots.{IsTextOf, read_roots, roots_text};
@@ -43,7 +43,7 @@ pub fn phases_rise()
     ensures given { (roots : List Root) (entries : List Entry) → IsChangelog entries → ArePhases entries (phases_by roots entries) }
     ensures advanced { (entries : List Entry) (rev : ℕ) (to : Phase) (phases : List Phase) → IsChangelog entries → rev < length entries → ArePhases entries phases → ArePhases entries (advanced (history_of entries) rev to phases) }
     ensures retracted { (entries : List Entry) (rev : ℕ) (to : Phase) (phases : List Phase) → IsChangelog entries → ArePhases entries phases → ArePhases entries (retracted (history_of entries) rev to phases) }
-    ensures pushed { (entries : List Entry) (e : Entry) (phases : List Phase) (phase : Phase) → IsChangelog (entries ++ e ∷ []) → ArePhases entries phases → number (greater (parent_phase phases e.p1) (parent_phase phases e.p2)) ≤ number phase → ArePhases (entries ++ e ∷ []) (phases ++ phase ∷ []) }
+    ensures pushed { (entries : List Entry) (e : Entry) (phases : List Phase) (phase : Phase) → IsChangelog (entries ++ e ∷ []) → ArePhases entries phases → phase_number (greater (parent_phase phases e.p1) (parent_phase phases e.p2)) ≤ phase_number phase → ArePhases (entries ++ e ∷ []) (phases ++ phase ∷ []) }
 {}
 
 /// In a changelog the test of ancestors is exact.

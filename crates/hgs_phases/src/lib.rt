@@ -4,7 +4,6 @@
 pub mod fault;
 pub mod laws;
 pub mod moves;
-pub mod phase;
 pub mod phases;
 pub mod print;
 pub mod roots;

@@ -3,9 +3,9 @@ ghost use Rattle.std.specs.Prelude.{◌≡◌, ◌==◌, ◌||◌, ◌<◌, fals
 ghost use Rattle.hgs_phases.specs.Moves.{advanced, retracted, is_marked, lowered, marked};
 ghost use Rattle.hgs_phases.specs.Phases.{history_of, raised};
 
-use crate::phase::Phase;
 use crate::phases::{Phases, phase_at, raise};
 use hgs_index::entry::Entry;
+use hgs_model::phase::Phase;
 use hgs_revlog::revlog::Revlog;
 
 fn is_marked(marks: &[bool], parent: Option<u32>) -> bool

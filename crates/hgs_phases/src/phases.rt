@@ -1,13 +1,13 @@
 //! The phase of each changeset.
 ghost use Rattle.std.specs.Prelude.{◌≡◌, ◌<◌, ◌++◌, ◌∷◌, [], ℕ, List, length, map, slice_get, slice_index_or, Some, IfOk, OnOk, OnErr};
 ghost use Rattle.hgs_phases.specs.Phases.{parent_phase, phases_by, raised, raised_root, AreOwn};
-ghost use Rattle.hgs_phases.specs.declared.phase.Phase.TheVariants.{Public};
-ghost use Rattle.hgs_phases.specs.Phase.{greater};
+ghost use Rattle.hgs_model.specs.declared.phase.Phase.TheVariants.{Public};
+ghost use Rattle.hgs_model.specs.Phase.{greater};
 ghost use Rattle.hgs_revlog.specs.Log.{place_of};
 
-use crate::phase::Phase;
 use crate::roots::{Root, Roots};
 use hgs_index::entry::Entry;
+use hgs_model::phase::Phase;
 use hgs_revlog::revlog::Revlog;
 use std::alloc::{AllocError, Global};
 use std::marker::Model;
@@ -22,7 +22,7 @@ pub struct Phases {
 
 impl Model for Phases {
     ghost use Rattle.std.specs.Prelude.{List};
-    ghost use Rattle.hgs_phases.specs.declared.phase.Phase.{Phase};
+    ghost use Rattle.hgs_model.specs.declared.phase.Phase.{Phase};
 
     ghost Value = { List Phase };
 

@@ -1,15 +1,15 @@
 // Printing the roots of phases.
 ghost use Rattle.std.specs.Prelude.{◌≡◌, ◌<◌, ◌++◌, length, OnOk, OnErr};
 ghost use Rattle.hgs_bytes.specs.Bytes.{IsPrefixOf};
-ghost use Rattle.hgs_phases.specs.declared.phase.Phase.TheVariants.{Draft, Secret};
+ghost use Rattle.hgs_model.specs.declared.phase.Phase.TheVariants.{Draft, Secret};
 ghost use Rattle.hgs_phases.specs.Printed.{is_root, root_at, roots_in, written_roots};
 ghost use Rattle.hgs_phases.specs.Roots.{root_text, roots_text};
 
-use crate::phase::Phase;
 use crate::phases::{Phases, inherited, phase_at};
 use crate::roots::Root;
 use hgs_index::entry::Entry;
 use hgs_index::texts::hex_of;
+use hgs_model::phase::Phase;
 use hgs_revlog::revlog::Revlog;
 use std::alloc::AllocError;
 

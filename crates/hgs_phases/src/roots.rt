@@ -4,10 +4,10 @@ ghost use Rattle.hgs_bytes.specs.Answer.{Gives};
 ghost use Rattle.hgs_phases.specs.Roots.{phase_from, root_of, read_roots, is_memory};
 
 use crate::fault::RootsFault;
-use crate::phase::Phase;
 use hgs_bytes::parts::{front, next_line, past};
 use hgs_index::node::Node;
 use hgs_index::texts::node_from;
+use hgs_model::phase::Phase;
 use std::alloc::Global;
 use std::marker::Model;
 

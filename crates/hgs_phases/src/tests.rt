@@ -1,10 +1,10 @@
 //! Roots that Mercurial wrote, and the phases that they give.
 use crate::fault::RootsFault;
-use crate::phase::Phase;
 use crate::phases::Phases;
 use crate::roots::Roots;
 use hgs_index::node::Node;
 use hgs_index::texts::node_from;
+use hgs_model::phase::Phase;
 use hgs_revlog::fault::{RevFault, Tail};
 use hgs_revlog::revlog::Revlog;
 use std::alloc::{AllocError, Global};

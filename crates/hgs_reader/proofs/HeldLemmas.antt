@@ -32,6 +32,7 @@ use Rattle.hgs_reader.specs.Find.{has_node, is_last_of, bytes_until, log_until, 
 use Rattle.hgs_reader.specs.Line.{chunk_asks}
 use Rattle.hgs_reader.specs.View.{piece_length, most_pieces, log_answer}
 use Rattle.hgs_reader.proofs.FindLemmas.{front_node, take_less}
+use Rattle.hgs_reader.proofs.OpenedLemmas.{rest_then}
 
 -- ---- the entries before and behind one another
 
@@ -278,19 +279,6 @@ read_enough t index node k before there stands (suc left) a low high = by (is_la
         not_yet full none false b =
             let gt = above_is (a + 1024) k b in
             absurd (true_false (has_node node (a + length piece / 64) bytes) (more_nodes node (suc k) (a + length piece / 64) bytes (omega (arith, gt, full)) there) (sym (in_piece full) ∙ none))
-
--- ---- one question after another, at rest
-
-pub rest_then : {A B : Type 0} (t : Tree) (q : Asks (Result A ReadAnswer)) (more : A → Asks (Result B ReadAnswer)) (x : A) → at_rest t q ≡ Ok x → at_rest t (then_asks q more) ≡ at_rest t (more x)
-rest_then {A} {B} t (answer (Ok y)) more x h = ap (λ z. at_rest t (more z)) (is y x h)
-  where
-    is : (y x : A) → (let r : Result A ReadAnswer = Ok y in r) ≡ Ok x → y ≡ x
-    is y x h = cc
-rest_then {A} {B} t (answer (Err e)) more x h = absurd (not e x h)
-  where
-    not : (e : ReadAnswer) (x : A) → (let r : Result A ReadAnswer = Err e in r) ≡ Ok x → ⊥
-    not e x h = cc
-rest_then t (read path from most rest) more x h = rest_then t (rest (part_of t path from most)) more x h
 
 -- ---- the text of the last revision
 

@@ -11,7 +11,6 @@ pub mod NumberLemmas
 pub mod OpenedLemmas
 pub mod RefreshLemmas
 pub mod RestLemmas
-pub mod ShownLemmas
 pub mod StepLemmas
 pub mod TreeLemmas
 pub mod UntilLemmas

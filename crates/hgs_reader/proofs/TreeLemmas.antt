@@ -23,7 +23,8 @@ use Rattle.hgs_reader.specs.Find.{text_asks}
 use Rattle.hgs_reader.specs.Held.{HasText}
 use Rattle.hgs_reader.specs.Line.{change_asks}
 use Rattle.hgs_reader.specs.View.{View}
-use Rattle.hgs_reader.proofs.HeldLemmas.{held-text, rest_then}
+use Rattle.hgs_reader.proofs.HeldLemmas.{held-text}
+use Rattle.hgs_reader.proofs.OpenedLemmas.{rest_then}
 
 pub text-held : (t : Tree) (index chunks node text : List ℕ) → HasText t index chunks node text → at_rest t (text_asks index chunks node) ≡ Ok text
 text-held t index chunks node text h =

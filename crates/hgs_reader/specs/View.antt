@@ -1,7 +1,7 @@
 -- What a session holds of a repository.
 use Rattle.std.specs.Prelude.{ℕ, suc, zero, List, [], ◌++◌, length, nat_lt, codes, unwrap_or, Option, Result, Ok, Err, if◌then◌else◌}
 use Rattle.hgs_marks.specs.Bookmarks.{Mark}
-use Rattle.hgs_phases.specs.declared.phase.Phase.{Phase}
+use Rattle.hgs_model.specs.declared.phase.Phase.{Phase}
 use Rattle.hgs_plan.specs.declared.damage.Part.{Part}
 use Rattle.hgs_plan.specs.declared.damage.Part.TheVariants as parts
 use Rattle.hgs_revlog.specs.declared.fault.RevFault.{RevFault}

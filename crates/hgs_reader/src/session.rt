@@ -18,7 +18,7 @@ use hgs_files::files::Reads;
 use hgs_index::entry::Entry;
 use hgs_manifest::manifest::Manifest;
 use hgs_marks::bookmarks::Bookmarks;
-use hgs_phases::phase::Phase;
+use hgs_model::phase::Phase;
 use hgs_phases::phases::Phases;
 use hgs_revlog::revlog::Revlog;
 use std::alloc::{AllocError, Global};
@@ -306,7 +306,7 @@ impl Session {
     }
 
     /// Adds a line for each bookmark, in byte order of names: name, tab, revision, tab and node. One of an unknown node has no
-    /// line. A refusal adds nothing. The time is quadratic in the number of bookmarks.
+    /// line. A refusal adds nothing.
     pub fn bookmarks(&self, into: &mut Vec<u8>) -> Result<(), AllocError>
         ensures ok { OnOk result (into.new.items ≡ into.old.items ++ marks_text self.now) }
         ensures err { OnErr result (into.new.items ≡ into.old.items) }

@@ -41,8 +41,9 @@ pub fn mark_lines(alloc: Global, log: &Revlog, bookmarks: &Bookmarks) -> Result<
     ensures { IfOk result (λ lines. lines.items ≡ marks_shown log.now.entries bookmarks.now) }
 {
     let mut lines = Vec::new(alloc);
-    for i in 0..bookmarks.len() {
-        push_known(&mut lines, log, bookmarks.at(i))?;
+    for (name, node) in bookmarks.as_map() {
+        let name = name.as_slice();
+        push_known(&mut lines, log, Mark { name, node: *node })?;
     }
     Ok(lines)
 }

@@ -57,7 +57,7 @@ held-ignored index data_bytes revisions b all limits =
     (h.0, ignore-refuse index ∙ ap (loaded Refuse) front ∙ h.1, h.2, h.3.nodes_are)
 
 -- the first place in a list of values is that of what they come from
-position_map : {A B : Type 0} (f : A → B) (p : B → Bool) (xs : List A) → position p (map f xs) ≡ position (λ x. p (f x)) xs
+pub position_map : {A B : Type 0} (f : A → B) (p : B → Bool) (xs : List A) → position p (map f xs) ≡ position (λ x. p (f x)) xs
 position_map {A = A} f p xs = ap (λ n. cond (nat_lt n (length (map f xs))) (Some n) None) (places xs) ∙ ap (λ len. cond (nat_lt (position_or_len (λ x. p (f x)) xs) len) (Some (position_or_len (λ x. p (f x)) xs)) None) (lengths xs)
   where
     lengths : (xs : List A) → length (map f xs) ≡ length xs

@@ -42,7 +42,7 @@ pub record AreWithinLimits (revisions : List Revision) (data_bytes : List ℕ) :
 abbrev pub EndsFirstAt : List ℕ → List Revision → Type 0
 EndsFirstAt node revisions = position (λ n. same n node) (nodes revisions) ≡ Some (length revisions - 1)
 
--- The entries are those of bytes that hold these revisions.
+-- Bytes hold these revisions, the entries have their nodes, and the data ends where the entries say.
 pub record Agrees (index data_bytes : List ℕ) (entries : List Entry) (revisions : List Revision) : Type 0 where
   pub held : HoldsRevisions index data_bytes revisions
   pub nodes_are : nodes_of entries ≡ nodes revisions

@@ -69,7 +69,7 @@ fn ends(tail: &Tail, entry: &Entry) -> bool
 }
 
 impl Revlog {
-    /// A revlog without revisions. Takes no memory.
+    /// A revlog without revisions. Takes no memory. An inline one takes no revision yet.
     pub fn empty(alloc: Global, inline: bool) -> Revlog
         ensures { result ≡ record { inline = inline; entries = [] } }
     {

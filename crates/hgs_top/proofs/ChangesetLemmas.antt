@@ -3,7 +3,7 @@ use Rattle.std.proofs.Common.{◌≡◌, ℕ, zero, suc, ◌+◌, ◌*◌, ◌/�
 use Rattle.std.specs.Prelude.{slice_get}
 use Rattle.std.specs.List.{AllByRecursion}
 use Rattle.std.proofs.lemmas.List.{take_all}
-use Rattle.hgs_files.specs.Tree.{Tree}
+use Rattle.hgs_files.specs.Tree.{Tree, bytes_at}
 use Rattle.hgs_index.specs.declared.entry.Entry.{Entry}
 use Rattle.hgs_index.specs.Revision.{Revision, nodes}
 use Rattle.hgs_revlog.specs.Held.{AreWithinLimits, chunk_in, read_all}
@@ -15,7 +15,7 @@ use Rattle.hgs_reader.specs.Line.{chunk_asks, change_asks, change_at, change_of_
 use Rattle.hgs_reader.specs.View.{View, changelog_data, changelog_index, most_pieces, piece_length, log_answer}
 use Rattle.hgs_reader.specs.Open.{open_asks, log_of}
 use Rattle.hgs_reader.proofs.HeldLemmas.{part_is, read_there, read_length}
-use Rattle.hgs_top.specs.History.{Changeset, HoldsHistory, IsRead, bytes_at, revisions_of, Opens}
+use Rattle.hgs_top.specs.History.{Changeset, HoldsHistory, IsRead, revisions_of, Opens}
 use Rattle.hgs_top.proofs.HistoryLemmas.{pieces_read, front_of, few_pieces}
 use Rattle.hgs_top.proofs.OpenLemmas.{opening}
 

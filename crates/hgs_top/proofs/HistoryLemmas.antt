@@ -7,7 +7,7 @@ use Rattle.std.specs.Option.{option_map}
 use Rattle.std.proofs.Math.Seq.{drop-append_seam, take-add}
 use Rattle.std.proofs.Math.Nat.{lt-mul-div-succ}
 use Rattle.std.proofs.lemmas.List.{take-append-drop, take_all, length-take, length-map}
-use Rattle.hgs_files.specs.Tree.{Tree}
+use Rattle.hgs_files.specs.Tree.{Tree, bytes_at}
 use Rattle.hgs_index.specs.declared.entry.Entry.{Entry}
 use Rattle.hgs_index.specs.declared.texts.ChangeFault.{ChangeFault}
 use Rattle.hgs_index.specs.ChangeText.{Change, read_change}
@@ -30,8 +30,9 @@ use Rattle.hgs_reader.specs.Asks.{Asks, answer, part_of, at_rest}
 use Rattle.hgs_reader.specs.Line.{field, parent_text, change_fields, line_asks, line_at, line_text, line_of_entry, line_of_change, chunk_asks, change_of_chunk, change_of_text}
 use Rattle.hgs_reader.specs.View.{View, changelog_index, changelog_data, pieces_then, piece_length, most_pieces, log_answer}
 use Rattle.hgs_reader.specs.Open.{open_asks, log_asks, log_of}
-use Rattle.hgs_top.proofs.OpenLemmas.{opening, log_opened}
-use Rattle.hgs_top.specs.History.{Changeset, revisions_of, IsRead, bytes_at, HoldsHistory, line_among, lines_from, history_text, Opens}
+use Rattle.hgs_reader.proofs.OpenedLemmas.{opened_log}
+use Rattle.hgs_top.proofs.OpenLemmas.{opening}
+use Rattle.hgs_top.specs.History.{Changeset, revisions_of, IsRead, HoldsHistory, line_among, lines_from, history_text, Opens}
 use Rattle.hgs_top.specs.Outcome.{Outcome, line_then, lines_down, lines_of_view, log_of_view, log_outcome}
 
 -- ---- the index, piece by piece
@@ -281,7 +282,7 @@ log-history t are none = by (at_rest t open_asks) refl none
     by (Ok view) is h =
         let index = bytes_at t changelog_index in
         let data_bytes = bytes_at t changelog_data in
-        let front_load : loaded Ignore (front_of index) ≡ Ok view.changelog = log_in (loaded Ignore (front_of index)) view.changelog (sym (pieces_read t) ∙ log_opened t view is) in
+        let front_load : loaded Ignore (front_of index) ≡ Ok view.changelog = log_in (loaded Ignore (front_of index)) view.changelog (sym (pieces_read t) ∙ opened_log t view is) in
         let all : front_of index ≡ index = whole_front index (few_entries (front_of index) view.changelog front_load) in
         let load : loaded Ignore index ≡ Ok view.changelog = ap (loaded Ignore) (sym all) ∙ front_load in
         let told = history_of t view [] view.changelog.entries refl (lines_ok (λ rev. at_rest t (line_asks view rev)) (length view.changelog.entries) h) in

@@ -2,7 +2,7 @@
 use Rattle.std.specs.Prelude.{◌≡◌, ℕ, suc, ◌/◌, List, [], ◌∷◌, ◌++◌, length, map, decimal, slice_index_or, unwrap_or, Some, Ok, true, ◌⊎◌, position}
 use Rattle.std.specs.List.{AllByRecursion}
 use Rattle.hgs_bytes.specs.Bytes.{same}
-use Rattle.hgs_files.specs.Tree.{Tree}
+use Rattle.hgs_files.specs.Tree.{Tree, bytes_at}
 use Rattle.hgs_index.specs.ChangeText.{Change, read_change}
 use Rattle.hgs_index.specs.Hex.{hex}
 use Rattle.hgs_index.specs.Node.{null_node}
@@ -27,10 +27,6 @@ revisions_of history = map (λ c. c.revision) history
 -- the text is that of the change
 abbrev pub IsRead : Changeset → Type 0
 IsRead c = read_change c.revision.text ≡ Ok c.change
-
--- the bytes of a file, none where it isn't there
-abbrev pub bytes_at : Tree → List ℕ → List ℕ
-bytes_at t path = unwrap_or (t path) []
 
 -- The changelog of these files is this history: as many changesets as there are whole entries, and all of them are read.
 pub record HoldsHistory (t : Tree) (history : List Changeset) : Type 0 where

@@ -2,8 +2,8 @@
 use Rattle.std.specs.Prelude.{ℕ, zero, suc, List, [], ◌∷◌, ◌++◌, length, slice_get, Option, Some, None, Result, Ok, Err}
 use Rattle.hgs_files.specs.Tree.{Tree}
 use Rattle.hgs_reader.specs.declared.answer.ReadAnswer.{ReadAnswer}
-use Rattle.hgs_phases.specs.Phase.{name_of}
-use Rattle.hgs_phases.specs.declared.phase.Phase.{Phase}
+use Rattle.hgs_model.specs.Phase.{phase_name}
+use Rattle.hgs_model.specs.declared.phase.Phase.{Phase}
 use Rattle.hgs_reader.specs.Asks.{Asks, answer, at_rest}
 use Rattle.hgs_reader.specs.Contents.{files_asks, cat_asks}
 use Rattle.hgs_reader.specs.Heads.{heads_text}
@@ -87,7 +87,7 @@ subject_of AtPhase = its_phase
 
 abbrev pub phase_text : Option Phase → List ℕ
 phase_text None = []
-phase_text (Some phase) = name_of phase ++ 10 ∷ []
+phase_text (Some phase) = phase_name phase ++ 10 ∷ []
 
 abbrev pub contents_asks : View → ℕ → Subject → Asks (Result (List ℕ) ReadAnswer)
 contents_asks view rev its_files = files_asks view rev

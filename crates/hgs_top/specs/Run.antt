@@ -1,5 +1,5 @@
 -- What the top call leaves.
-use Rattle.std.specs.Prelude.{◌≡◌, ◌⊎◌, ℕ, List, [], ◌∷◌, ◌++◌, take, Option, Some, None, Result, Ok, Err, IfSome, ⊤, codes, decimal}
+use Rattle.std.specs.Prelude.{◌≡◌, ◌⊎◌, ℕ, List, [], ◌∷◌, ◌++◌, take, Option, Some, None, Result, Ok, Err, IfSome, ⊤, true, codes, decimal}
 use Rattle.std.specs.Bool.{MatchBool}
 use Rattle.hgs_files.specs.declared.op.Op.{Op}
 use Rattle.hgs_files.specs.declared.streams.IoFault.{IoFault}
@@ -73,29 +73,29 @@ abbrev pub status_of_ending : Option ReadAnswer → ℕ
 status_of_ending None = 0
 status_of_ending (Some e) = status_of e
 
--- A front of the text was written, and then a front of the line of some refusal.
-abbrev pub IsCutShort : List ℕ → Option (List ℕ) → Option (List ℕ) → Type 0
-IsCutShort text old new = (n : ℕ) × (e : ReadAnswer) × IsFrontWritten old new (take n text ++ refusal_line e)
+-- A front of a text and its ending was written, or a front of the text and then one of the line that says that the files failed, or that there was no memory.
+abbrev pub IsCutShort : List ℕ → List ℕ → Option (List ℕ) → Option (List ℕ) → Type 0
+IsCutShort text ending old new =
+    IsFrontWritten old new (text ++ ending)
+    ⊎ ((n : ℕ) × (e : ReadAnswer) × (is_of_outside e ≡ true) × IsFrontWritten old new (take n text ++ refusal_line e))
 
 -- The run answered the question: all of its text was written, its refusal's line behind it, and the status says which; or the files failed, or the sink, or there was no memory.
 abbrev pub Answered : Outcome → ℕ → Option (List ℕ) → Option (List ℕ) → Type 0
 Answered o status old new =
     ((status ≡ status_of_ending o.refusal) × IsWritten old new (o.text ++ ending_of o.refusal))
     ⊎ (((status ≡ 16) × ((n : ℕ) × IsWritten old new (take n o.text ++ refusal_line Fault)))
-    ⊎ (((status ≡ 19) ⊎ (status ≡ 30)) × IsCutShort o.text old new))
+    ⊎ (((status ≡ 19) ⊎ (status ≡ 30)) × IsCutShort o.text (ending_of o.refusal) old new))
 
 abbrev pub bad_word_line : ℕ → List ℕ
 bad_word_line place = codes "abort: bad word " ++ decimal place ++ 10 ∷ []
 
--- the words don't fit: this is said, or the sink failed, or there was no memory
-abbrev pub SaysBadWord : ℕ → ℕ → Option (List ℕ) → Option (List ℕ) → Type 0
-SaysBadWord place status old new =
-    ((status ≡ 28) × IsWritten old new (bad_word_line place))
-    ⊎ (((status ≡ 19) ⊎ (status ≡ 30)) × IsFrontWritten old new (bad_word_line place))
-
--- the end of a run: all of this line was written and the status is this, or a front of it and the status is that of the sink
+-- the end of a run: all of this line was written and the status is this, or the sink failed, or there was no memory
 abbrev pub EndsLine : List ℕ → ℕ → ℕ → Option (List ℕ) → Option (List ℕ) → Type 0
-EndsLine line wanted status old new = ((status ≡ wanted) × IsWritten old new line) ⊎ (((status ≡ 19) ⊎ (status ≡ 30)) × IsFrontWritten old new line)
+EndsLine line wanted status old new = ((status ≡ wanted) × IsWritten old new line) ⊎ (((status ≡ 19) ⊎ (status ≡ 30)) × IsCutShort [] line old new)
+
+-- the words don't fit, and this is said
+abbrev pub SaysBadWord : ℕ → ℕ → Option (List ℕ) → Option (List ℕ) → Type 0
+SaysBadWord place status old new = EndsLine (bad_word_line place) 28 status old new
 
 abbrev pub unknown_line : List ℕ
 unknown_line = codes "abort: unknown revision" ++ 10 ∷ []
@@ -113,7 +113,7 @@ Replied (told o) status old new = Answered o status old new
 Replied unknown_revision status old new =
     ((status ≡ 12) × IsWritten old new unknown_line)
     ⊎ (((status ≡ 16) × IsWritten old new (refusal_line Fault))
-    ⊎ (((status ≡ 19) ⊎ (status ≡ 30)) × (IsFrontWritten old new unknown_line ⊎ IsCutShort [] old new)))
+    ⊎ (((status ≡ 19) ⊎ (status ≡ 30)) × IsCutShort [] unknown_line old new))
 
 -- the reply over files in this tree
 abbrev pub reply_to : Question → Tree → Reply

@@ -21,6 +21,9 @@ use hgs_plan::print::push_number;
 use hgs_reader::answer::ReadAnswer;
 use std::alloc::{AllocError, Global};
 
+// The line of want of memory, which takes none.
+const OUT_OF_MEMORY: &[u8; 21] = b"abort: out of memory\n";
+
 // The status of a sink that takes no more.
 fn status_of_fault(fault: IoFault) -> u8
     ensures { result ≡ status_of_sink fault }
@@ -61,7 +64,7 @@ pub fn refuse_words<K: Sink>(alloc: Global, place: usize, out: &mut K) -> u8
 {
     match bad_word(alloc, place) {
         Ok(line) => end_with(out, &line, 28),
-        Err(_) => end_with(out, b"", 30),
+        Err(_) => end_with(out, OUT_OF_MEMORY, 30),
     }
 }
 
@@ -76,7 +79,7 @@ fn refuse<K: Sink>(alloc: Global, refusal: &ReadAnswer, out: &mut K) -> u8
     let mut line = Vec::new(alloc);
     match refusal.print(alloc, &mut line) {
         Ok(()) => end_with(out, &line, refusal.status()),
-        Err(_) => end_with(out, b"", 30),
+        Err(_) => end_with(out, OUT_OF_MEMORY, 30),
     }
 }
 

@@ -23,7 +23,7 @@ const FILE_CHUNK: &[u8] = b"ua\n";
 const FILES: &[u8] = b"b789fdd96dc2f3bd229c1dd8eedf0fc60e2b68e3 - a\n";
 
 // A changeset whose manifest has two lines, the second of which is below the first.
-const TURNED: &[u8; 64] =
+pub(crate) const TURNED: &[u8; 64] =
     b"\x00\x00\x00\x01\x00\x00\x00\x00\x00\x00\x009\x00\x00\x008\x00\x00\x00\x00\x00\x00\x00\x00\xff\xff\xff\xff\xff\xff\xff\xff72\xa3\xa4\x1f\x02\xa7\x1c\x81f{\x1f\x85\x12\x81;\x9dy[\x80\x00\x00\x00\x00\x00\x00\x00\x00\x00\x00\x00\x00";
 
 const TURNED_CHUNK: &[u8] = b"ua9f7f5a841cc546fae6f38fb34ceb60d9908cdf8\ntest\n0 0\na\nb\n\na";

@@ -1,14 +1,14 @@
 //! What the definitions of this crate imply. Each function is one law; none does anything.
 ghost use Rattle.std.specs.Prelude.{◌≡◌, ℕ, List, Ok, Some, None, length, slice_get};
 ghost use Rattle.hex.specs.Hex.{IsBytes};
-ghost use Rattle.hgs_files.specs.Tree.{Tree};
+ghost use Rattle.hgs_files.specs.Tree.{Tree, bytes_at};
 ghost use Rattle.hgs_index.specs.Revision.{nodes};
 ghost use Rattle.hgs_revlog.specs.Held.{AreWithinLimits};
 ghost use Rattle.hgs_reader.specs.Asks.{at_rest};
 ghost use Rattle.hgs_reader.specs.Line.{change_asks};
 ghost use Rattle.hgs_reader.specs.View.{View, changelog_data, changelog_index};
 ghost use Rattle.hgs_reader.specs.Open.{open_asks};
-ghost use Rattle.hgs_top.specs.History.{Changeset, HoldsHistory, Opens, bytes_at, history_text, revisions_of};
+ghost use Rattle.hgs_top.specs.History.{Changeset, HoldsHistory, Opens, history_text, revisions_of};
 ghost use Rattle.hgs_top.specs.Outcome.{log_outcome};
 
 /// Over files that hold a history within the limits, and the other files of which can be read, `log` writes a line for each changeset, newest first, and is not

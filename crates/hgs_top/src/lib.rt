@@ -11,6 +11,8 @@ pub mod log;
 #[cfg(test)]
 mod marks_tests;
 pub mod output;
+#[cfg(test)]
+mod refresh_tests;
 pub mod run;
 pub mod stopped;
 #[cfg(test)]

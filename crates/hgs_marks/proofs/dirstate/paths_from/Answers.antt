@@ -1,8 +1,8 @@
-use Rattle.std.proofs.Common.{◌≡◌, sym, ◌∙◌, ap, arith, rules, length, drop, [], List, ℕ}
+use Rattle.std.proofs.Common.{◌≡◌, ◌∙◌, ap, arith, rules, length, drop, []}
 use Rattle.std.proofs.lemmas.List.{length-drop}
-use Rattle.hgs_marks.specs.Bookmarks.{is_memory}
 use Rattle.hgs_marks.specs.Dirstate.{paths_with, entries_from}
 use Rattle.hgs_marks.specs.Held.{view_entry}
+use Rattle.hgs_marks.proofs.DirstateFound.{paths_fit}
 use Rattle.hgs_marks.proofs.DirstateLemmas.{one_entry, entry_refused, no_more}
 use Rattle.hgs_marks.proofs.dirstate.paths_from.Goals as goal
 
@@ -39,5 +39,10 @@ loop-rest-preserved c =
       room = omega (arith, shorter, room);
     }
 
-pub returns : goal.returns
-returns c = let past = c.loop-rest-test.false in no_more c.loop-rest.paths (length c.args.text.now) c.loop-rest.rest.now _ (omega (arith, past)) c.loop-rest.invariant.read
+pub returns-clause-read : goal.returns-clause-read
+returns-clause-read c = let past = c.loop-rest-test.false in no_more c.loop-rest.paths (length c.args.text.now) c.loop-rest.rest.now _ (omega (arith, past)) c.loop-rest.invariant.read
+
+pub returns-clause-fits : goal.returns-clause-fits
+returns-clause-fits c =
+    let past = c.loop-rest-test.false in
+    paths_fit c.args.text.now c.loop-rest.paths (λ i. let h = c.type_inv.text i in omega (arith, h)) (no_more c.loop-rest.paths (length c.args.text.now) c.loop-rest.rest.now _ (omega (arith, past)) c.loop-rest.invariant.read)

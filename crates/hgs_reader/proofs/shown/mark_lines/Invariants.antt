@@ -1,6 +1,7 @@
-use Rattle.std.proofs.Common.{◌≡◌, ◌++◌, drop}
+use Rattle.std.proofs.Common.{◌≡◌, ◌++◌, map}
+use Rattle.hgs_marks.specs.Held.{mark_in}
 use Rattle.hgs_reader.specs.Shown.{marks_shown}
 use Rattle.hgs_reader.proofs.shown.mark_lines.Given as goal
 
-abbrev pub invariant-loop-i : goal.invariant-loop-i
-invariant-loop-i l = l.lines.items ++ marks_shown l.log.entries (drop l.i l.bookmarks) ≡ marks_shown l.log.entries l.bookmarks
+abbrev pub invariant-loop-name : goal.invariant-loop-name
+invariant-loop-name l = l.lines.items ++ marks_shown l.log.entries (map mark_in l.name-iterator) ≡ marks_shown l.log.entries l.bookmarks

@@ -1,4 +1,4 @@
-use Rattle.std.proofs.Common.{sym, ◌∙◌, ap}
+use Rattle.std.proofs.Common.{◌∙◌, ap}
 use Rattle.std.specs.Option.{option_map}
 use Rattle.hgs_marks.specs.Bookmarks.{node_of}
 use Rattle.hgs_marks.proofs.MapLemmas.{found}

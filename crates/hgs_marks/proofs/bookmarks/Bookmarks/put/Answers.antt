@@ -1,6 +1,6 @@
-use Rattle.std.proofs.Common.{sym, ◌∙◌, ap, map}
+use Rattle.std.proofs.Common.{◌∙◌, ap, map}
 use Rattle.hgs_marks.specs.Bookmarks.{with_mark}
-use Rattle.hgs_marks.specs.Held.{mark_in, view_mark}
+use Rattle.hgs_marks.specs.Held.{mark_in}
 use Rattle.hgs_marks.proofs.MapLemmas.{placed}
 use Rattle.hgs_marks.proofs.bookmarks.Bookmarks.put.Goals as goal
 

@@ -1,0 +1,5 @@
+use Rattle.hgs_marks.proofs.DirstateText.{dirstate_back}
+use Rattle.hgs_marks.proofs.laws.dirstate_written_then_read.Goals as goal
+
+pub returns : goal.returns
+returns c = dirstate_back

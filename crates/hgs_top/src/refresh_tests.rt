@@ -1,0 +1,105 @@
+//! A session that is loaded again after its files changed. The stores are those of the other tests.
+use crate::contents_tests::TURNED;
+use crate::tests::{FIRST, FIRST_CHUNK, SECOND, SECOND_CHUNK, both, store};
+use hgs_files::files::Files;
+use hgs_files::path::StorePath;
+use hgs_mem::mem::MemFiles;
+use hgs_reader::session::Session;
+use std::alloc::Global;
+use std::test::Fail;
+
+const DRAFT: &[u8] = b"1 cb9a9f314b8b07ba71012fcdbc544b5a4d82ff5b\n";
+
+const MARK: &[u8] = b"37bdf19219c0e69b87d6371fabfaf5c3a63794d9 new\n";
+
+/// Sets the bytes of a file, whatever stood there.
+fn set(alloc: Global, files: &mut MemFiles, path: &[u8], bytes: &[u8]) -> Result<(), Fail> {
+    let path = StorePath::new(alloc, path)?;
+    files.remove(&path)?;
+    files.put(&path, bytes)?;
+    Ok(())
+}
+
+/// The store of the first changeset, or of both.
+fn store_of(alloc: Global, whole: bool) -> Result<MemFiles, Fail> {
+    if whole {
+        let index = both(alloc, FIRST, SECOND)?;
+        store(alloc, &index, &both(alloc, FIRST_CHUNK, SECOND_CHUNK)?)
+    } else {
+        store(alloc, FIRST, FIRST_CHUNK)
+    }
+}
+
+/// The heads, the bookmarks and the phase of the first changeset that a session tells.
+fn told(alloc: Global, session: &Session) -> Result<Vec<u8>, Fail> {
+    let mut text = Vec::new(alloc);
+    session.heads(&mut text)?;
+    session.bookmarks(&mut text)?;
+    if session.len() > 0 {
+        text.extend_from_slice(session.phase(0).name())?;
+    }
+    Ok(text)
+}
+
+const FIRST_TOLD: &[u8] = b"0 cb9a9f314b8b07ba71012fcdbc544b5a4d82ff5b\npublic";
+
+const BOTH_TOLD: &[u8] =
+    b"1 37bdf19219c0e69b87d6371fabfaf5c3a63794d9\nnew\t1\t37bdf19219c0e69b87d6371fabfaf5c3a63794d9\ndraft";
+
+#[test]
+fn a_refresh_sees_what_was_published(rt: HostRuntime) -> Result<(), Fail> {
+    let alloc = rt.alloc();
+    let mut files = store_of(alloc, false)?;
+    let mut session = Session::open(alloc, &mut files)?;
+    assert_eq!(rt; told(alloc, &session)?.as_slice(), FIRST_TOLD);
+    let mut files = store_of(alloc, true)?;
+    set(alloc, &mut files, b"store/phaseroots", DRAFT)?;
+    set(alloc, &mut files, b"bookmarks", MARK)?;
+    // `requires` is not read again
+    files.remove(&StorePath::new(alloc, b"requires")?)?;
+    session.refresh(&mut files)?;
+    assert_eq!(rt; told(alloc, &session)?.as_slice(), BOTH_TOLD);
+    Ok(())
+}
+
+/// A file, its new bytes, and the line of the refusal.
+type Case = (&'static [u8], &'static [u8], &'static [u8]);
+
+// The second changeset is taken away, or the first is another; or a file of the load is out of form.
+const CASES: [Case; 3] = [
+    (
+        b"store/00changelog.i",
+        FIRST,
+        b"abort: damaged store/00changelog.i: shrunk 1 1\n",
+    ),
+    (
+        b"store/00changelog.i",
+        TURNED,
+        b"abort: damaged store/00changelog.i: shrunk 1 0\n",
+    ),
+    (
+        b"bookmarks",
+        b"no line\n",
+        b"abort: damaged bookmarks: bookmarks 1 1\n",
+    ),
+];
+
+#[test]
+fn a_refused_refresh_changes_nothing(rt: HostRuntime) -> Result<(), Fail> {
+    let alloc = rt.alloc();
+    for (path, bytes, line) in CASES {
+        let mut files = store_of(alloc, true)?;
+        let mut session = Session::open(alloc, &mut files)?;
+        let before = told(alloc, &session)?;
+        set(alloc, &mut files, path, bytes)?;
+        let mut text = Vec::new(alloc);
+        match session.refresh(&mut files) {
+            Ok(()) => {}
+            Err(refusal) => refusal.print(alloc, &mut text)?,
+        }
+        assert_eq!(rt; text.as_slice(), line);
+        assert_eq!(rt; told(alloc, &session)?.as_slice(), before.as_slice());
+        assert_eq!(rt; session.len(), 2);
+    }
+    Ok(())
+}
