@@ -73,6 +73,7 @@ folder_as_index() { lay_store && rm .hg/store/00changelog.i && mkdir .hg/store/0
 folder_as_data() { lay_store && rm .hg/store/00changelog.d && mkdir .hg/store/00changelog.d; }
 file_as_store() { lay_store && rm -r .hg/store && echo text >.hg/store; }
 cut_data() { lay_store && truncate -s -1 .hg/store/00changelog.d; }
+cut_entry() { lay_store && printf '\377%.0s' $(seq 63) >>.hg/store/00changelog.i; }
 other_byte() { lay_store && printf X | dd of=.hg/store/00changelog.d bs=1 seek=10 conv=notrunc status=none; }
 second_link() { lay_store && ln .hg/store/00changelog.i other-clone.i && ln .hg/store/00changelog.d other-clone.d; }
 
@@ -143,6 +144,7 @@ folder_as_index|plain|16|abort: file operation failed|log
 folder_as_data|plain|16|abort: file operation failed|log
 file_as_store|plain|15|abort: damaged dirstate: dirstate 6 0|log
 cut_data|plain|15|abort: damaged store/00changelog.i: revlog 5 15|log
+cut_entry|plain|0|log|log
 other_byte|plain|15|abort: damaged store/00changelog.i: revlog 7 0|log
 second_link|plain|0|log|log
 whole_store|closed_output|19|-|log

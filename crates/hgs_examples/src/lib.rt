@@ -1,0 +1,5 @@
+//! Examples that go through several crates. There is nothing here but tests.
+#![tactic(auto)]
+
+#[cfg(test)]
+mod bodies;
