@@ -43,6 +43,9 @@ fn told(alloc: Global, session: &Session) -> Result<Vec<u8>, Fail> {
 
 const FIRST_TOLD: &[u8] = b"0 cb9a9f314b8b07ba71012fcdbc544b5a4d82ff5b\npublic";
 
+/// Of both changesets, with no phase root and no bookmark.
+const PLAIN_TOLD: &[u8] = b"1 37bdf19219c0e69b87d6371fabfaf5c3a63794d9\npublic";
+
 const BOTH_TOLD: &[u8] =
     b"1 37bdf19219c0e69b87d6371fabfaf5c3a63794d9\nnew\t1\t37bdf19219c0e69b87d6371fabfaf5c3a63794d9\ndraft";
 
@@ -84,22 +87,35 @@ const CASES: [Case; 3] = [
     ),
 ];
 
+/// The line of the refusal with which a refresh ends; empty where there is none.
+fn refused(alloc: Global, session: &mut Session, files: &mut MemFiles) -> Result<Vec<u8>, Fail> {
+    let mut line = Vec::new(alloc);
+    match session.refresh(files) {
+        Ok(()) => {}
+        Err(refusal) => refusal.print(alloc, &mut line)?,
+    }
+    Ok(line)
+}
+
+/// What a session tells before a refresh and after it, and the line of the refresh between.
+fn around(alloc: Global, path: &[u8], bytes: &[u8]) -> Result<[Vec<u8>; 3], Fail> {
+    let mut files = store_of(alloc, true)?;
+    let mut session = Session::open(alloc, &mut files)?;
+    let before = told(alloc, &session)?;
+    set(alloc, &mut files, path, bytes)?;
+    let line = refused(alloc, &mut session, &mut files)?;
+    let after = told(alloc, &session)?;
+    Ok([before, line, after])
+}
+
 #[test]
 fn a_refused_refresh_changes_nothing(rt: HostRuntime) -> Result<(), Fail> {
     let alloc = rt.alloc();
     for (path, bytes, line) in CASES {
-        let mut files = store_of(alloc, true)?;
-        let mut session = Session::open(alloc, &mut files)?;
-        let before = told(alloc, &session)?;
-        set(alloc, &mut files, path, bytes)?;
-        let mut text = Vec::new(alloc);
-        match session.refresh(&mut files) {
-            Ok(()) => {}
-            Err(refusal) => refusal.print(alloc, &mut text)?,
-        }
-        assert_eq!(rt; text.as_slice(), line);
-        assert_eq!(rt; told(alloc, &session)?.as_slice(), before.as_slice());
-        assert_eq!(rt; session.len(), 2);
+        let [before, refusal, after] = around(alloc, path, bytes)?;
+        assert_eq!(rt; before.as_slice(), PLAIN_TOLD);
+        assert_eq!(rt; refusal.as_slice(), line);
+        assert_eq!(rt; after.as_slice(), PLAIN_TOLD);
     }
     Ok(())
 }
