@@ -1,3 +1,4 @@
 pub mod AnswerLemmas
 pub mod ByteLemmas
 pub mod TextLemmas
+pub mod TwoLemmas

@@ -8,6 +8,12 @@ abbrev pub split : ℕ → List ℕ → Option (List ℕ × List ℕ)
 split byte [] = None
 split byte (b ∷ bytes) = if b == byte then Some ([], bytes) else option_map (λ x. (b ∷ x.0, x.1)) (split byte bytes)
 
+-- what stands before the first place where these two bytes stand side by side, and behind them
+abbrev pub split_at_two : ℕ → ℕ → List ℕ → Option (List ℕ × List ℕ)
+split_at_two a b [] = None
+split_at_two a b (x ∷ []) = None
+split_at_two a b (x ∷ y ∷ bytes) = if x == a && y == b then Some ([], bytes) else option_map (λ p. (x ∷ p.0, p.1)) (split_at_two a b (y ∷ bytes))
+
 -- no such byte stands in it
 abbrev pub Lacks : ℕ → List ℕ → Type 0
 Lacks byte [] = Unit {0}

@@ -1,9 +1,8 @@
 -- Markers in a text.
-use Rattle.std.proofs.Common.{◌≡◌, ℕ, zero, suc, ◌+◌, ◌<◌, ◌≤◌, Bool, true, false, cond, List, [], ◌∷◌, ◌++◌, length, take, drop, get_or, Option, Some, None, refl, sym, ◌∙◌, ap, subst, arith, ◌&&◌, lit<, append_assoc}
-use Rattle.std.specs.Prelude.{◌==◌, slice_index, option_map}
+use Rattle.std.proofs.Common.{◌≡◌, ℕ, ◌+◌, ◌≤◌, Bool, true, false, cond, List, [], ◌∷◌, ◌++◌, length, take, drop, Option, Some, None, refl, sym, ◌∙◌, ap, subst, arith, ◌&&◌, append_assoc}
+use Rattle.std.specs.Prelude.{◌==◌, option_map}
 use Rattle.std.proofs.lemmas.Bool.{false_from_ne_true}
 use Rattle.std.proofs.lemmas.List.{take-append-drop, take_at, drop_at, length-append, length-take-le}
-use Rattle.memchr.specs.Find.{FindsNeedle, OccursAt}
 use Rattle.hgs_bytes.specs.Bytes.{begins_with}
 use Rattle.hgs_bytes.proofs.ByteLemmas.{same-eq}
 use Rattle.hgs_index.specs.FileText.{marker, split_at_marker, with_block, unpacked}
@@ -11,50 +10,6 @@ use Rattle.hgs_filelog.specs.Packed.{block_of, packed, HasNoMarker}
 
 both_are : (a b : ℕ) → (a == 1 && b == 10) ≡ true → (a ≡ 1) × (b ≡ 10)
 both_are a b e = grind (arith, e)
-
--- ---- the first marker
-
-marker_first : (xs : List ℕ) (k : ℕ) → k + 2 ≤ length xs → get_or xs k 0 ≡ 1 → get_or xs (suc k) 0 ≡ 10 → ((j : ℕ) → j < k → get_or xs j 0 ≡ 1 → get_or xs (suc j) 0 ≡ 10 → ⊥) →
-    split_at_marker xs ≡ Some (take k xs, drop (suc (suc k)) xs)
-marker_first [] k fits a b before = absurd (omega arith)
-marker_first (x ∷ []) k fits a b before = absurd (omega arith)
-marker_first (x ∷ y ∷ xs) zero fits a b before = let e : x ≡ 1 = a in let f : y ≡ 10 = b in rw (e, f)
-marker_first (x ∷ y ∷ xs) (suc k) fits a b before =
-    let other : (x == 1 && y == 10) ≡ false = false_from_ne_true (x == 1 && y == 10) (λ t. let p = both_are x y t in before 0 (omega arith) p.0 p.1) in
-    let rest = marker_first (y ∷ xs) k (omega (arith, fits)) a b (λ j h. before (suc j) (omega (arith, h))) in
-    rw (other, rest)
-
-marker_none : (xs : List ℕ) → ((j : ℕ) → j + 2 ≤ length xs → get_or xs j 0 ≡ 1 → get_or xs (suc j) 0 ≡ 10 → ⊥) → split_at_marker xs ≡ None
-marker_none [] none = refl
-marker_none (x ∷ []) none = refl
-marker_none (x ∷ y ∷ xs) none =
-    let other : (x == 1 && y == 10) ≡ false = false_from_ne_true (x == 1 && y == 10) (λ t. let p = both_are x y t in none 0 (omega arith) p.0 p.1) in
-    let rest = marker_none (y ∷ xs) (λ j h. none (suc j) (omega (arith, h))) in
-    rw (other, rest)
-
-at_two : (xs : List ℕ) (j i : ℕ) → i < 2 → get_or xs j 0 ≡ 1 → get_or xs (suc j) 0 ≡ 10 → slice_index xs (j + i) ≡ slice_index (1 ∷ 10 ∷ []) i
-at_two xs j zero h a b = let e : j + 0 ≡ j = omega arith in ap (slice_index xs) e ∙ a
-at_two xs j (suc zero) h a b = let e : j + 1 ≡ suc j = omega arith in ap (slice_index xs) e ∙ b
-at_two xs j (suc (suc i)) h a b = absurd (omega arith)
-
-occurs : (xs : List ℕ) (j : ℕ) → j + 2 ≤ length xs → get_or xs j 0 ≡ 1 → get_or xs (suc j) 0 ≡ 10 → OccursAt xs (1 ∷ 10 ∷ []) j
-occurs xs j fits a b = record { fits = fits; reads = λ i h. at_two xs j i h a b }
-
-pub marker_found : (xs : List ℕ) (k : ℕ) → FindsNeedle xs (1 ∷ 10 ∷ []) 0 (Some k) → split_at_marker xs ≡ Some (take k xs, drop (k + 2) xs)
-marker_found xs k h =
-    let zeroth : k + 0 ≡ k = omega arith in
-    let first : k + 1 ≡ suc k = omega arith in
-    let second : suc (suc k) ≡ k + 2 = omega arith in
-    marker_first xs k h.1.fits (sym (ap (slice_index xs) zeroth) ∙ h.1.reads 0 (lit< tt)) (sym (ap (slice_index xs) first) ∙ h.1.reads 1 (lit< tt))
-    (λ j lt a b. h.0.before j (omega arith) lt (occurs xs j (omega (arith, lt, h.1.fits)) a b))
-    ∙ ap (λ n. Some (take k xs, drop n xs)) second
-
-pub marker_missing : (xs : List ℕ) → FindsNeedle xs (1 ∷ 10 ∷ []) 0 None → split_at_marker xs ≡ None
-marker_missing xs h = marker_none xs (λ j fits a b. h j (omega arith) (omega (arith, fits)) (occurs xs j fits a b))
-
-pub marker_answer : (xs : List ℕ) (r : Option ℕ) → FindsNeedle xs (1 ∷ 10 ∷ []) 0 r → option_map (λ k. (take k xs, drop (k + 2) xs)) r ≡ split_at_marker xs
-marker_answer xs None h = sym (marker_missing xs h)
-marker_answer xs (Some k) h = sym (marker_found xs k h)
 
 -- ---- what stands round it
 

@@ -12,7 +12,7 @@ use Rattle.hgs_index.specs.Node.{null_node}
 use Rattle.hgs_index.specs.Revision.{Revision, Parents, node_after, nodes_from, nodes, ParentsBefore}
 use Rattle.hgs_index.specs.Revlog.{chunk_text, Stored, Item, entry_after, items_from, items, index_bytes, all_different, next_header, HoldsRevisions, BeginsWithRevisions}
 use Rattle.hgs_index.proofs.RevisionLemmas.{nodes_from-append, nodes-append}
-use Rattle.hgs_index.proofs.RevlogLemmas.{chunks_of, map-append, concat-append, items_from-append, index_bytes-append, entries_behind, held-more}
+use Rattle.hgs_index.proofs.RevlogLemmas.{chunks_of, map-append, concat-append, items_from-append, index_bytes-append, entries_behind, HeldAs, held-more}
 
 all-front : {A : Type 0} (P : A → Type 0) (xs ys : List A) → AllByRecursion P (xs ++ ys) → AllByRecursion P xs
 all-front P [] ys h = tt
@@ -144,17 +144,18 @@ one_behind h (s ∷ old) (r ∷ revisions) e chunk separate these = append-nil (
 nodes-last : (revisions : List Revision) (r : Revision) → nodes (revisions ++ r ∷ []) ≡ nodes revisions ++ node_after (nodes revisions) r ∷ []
 nodes-last revisions r = nodes_from-append [] revisions (r ∷ [])
 
--- Behind the bytes that hold a list, the entry and the chunk of one more revision hold this too.
+-- Behind the bytes that hold a list, the entry and the chunk of one more revision hold this too, with it stored last.
 pub held-one-more : (index data_bytes : List ℕ) (revisions : List Revision) (s : Stored) (k : Header)
-    → HoldsRevisions index data_bytes revisions → k.inline ≡ false
+    → (h : HoldsRevisions index data_bytes revisions) → k.inline ≡ false
     → chunk_text s.chunk ≡ Some s.revision.text
     → IfSome s.revision.parents.0 (λ p. p < length revisions) → IfSome s.revision.parents.1 (λ p. p < length revisions)
     → Fits (entry_after (length data_bytes) (nodes revisions) s) None
     → among (node_after (nodes revisions) s.revision) (null_node ∷ nodes revisions) ≡ false
-    → HoldsRevisions (index ++ entry_bytes (entry_after (length data_bytes) (nodes revisions) s) (next_header revisions k)) (data_bytes ++ s.chunk) (revisions ++ s.revision ∷ [])
+    → HeldAs (index ++ entry_bytes (entry_after (length data_bytes) (nodes revisions) s) (next_header revisions k)) (data_bytes ++ s.chunk) (revisions ++ s.revision ∷ []) (h.stored ++ s ∷ [])
 held-one-more index data_bytes revisions s k held separate text p1 p2 fits new =
     let g = with_header index data_bytes revisions k separate held in
     let h = g.0 in
+    let stored = h.stored ++ s ∷ [] in
     let node = node_after (nodes revisions) s.revision in
     let apart = or-false (same node null_node) (among node (nodes revisions)) new in
     let more = held-more index data_bytes revisions h (s ∷ []) (text, tt) (p1, p2, tt) (fits, tt)
@@ -162,5 +163,6 @@ held-one-more index data_bytes revisions s k held separate text p1 p2 fits new =
     (ap (among null_node) (nodes-last revisions s.revision) ∙ among-both null_node (nodes revisions) (node ∷ []) h.not_null (ap (λ b. b || false) (same-swap node null_node apart.0))) in
     let index_same = ap (λ l. index ++ l) (one_behind h.header h.stored revisions (entry_after (length data_bytes) (nodes revisions) s) s.chunk h.separate h.these ∙ ap (entry_bytes (entry_after (length data_bytes) (nodes revisions) s)) (sym g.2)) in
     let data_same = ap (λ l. data_bytes ++ l) (append-nil s.chunk) in
-    subst (λ l. HoldsRevisions l (data_bytes ++ s.chunk) (revisions ++ s.revision ∷ [])) index_same
-    (subst (λ l. HoldsRevisions (index ++ entries_behind h.header (items h.stored) (items_from (length data_bytes) (nodes revisions) (s ∷ []))) l (revisions ++ s.revision ∷ [])) data_same more)
+    subst (HeldAs (index ++ entry_bytes (entry_after (length data_bytes) (nodes revisions) s) (next_header revisions k)) (data_bytes ++ s.chunk) (revisions ++ s.revision ∷ [])) (ap (λ l. l ++ s ∷ []) g.1)
+    (subst (λ l. HeldAs l (data_bytes ++ s.chunk) (revisions ++ s.revision ∷ []) stored) index_same
+    (subst (λ l. HeldAs (index ++ entries_behind h.header (items h.stored) (items_from (length data_bytes) (nodes revisions) (s ∷ []))) l (revisions ++ s.revision ∷ []) stored) data_same more))

@@ -64,7 +64,7 @@ begins-more index data_bytes more more_data revisions h = record {
 }
 
 -- empty files hold no revisions
-pub held-none : HoldsRevisions [] [] []
+abbrev pub held-none : HoldsRevisions [] [] []
 held-none = record {
   header = record { inline = false; generaldelta = false };
   stored = [];
@@ -130,6 +130,18 @@ length-parents : (revisions : List Revision) → length (map (λ (r : Revision).
 length-parents [] = refl
 length-parents (r ∷ revisions) = ap suc (length-parents revisions)
 
+-- bytes hold these revisions, which are stored so
+abbrev pub HeldAs : List ℕ → List ℕ → List Revision → List Stored → Type 0
+HeldAs index data_bytes revisions stored = (h : HoldsRevisions index data_bytes revisions) × (h.stored ≡ stored)
+
+-- behind bytes that hold some revisions, the items of more begin where these end
+pub items-more : (index data_bytes : List ℕ) (revisions : List Revision) (h : HoldsRevisions index data_bytes revisions) (more : List Stored)
+    → items (h.stored ++ more) ≡ items h.stored ++ items_from (length data_bytes) (nodes revisions) more
+items-more index data_bytes revisions h more =
+    items_from-append 0 [] h.stored more
+    ∙ ap (λ o. items h.stored ++ items_from o (nodes_from [] (map (λ s. s.revision) h.stored)) more) (omega (arith, ap length h.data_is))
+    ∙ ap (λ k. items h.stored ++ items_from (length data_bytes) (nodes k) more) h.these
+
 -- Behind the bytes that hold some revisions, the entries and chunks of more revisions hold these too.
 pub held-more : (index data_bytes : List ℕ) (revisions : List Revision) (h : HoldsRevisions index data_bytes revisions) (more : List Stored)
     → AllByRecursion (λ (s : Stored). chunk_text s.chunk ≡ Some s.revision.text) more
@@ -137,23 +149,22 @@ pub held-more : (index data_bytes : List ℕ) (revisions : List Revision) (h : H
     → AllByRecursion (λ (i : Item). Fits i.entry None) (items_from (length data_bytes) (nodes revisions) more)
     → all_different (nodes (revisions ++ map (λ s. s.revision) more)) ≡ true
     → among null_node (nodes (revisions ++ map (λ s. s.revision) more)) ≡ false
-    → HoldsRevisions (index ++ entries_behind h.header (items h.stored) (items_from (length data_bytes) (nodes revisions) more)) (data_bytes ++ chunks_of more) (revisions ++ map (λ s. s.revision) more)
+    → HeldAs (index ++ entries_behind h.header (items h.stored) (items_from (length data_bytes) (nodes revisions) more)) (data_bytes ++ chunks_of more) (revisions ++ map (λ s. s.revision) more) (h.stored ++ more)
 held-more index data_bytes revisions h more texts earlier fits different not_null =
-    let split : items (h.stored ++ more) ≡ items h.stored ++ items_from (length data_bytes) (nodes revisions) more =
-    items_from-append 0 [] h.stored more
-    ∙ ap (λ o. items h.stored ++ items_from o (nodes_from [] (map (λ s. s.revision) h.stored)) more) (omega (arith, ap length h.data_is))
-    ∙ ap (λ k. items h.stored ++ items_from (length data_bytes) (nodes k) more) h.these in
-    record {
-      header = h.header;
-      stored = h.stored ++ more;
-      these = map-append (λ (s : Stored). s.revision) h.stored more ∙ ap (λ l. l ++ map (λ s. s.revision) more) h.these;
-      texts = all-append _ h.stored more h.texts texts;
-      earlier = subst (ParentsBefore 0) (sym (map-append (λ (r : Revision). r.parents) revisions (map (λ (s : Stored). s.revision) more)))
-          (parents-append 0 (map (λ (r : Revision). r.parents) revisions) _ h.earlier (subst (λ n. ParentsBefore n (map (λ (r : Revision). r.parents) (map (λ (s : Stored). s.revision) more))) (omega (arith, length-parents revisions)) earlier));
-      fits = subst (AllByRecursion (λ (i : Item). Fits i.entry None)) (sym split) (all-append _ (items h.stored) _ h.fits fits);
-      different = different;
-      not_null = not_null;
-      separate = h.separate;
-      index_is = ap (λ l. l ++ entries_behind h.header (items h.stored) (items_from (length data_bytes) (nodes revisions) more)) h.index_is ∙ sym (index_bytes-append h.header (items h.stored) _) ∙ ap (index_bytes h.header) (sym split);
-      data_is = ap (λ l. l ++ chunks_of more) h.data_is ∙ sym (concat-append (map (λ s. s.chunk) h.stored) (map (λ s. s.chunk) more)) ∙ ap concat (sym (map-append (λ (s : Stored). s.chunk) h.stored more));
-    }
+    let split = items-more index data_bytes revisions h more in (
+      record {
+        header = h.header;
+        stored = h.stored ++ more;
+        these = map-append (λ (s : Stored). s.revision) h.stored more ∙ ap (λ l. l ++ map (λ s. s.revision) more) h.these;
+        texts = all-append _ h.stored more h.texts texts;
+        earlier = subst (ParentsBefore 0) (sym (map-append (λ (r : Revision). r.parents) revisions (map (λ (s : Stored). s.revision) more)))
+            (parents-append 0 (map (λ (r : Revision). r.parents) revisions) _ h.earlier (subst (λ n. ParentsBefore n (map (λ (r : Revision). r.parents) (map (λ (s : Stored). s.revision) more))) (omega (arith, length-parents revisions)) earlier));
+        fits = subst (AllByRecursion (λ (i : Item). Fits i.entry None)) (sym split) (all-append _ (items h.stored) _ h.fits fits);
+        different = different;
+        not_null = not_null;
+        separate = h.separate;
+        index_is = ap (λ l. l ++ entries_behind h.header (items h.stored) (items_from (length data_bytes) (nodes revisions) more)) h.index_is ∙ sym (index_bytes-append h.header (items h.stored) _) ∙ ap (index_bytes h.header) (sym split);
+        data_is = ap (λ l. l ++ chunks_of more) h.data_is ∙ sym (concat-append (map (λ s. s.chunk) h.stored) (map (λ s. s.chunk) more)) ∙ ap concat (sym (map-append (λ (s : Stored). s.chunk) h.stored more));
+      },
+      refl,
+    )

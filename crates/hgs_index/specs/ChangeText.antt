@@ -1,12 +1,12 @@
 -- The text of a changeset.
-use Rattle.std.specs.Prelude.{◌≡◌, ◌==◌, ◌≤◌, ◌^◌, ℕ, Bool, true, false, ◌&&◌, nat_le, List, [], ◌∷◌, ◌++◌, length, ℤ, unsigned_abs, Option, Some, None, Result, Ok, Err, if◌then◌else◌, option_map}
+use Rattle.std.specs.Prelude.{◌≡◌, ◌==◌, ◌≤◌, ◌^◌, ℕ, Bool, true, false, ◌&&◌, nat_le, List, [], ◌∷◌, ◌++◌, length, ℤ, unsigned_abs, Option, Some, None, Result, Ok, Err, if◌then◌else◌}
 use Rattle.std.specs.List.{AllByRecursion, slice_split}
 use Rattle.std.specs.Fmt.{signed_decimal}
 use Rattle.std.specs.Str.{is_utf8}
 use Rattle.std.specs.Str.Parse.{signed_digits_value}
 use Rattle.hex.specs.Hex.{IsBytes}
 use Rattle.hgs_bytes.specs.Bytes.{same}
-use Rattle.hgs_bytes.specs.Text.{line, lines, split, Lacks, ascends}
+use Rattle.hgs_bytes.specs.Text.{line, lines, split, split_at_two, Lacks, ascends}
 use Rattle.hgs_index.specs.Hex.{hex, node_at}
 use Rattle.hgs_index.specs.declared.texts.ChangeFault.{ChangeFault}
 use Rattle.hgs_index.specs.declared.texts.ChangeFault.TheVariants.{Shape, Node, Date, Files, Utf8, Memory}
@@ -99,9 +99,7 @@ when_at text = when_parts (split 32 text)
 
 -- what stands before the first empty line and behind it
 unfoldable pub split_at_blank : List ℕ → Option (List ℕ × List ℕ)
-split_at_blank [] = None
-split_at_blank (a ∷ []) = None
-split_at_blank (a ∷ b ∷ bytes) = if a == 10 && b == 10 then Some ([], bytes) else option_map (λ p. (a ∷ p.0, p.1)) (split_at_blank (b ∷ bytes))
+split_at_blank text = split_at_two 10 10 text
 
 -- the lines between line feeds
 unfoldable pub header_lines : List ℕ → List (List ℕ)

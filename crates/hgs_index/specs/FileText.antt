@@ -1,6 +1,7 @@
 -- The text of a file revision: a metadata block, which may be missing, and the body.
-use Rattle.std.specs.Prelude.{◌≡◌, ℕ, List, [], ◌∷◌, ◌++◌, ◌&&◌, ◌==◌, drop, Option, Some, None, option_map, if◌then◌else◌}
+use Rattle.std.specs.Prelude.{◌≡◌, ℕ, List, [], ◌∷◌, ◌++◌, drop, Option, Some, None, if◌then◌else◌}
 use Rattle.hgs_bytes.specs.Bytes.{begins_with}
+use Rattle.hgs_bytes.specs.Text.{split_at_two}
 
 -- the bytes that begin and end a block
 abbrev pub marker : List ℕ
@@ -8,11 +9,7 @@ marker = 1 ∷ 10 ∷ []
 
 -- what stands before the first marker, and after it
 abbrev pub split_at_marker : List ℕ → Option (List ℕ × List ℕ)
-split_at_marker [] = None
-split_at_marker (a ∷ []) = None
-split_at_marker (a ∷ b ∷ bytes) =
-    if a == 1 && b == 10 then Some ([], bytes)
-    else option_map (λ p. (a ∷ p.0, p.1)) (split_at_marker (b ∷ bytes))
+split_at_marker text = split_at_two 1 10 text
 
 -- the block with both its markers, and the body; where the block has no end, all is the body
 abbrev pub with_block : List ℕ → Option (List ℕ × List ℕ) → List ℕ × List ℕ

@@ -8,6 +8,7 @@ ghost use Rattle.hgs_index.specs.Entry.{Fits, head_bytes, parent_number, entry_a
 use crate::fields::{u16_at, u32_at};
 use crate::head::has_bad_flags;
 use crate::node::Node;
+use thiserror::Error;
 
 /// An entry of an index.
 #[derive(Clone, Copy, Debug, PartialEq, Eq)]
@@ -39,15 +40,19 @@ pub struct Header {
 }
 
 /// Why bytes are no entry. Of several faults the first of this list is named.
-#[derive(Clone, Copy, Debug, PartialEq, Eq)]
+#[derive(Clone, Copy, Debug, PartialEq, Eq, Error)]
 pub enum EntryFault {
     /// The version in the header is not 1.
+    #[error("the version of the index is not 1")]
     Version,
     /// The header has a bit that is not read.
+    #[error("the header has a flag that is not read")]
     HeaderFlags,
     /// A length, the base or the link has its sign set, or a parent is below -1.
+    #[error("a length, the base, the link or a parent is below its least")]
     Negative,
     /// A byte is not zero that has no meaning.
+    #[error("a byte without meaning is not zero")]
     Padding,
 }
 

@@ -8,14 +8,18 @@ ghost use Rattle.hgs_index.specs.Manifest.{Row, AreRows, manifest_text, read_man
 use crate::node::Node;
 use hgs_bytes::parts::equal;
 use std::alloc::{AllocError, AllocFailed};
+use thiserror::Error;
 
 /// Why a text is no manifest. Lines are counted from 1.
-#[derive(Clone, Copy, Debug, PartialEq, Eq)]
+#[derive(Clone, Copy, Debug, PartialEq, Eq, Error)]
 pub enum ManifestFault {
     /// The first line out of form.
+    #[error("line {0} is no line of a manifest")]
     Line(u64),
     /// The first line whose path does not come after the one before.
+    #[error("the path of line {0} does not come after the one before")]
     Order(u64),
+    #[error("out of memory")]
     Memory,
 }
 
@@ -42,18 +46,24 @@ impl<T: Drop> From<AllocFailed<T>> for ManifestFault {
 }
 
 /// Why a text is no changeset. They are tested in this order.
-#[derive(Clone, Copy, Debug, PartialEq, Eq)]
+#[derive(Clone, Copy, Debug, PartialEq, Eq, Error)]
 pub enum ChangeFault {
     /// There is no empty line, or fewer than three lines stand before it.
+    #[error("the text has no header of three lines and an empty line")]
     Shape,
     /// The first line is no node.
+    #[error("the first line is no manifest's node")]
     Node,
     /// The third line is no date.
+    #[error("the third line is no date")]
     Date,
     /// The changed files do not ascend.
+    #[error("the changed files do not ascend")]
     Files,
     /// The user or the description is not UTF-8.
+    #[error("the user or the description is not UTF-8")]
     Utf8,
+    #[error("out of memory")]
     Memory,
 }
 

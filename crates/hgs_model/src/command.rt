@@ -3,6 +3,7 @@ use crate::files::NewFiles;
 use crate::phase::Phase;
 use hgs_bytes::bytes::Bytes;
 use hgs_bytes::names::Names;
+use thiserror::Error;
 
 /// A changeset to be recorded.
 #[derive(Debug, Drop)]
@@ -41,12 +42,15 @@ pub enum Command {
 }
 
 /// Why a command is refused. A number is that of a changeset.
-#[derive(Clone, Copy, Debug, PartialEq, Eq)]
+#[derive(Clone, Copy, Debug, PartialEq, Eq, Error)]
 pub enum Refusal {
     /// A name names nothing, or the bookmark to be deleted is not there.
+    #[error("unknown revision")]
     UnknownRevision,
     /// The changeset's phase would rise.
+    #[error("the phase of changeset {0} rises only by force")]
     NeedsForce(u32),
     /// The changeset that is as the command asks already.
+    #[error("nothing changed: changeset {0} is as asked")]
     NothingChanged(u32),
 }

@@ -6,16 +6,21 @@ ghost use Rattle.hgs_index.specs.TrackedPath.{is_forbidden, lower};
 ghost use Rattle.hgs_path.specs.Check.{checked, forbidden_from};
 
 use hgs_bytes::parts::{equal, split_at_byte};
+use thiserror::Error;
 
 /// Why a path is not tracked: the first that holds of these. A place counts the bytes before it.
-#[derive(Clone, Copy, Debug, PartialEq, Eq)]
+#[derive(Clone, Copy, Debug, PartialEq, Eq, Error)]
 pub enum PathFault {
+    #[error("the path is empty")]
     Empty,
     /// The path has more than 1,024 bytes.
+    #[error("the path has more than 1,024 bytes")]
     Long,
     /// The place of the first NUL, CR or LF.
+    #[error("byte {0} of the path is NUL, CR or LF")]
     Byte(u64),
     /// The place of the first component that is empty, `.`, `..`, or `.hg` in any letter case.
+    #[error("no tracked path has a component as that at byte {0}")]
     Component(u64),
 }
 

@@ -13,12 +13,15 @@ use crate::parts::ends;
 use hgs_bytes::parts::{equal, front, next_line, past, split_at_byte, starts};
 use std::alloc::{AllocError, Global};
 use std::collections::BTreeSet;
+use thiserror::Error;
 
 /// Why a text is no list.
-#[derive(Clone, Copy, Debug, PartialEq, Eq)]
+#[derive(Clone, Copy, Debug, PartialEq, Eq, Error)]
 pub enum FncacheFault {
     /// The number, from 1, of the first line that is no name or has no LF.
+    #[error("line {0} names no file of a filelog")]
     Line(u64),
+    #[error("out of memory")]
     Memory,
 }
 

@@ -1,11 +1,14 @@
 //! Why a text of phase roots is refused.
 use std::alloc::{AllocError, AllocFailed};
+use thiserror::Error;
 
 /// Why a text gives no phase roots.
-#[derive(Clone, Copy, Debug, PartialEq, Eq)]
+#[derive(Clone, Copy, Debug, PartialEq, Eq, Error)]
 pub enum RootsFault {
     /// The first line out of form, from 1.
+    #[error("line {0} is no phase root")]
     Line(u64),
+    #[error("out of memory")]
     Memory,
 }
 

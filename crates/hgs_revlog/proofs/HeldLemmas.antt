@@ -1,21 +1,22 @@
 -- One more entry behind bytes that hold revisions.
-use Rattle.std.proofs.Common.{◌≡◌, ℕ, suc, ◌+◌, ◌<◌, Bool, true, false, cond, ◌||◌, not, List, [], ◌∷◌, ◌++◌, length, Option, Some, None, refl, sym, ◌∙◌, ap, subst, arith, length-append}
+use Rattle.std.proofs.Common.{◌≡◌, ℕ, suc, ◌+◌, ◌<◌, Bool, true, false, cond, ◌||◌, not, List, [], ◌∷◌, ◌++◌, length, map, Option, Some, None, refl, sym, ◌∙◌, ap, subst, arith, append_assoc, append-nil, length-append}
 use Rattle.std.specs.Prelude.{nat_lt, IfSome, position}
 use Rattle.std.specs.List.{position_or_len}
+use Rattle.std.proofs.lemmas.List.Sums.{sum_by-cons}
 use Rattle.hgs_bytes.specs.Bytes.{same, among}
 use Rattle.hgs_index.specs.declared.entry.Entry.{Entry}
 use Rattle.hgs_index.specs.declared.entry.Header.{Header}
 use Rattle.hgs_index.specs.Entry.{entry_bytes, Fits}
 use Rattle.hgs_index.specs.Node.{null_node, node_hash}
-use Rattle.hgs_index.specs.Revision.{Revision, nodes, node_after, parent_node}
-use Rattle.hgs_index.specs.Revlog.{HoldsRevisions, Stored, chunk_text, entry_after, next_header}
-use Rattle.hgs_index.proofs.RevisionLemmas.{nodes_from-append, length-nodes_from}
+use Rattle.hgs_index.specs.Revision.{Revision, nodes, nodes_from, node_after, parent_node}
+use Rattle.hgs_index.specs.Revlog.{Stored, Item, chunk_text, entry_after, items_from, items, next_header}
+use Rattle.hgs_index.proofs.RevisionLemmas.{length-nodes_from}
 use Rattle.hgs_index.proofs.RevlogFrontLemmas.{held-one-more}
-use Rattle.hgs_index.proofs.RevlogLemmas.{map-append}
+use Rattle.hgs_index.proofs.RevlogLemmas.{chunks_of, items-more, map-append}
 use Rattle.hgs_revlog.specs.Log.{place_of, stored_sum, nodes_of}
 use Rattle.hgs_revlog.specs.Load.{is_above}
 use Rattle.hgs_revlog.specs.Held.{Agrees, revision_of}
-use Rattle.hgs_revlog.proofs.LogLemmas.{equal_from_same, same_itself, sum_push, length-nodes_of}
+use Rattle.hgs_revlog.proofs.LogLemmas.{equal_from_same, same_itself, length-nodes_of}
 use Rattle.hgs_revlog.proofs.LoadLemmas.{IsFaultless, neither}
 
 -- The chunk stands for this text, and the entry behind these says so.
@@ -27,9 +28,35 @@ pub record IsWhole (before : List Entry) (e : Entry) (chunk text : List ℕ) : T
   pub size : length text ≡ e.size
   pub node : e.node.0 ≡ node_hash (parent_node (nodes_of before) e.p1) (parent_node (nodes_of before) e.p2) text
 
+abbrev pub entries_of : List Item → List Entry
+entries_of items = map (λ i. i.entry) items
+
+nodes_of_items : (offset : ℕ) (known : List (List ℕ)) (stored : List Stored) → known ++ nodes_of (entries_of (items_from offset known stored)) ≡ nodes_from known (map (λ s. s.revision) stored)
+nodes_of_items offset known [] = append-nil known
+nodes_of_items offset known (s ∷ stored) =
+    let node = node_after known s.revision in
+    sym (append_assoc known (node ∷ []) (nodes_of (entries_of (items_from (offset + length s.chunk) (known ++ node ∷ []) stored)))) ∙ nodes_of_items (offset + length s.chunk) (known ++ node ∷ []) stored
+
+sum_of_items : (offset : ℕ) (known : List (List ℕ)) (stored : List Stored) → stored_sum (entries_of (items_from offset known stored)) ≡ length (chunks_of stored)
+sum_of_items offset known [] = refl
+sum_of_items offset known (s ∷ stored) =
+    let node = node_after known s.revision in
+    let more = entries_of (items_from (offset + length s.chunk) (known ++ node ∷ []) stored) in
+    let head = sum_by-cons (λ (e : Entry). e.stored) (entry_after offset known s) more in
+    let tail = sum_of_items (offset + length s.chunk) (known ++ node ∷ []) stored in
+    omega (arith, head, tail, length-append s.chunk (chunks_of stored))
+
+-- the entries have the nodes of the revisions
+pub nodes_of-agrees : (index data_bytes : List ℕ) (entries : List Entry) (revisions : List Revision) → Agrees index data_bytes entries revisions → nodes_of entries ≡ nodes revisions
+nodes_of-agrees index data_bytes entries revisions h = ap nodes_of h.entries_are ∙ nodes_of_items 0 [] h.held.stored ∙ ap nodes h.held.these
+
+-- the data ends where the entries say
+pub stored_sum-agrees : (index data_bytes : List ℕ) (entries : List Entry) (revisions : List Revision) → Agrees index data_bytes entries revisions → stored_sum entries ≡ length data_bytes
+stored_sum-agrees index data_bytes entries revisions h = ap stored_sum h.entries_are ∙ sum_of_items 0 [] h.held.stored ∙ ap length (sym h.held.data_is)
+
 pub length-agrees : (index data_bytes : List ℕ) (entries : List Entry) (revisions : List Revision) → Agrees index data_bytes entries revisions → length entries ≡ length revisions
 length-agrees index data_bytes entries revisions h =
-    let n = ap length h.nodes_are in
+    let n = ap length (nodes_of-agrees index data_bytes entries revisions h) in
     omega (arith, n, length-nodes_of entries, length-nodes_from [] revisions)
 
 -- the stored revision that an entry with its chunk and text is
@@ -39,11 +66,12 @@ stored_of e chunk text = record { revision = revision_of e text; chunk = chunk }
 entry_is : (index data_bytes : List ℕ) (entries : List Entry) (revisions : List Revision) (e : Entry) (chunk text : List ℕ)
     → Agrees index data_bytes entries revisions → e.offset ≡ stored_sum entries → IsWhole entries e chunk text → e ≡ entry_after (length data_bytes) (nodes revisions) (stored_of e chunk text)
 entry_is index data_bytes entries revisions e chunk text h offset w =
-    let o : e.offset ≡ length data_bytes = offset ∙ h.data_end in
+    let nodes_are = nodes_of-agrees index data_bytes entries revisions h in
+    let o : e.offset ≡ length data_bytes = offset ∙ stored_sum-agrees index data_bytes entries revisions h in
     let s : e.stored ≡ length chunk = sym w.stored in
     let z : e.size ≡ length text = sym w.size in
-    let b : e.base ≡ length (nodes revisions) = w.base ∙ sym (length-nodes_of entries) ∙ ap length h.nodes_are in
-    let n : e.node.0 ≡ node_after (nodes revisions) (revision_of e text) = w.node ∙ ap (λ known. node_hash (parent_node known e.p1) (parent_node known e.p2) text) h.nodes_are in
+    let b : e.base ≡ length (nodes revisions) = w.base ∙ sym (length-nodes_of entries) ∙ ap length nodes_are in
+    let n : e.node.0 ≡ node_after (nodes revisions) (revision_of e text) = w.node ∙ ap (λ known. node_hash (parent_node known e.p1) (parent_node known e.p2) text) nodes_are in
     λ i. record { offset = o i; flags = w.flags i; stored = s i; size = z i; base = b i; link = e.link; p1 = e.p1; p2 = e.p2; node = record { 0 = n i } }
 
 pub below : (rev : ℕ) (p : Option ℕ) → is_above rev p ≡ false → IfSome p (λ a. a < rev)
@@ -86,27 +114,23 @@ among_none (e ∷ entries) node h =
     let s = neither (same node e.node.0) (among node (nodes_of entries)) h in
     none_position (λ e. same e.node.0 node) e entries (swap_same node e.node.0 s.0) (among_none entries node s.1)
 
-nodes_last : (revisions : List Revision) (r : Revision) → nodes (revisions ++ r ∷ []) ≡ nodes revisions ++ node_after (nodes revisions) r ∷ []
-nodes_last revisions r = nodes_from-append [] revisions (r ∷ [])
-
 -- Behind bytes that hold revisions, an entry without fault and its chunk hold one more.
 pub agrees_on : (index data_bytes : List ℕ) (entries : List Entry) (revisions : List Revision) (e : Entry) (chunk text : List ℕ) (header : Header)
     → Agrees index data_bytes entries revisions → IsFaultless entries e → IsWhole entries e chunk text → Fits e None → header.inline ≡ false
     → Agrees (index ++ entry_bytes e (next_header revisions header)) (data_bytes ++ chunk) (entries ++ e ∷ []) (revisions ++ revision_of e text ∷ [])
 agrees_on index data_bytes entries revisions e chunk text header h f w fits separate =
     let s = stored_of e chunk text in
-    let is = entry_is index data_bytes entries revisions e chunk text h f.offset w in
+    let next = entry_after (length data_bytes) (nodes revisions) s in
+    let is : e ≡ next = entry_is index data_bytes entries revisions e chunk text h f.offset w in
     let len = length-agrees index data_bytes entries revisions h in
-    let node : e.node.0 ≡ node_after (nodes revisions) (revision_of e text) = ap (λ x. x.node.0) is in
     let fresh : among e.node.0 (null_node ∷ nodes revisions) ≡ false =
-    ap (λ known. same e.node.0 null_node || among e.node.0 known) (sym h.nodes_are)
+    ap (λ known. same e.node.0 null_node || among e.node.0 known) (sym (nodes_of-agrees index data_bytes entries revisions h))
     ∙ ap (λ b. b || among e.node.0 (nodes_of entries)) (swap_same null_node e.node.0 f.named) ∙ not_among entries e.node.0 f.fresh in
-    record {
-      held = subst (λ x. HoldsRevisions (index ++ entry_bytes x (next_header revisions header)) (data_bytes ++ chunk) (revisions ++ revision_of e text ∷ [])) (sym is)
-          (held-one-more index data_bytes revisions s header h.held separate w.spells
-          (subst (λ n. IfSome e.p1 (λ p. p < n)) len (below (length entries) e.p1 f.first)) (subst (λ n. IfSome e.p2 (λ p. p < n)) len (below (length entries) e.p2 f.second))
-          (subst (λ x. Fits x None) is fits)
-          (subst (λ n. among n (null_node ∷ nodes revisions) ≡ false) node fresh));
-      nodes_are = map-append (λ (x : Entry). x.node.0) entries (e ∷ []) ∙ ap (λ l. l ++ e.node.0 ∷ []) h.nodes_are ∙ ap (λ n. nodes revisions ++ n ∷ []) node ∙ sym (nodes_last revisions (revision_of e text));
-      data_end = (let sum = sum_push entries e in let sum_was = h.data_end in let stored = w.stored in omega (arith, sum, sum_was, stored, length-append data_bytes chunk));
-    }
+    let more = held-one-more index data_bytes revisions s header h.held separate w.spells
+    (subst (λ n. IfSome e.p1 (λ p. p < n)) len (below (length entries) e.p1 f.first)) (subst (λ n. IfSome e.p2 (λ p. p < n)) len (below (length entries) e.p2 f.second))
+    (subst (λ x. Fits x None) is fits)
+    (subst (λ x. among x.node.0 (null_node ∷ nodes revisions) ≡ false) is fresh) in
+    let entries_are : entries_of (items more.0.stored) ≡ entries_of (items h.held.stored) ++ next ∷ [] =
+    ap (λ l. entries_of (items l)) more.1 ∙ ap entries_of (items-more index data_bytes revisions h.held (s ∷ [])) ∙ map-append (λ (i : Item). i.entry) (items h.held.stored) _ in
+    subst (λ x. Agrees (index ++ entry_bytes x (next_header revisions header)) (data_bytes ++ chunk) (entries ++ x ∷ []) (revisions ++ revision_of e text ∷ [])) (sym is)
+    (record { held = more.0; entries_are = ap (λ l. l ++ next ∷ []) h.entries_are ∙ sym entries_are })

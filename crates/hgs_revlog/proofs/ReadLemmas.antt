@@ -30,7 +30,7 @@ use Rattle.hgs_revlog.proofs.LogLemmas.{equal_from_same, length-nodes_of}
 use Rattle.hgs_revlog.proofs.TestLemmas.{same_number, at_most}
 use Rattle.hgs_revlog.proofs.LoadLemmas.{IsFaultless, faultless, taken_entry}
 use Rattle.hgs_revlog.proofs.TailLemmas.{refuse_step, refuse_none}
-use Rattle.hgs_revlog.proofs.HeldLemmas.{IsWhole, below, length-agrees, agrees_on}
+use Rattle.hgs_revlog.proofs.HeldLemmas.{IsWhole, below, length-agrees, stored_sum-agrees, agrees_on}
 
 -- what a text that reads says of its entry
 pub record IsSound (all : List Entry) (rev : ℕ) (e : Entry) (chunk text : List ℕ) : Type 0 where
@@ -235,7 +235,7 @@ held_from (suc n) before end index bytes front rest revisions more entries h are
     let t = w.0 in
     let f = faultless before.entries e (taken_entry before.entries cell e s.1).1 in
     let c = take e.stored rest in
-    let chunk : chunk_in (front ++ rest) e ≡ c = ap (take e.stored) (drop_past front rest e.offset (f.offset ∙ h.data_end)) in
+    let chunk : chunk_in (front ++ rest) e ≡ c = ap (take e.stored) (drop_past front rest e.offset (f.offset ∙ stored_sum-agrees index front before.entries revisions h)) in
     let ok = whole_from before.entries r.0 e c t f (let l = length-take e.stored rest in omega (arith, l))
     (ap (λ es. text_of es (length before.entries) c) (sym there) ∙ ap (text_of end.entries (length before.entries)) (sym chunk) ∙ w.2) in
     let reads = read_entry before.entries cell e s.1 in
@@ -258,7 +258,7 @@ held_from (suc n) before end index bytes front rest revisions more entries h are
     }
 
 agrees_none : Agrees [] [] [] []
-agrees_none = record { held = held-none; nodes_are = refl; data_end = refl }
+agrees_none = record { held = held-none; entries_are = refl }
 
 -- An index that loads whole, whose texts read, holds with the front of the data what is read.
 pub loaded-front : (index data_bytes : List ℕ) (log : Log) (revisions : List Revision) → IsBytes index → loaded Refuse index ≡ Ok log → read_all log.entries data_bytes ≡ Ok revisions
@@ -271,5 +271,5 @@ pub loaded-held : (index data_bytes : List ℕ) (log : Log) (revisions : List Re
     → Agrees index data_bytes log.entries revisions
 loaded-held index data_bytes log revisions are load read last =
     let h = loaded-front index data_bytes log revisions are load read in
-    let none : h.left ≡ [] = empty h.left (let s = h.agrees.data_end in let d = ap length h.split in omega (arith, s, d, last, length-append h.used h.left)) in
+    let none : h.left ≡ [] = empty h.left (let s = stored_sum-agrees index h.used log.entries revisions h.agrees in let d = ap length h.split in omega (arith, s, d, last, length-append h.used h.left)) in
     subst (λ d. Agrees index d log.entries revisions) (sym (append-nil h.used) ∙ ap (λ l. h.used ++ l) (sym none) ∙ sym h.split) h.agrees

@@ -3,7 +3,6 @@ use Rattle.std.proofs.Common.{◌≡◌, ℕ, suc, ◌+◌, ◌/◌, ◌<◌, �
 use Rattle.std.specs.Prelude.{◌==◌, nat_lt, IfSome, flat_map}
 use Rattle.std.specs.List.{AllByRecursion, concat}
 use Rattle.std.proofs.lemmas.List.{length_push}
-use Rattle.std.proofs.lemmas.List.Sums.{sum_by-cons}
 use Rattle.std.proofs.Math.Seq.{take-append_seam, drop-append_seam}
 use Rattle.hgs_bytes.specs.Bytes.{same, among}
 use Rattle.hgs_index.specs.declared.entry.Entry.{Entry}
@@ -25,7 +24,7 @@ use Rattle.hgs_revlog.specs.Held.{AreWithinLimits, Agrees, chunk_in, with_text, 
 use Rattle.hgs_revlog.proofs.LogLemmas.{same_itself, sum_push, length-nodes_of}
 use Rattle.hgs_revlog.proofs.TestLemmas.{number_test, at_most_test}
 use Rattle.hgs_revlog.proofs.LoadLemmas.{IsFaultless, neither}
-use Rattle.hgs_revlog.proofs.HeldLemmas.{swap_same, among_none}
+use Rattle.hgs_revlog.proofs.HeldLemmas.{entries_of, swap_same, among_none}
 use Rattle.hgs_revlog.proofs.ReadLemmas.{parent_among, slice_get_seam}
 use Rattle.hgs_revlog.proofs.AddedLemmas.{not_above, taken_again}
 
@@ -34,9 +33,6 @@ revisions_of stored = map (λ s. s.revision) stored
 
 abbrev chunks_of : List Stored → List ℕ
 chunks_of stored = concat (map (λ s. s.chunk) stored)
-
-abbrev entries_of : List Item → List Entry
-entries_of items = map (λ i. i.entry) items
 
 -- ---- each node is new, and none is the null node
 
@@ -218,21 +214,6 @@ all_bytes : (h : Header) (is : List Item) → h.inline ≡ false → index_bytes
 all_bytes h [] separate = refl
 all_bytes h (i ∷ is) separate = ap (λ l. l ++ flat_map (item_bytes h None) is) (plain_item h (Some h) i separate) ∙ ap (λ l. entry_bytes i.entry (Some h) ++ l) (rest_bytes h is separate)
 
-nodes_of_items : (offset : ℕ) (known : List (List ℕ)) (stored : List Stored) → known ++ nodes_of (entries_of (items_from offset known stored)) ≡ nodes_from known (revisions_of stored)
-nodes_of_items offset known [] = append-nil known
-nodes_of_items offset known (s ∷ stored) =
-    let node = node_after known s.revision in
-    sym (append_assoc known (node ∷ []) (nodes_of (entries_of (items_from (offset + length s.chunk) (known ++ node ∷ []) stored)))) ∙ nodes_of_items (offset + length s.chunk) (known ++ node ∷ []) stored
-
-sum_of_items : (offset : ℕ) (known : List (List ℕ)) (stored : List Stored) → stored_sum (entries_of (items_from offset known stored)) ≡ length (chunks_of stored)
-sum_of_items offset known [] = refl
-sum_of_items offset known (s ∷ stored) =
-    let node = node_after known s.revision in
-    let more = entries_of (items_from (offset + length s.chunk) (known ++ node ∷ []) stored) in
-    let head = sum_by-cons (λ (e : Entry). e.stored) (entry_after offset known s) more in
-    let tail = sum_of_items (offset + length s.chunk) (known ++ node ∷ []) stored in
-    omega (arith, head, tail, length-append s.chunk (chunks_of stored))
-
 length_revisions : (stored : List Stored) → length (revisions_of stored) ≡ length stored
 length_revisions [] = refl
 length_revisions (s ∷ stored) = ap suc (length_revisions stored)
@@ -263,4 +244,4 @@ held-loaded index data_bytes rest revisions h limits =
     ∙ loads_from (record { inline = false; entries = [] }) (Some h.header) stored next h.separate (λ s. refl) (λ z. refl) in
     let read : read_all (entries_of is) (data_bytes ++ rest) ≡ Ok revisions =
     ap (λ d. read_all (entries_of is) (d ++ rest)) h.data_is ∙ reads_from [] [] rest stored refl earlier h.texts ∙ ap (λ rs. Ok rs) h.these in
-    (log, load, read, record { held = h; nodes_are = nodes_of_items 0 [] stored ∙ ap nodes h.these; data_end = sum_of_items 0 [] stored ∙ data_len })
+    (log, load, read, record { held = h; entries_are = refl })

@@ -13,30 +13,31 @@ use Rattle.hgs_index.proofs.RevlogLemmas.{length-held}
 use Rattle.hgs_revlog.specs.declared.add.Added.TheVariants.{Old}
 use Rattle.hgs_revlog.specs.declared.fault.RevFault.TheVariants.{Collision}
 use Rattle.hgs_revlog.specs.declared.fault.Tail.TheVariants.{Ignore, Refuse, Until}
-use Rattle.hgs_revlog.specs.Log.{Log, nodes_of, place_of}
+use Rattle.hgs_revlog.specs.Log.{Log, place_of}
 use Rattle.hgs_revlog.specs.Load.{loaded}
 use Rattle.hgs_revlog.specs.Text.{text_of}
 use Rattle.hgs_revlog.specs.Add.{added, added_at, matched, next_entry, parents_of}
 use Rattle.hgs_revlog.specs.Held.{AreWithinLimits, Agrees, EndsFirstAt, chunk_in, revision_of, read_from, read_all}
-use Rattle.hgs_revlog.proofs.HeldLemmas.{length-agrees}
-use Rattle.hgs_revlog.proofs.ReadLemmas.{HeldFront, loaded-front, bytes_take, with_text_ok}
+use Rattle.hgs_revlog.proofs.HeldLemmas.{length-agrees, nodes_of-agrees}
+use Rattle.hgs_revlog.proofs.ReadLemmas.{loaded-front, bytes_take, with_text_ok}
 use Rattle.hgs_revlog.proofs.StandingLemmas.{held-loaded, first_of}
 use Rattle.hgs_revlog.proofs.TailLemmas.{ignore-refuse, until-refuse, refuse-until}
 
 -- the front of an index that loads, whose texts read
 begins_from : (n : ℕ) (index data_bytes : List ℕ) (log : Log) (revisions : List Revision) → IsBytes index → loaded Refuse (take n index) ≡ Ok log → read_all log.entries data_bytes ≡ Ok revisions
-    → BeginsWithRevisions index data_bytes revisions × HeldFront (take n index) data_bytes log.entries revisions
+    → (begins : BeginsWithRevisions index data_bytes revisions) × Agrees begins.index_front begins.data_front log.entries revisions × (begins.index_front ≡ take n index)
 begins_from n index data_bytes log revisions are load read =
     let h = loaded-front (take n index) data_bytes log revisions (bytes_take n index are) load read in
-    (record { index_front = take n index; data_front = h.used; held = h.agrees.held; index_begins = (drop n index, sym (take-append-drop n index)); data_begins = (h.left, h.split) }, h)
+    (record { index_front = take n index; data_front = h.used; held = h.agrees.held; index_begins = (drop n index, sym (take-append-drop n index)); data_begins = (h.left, h.split) }, h.agrees, refl)
 
 pub ignored-held : (index data_bytes : List ℕ) (log : Log) (revisions : List Revision) → IsBytes index → loaded Ignore index ≡ Ok log → read_all log.entries data_bytes ≡ Ok revisions
-    → BeginsWithRevisions index data_bytes revisions × (length revisions ≡ length index / 64)
+    → (begins : BeginsWithRevisions index data_bytes revisions) × Agrees begins.index_front begins.data_front log.entries revisions × (length revisions ≡ length index / 64)
 ignored-held index data_bytes log revisions are load read =
     let b = begins_from (64 * (length index / 64)) index data_bytes log revisions are (sym (ignore-refuse index) ∙ load) read in
-    let whole = length-held (take (64 * (length index / 64)) index) b.1.used revisions b.1.agrees.held in
+    let whole = length-held b.0.index_front b.0.data_front revisions b.0.held in
+    let front = ap length b.2 in
     let len = length-take (64 * (length index / 64)) index in
-    (b.0, omega (arith, whole, len))
+    (b.0, b.1, omega (arith, whole, front, len))
 
 -- what a front of the bytes gives
 front_loaded : (index data_bytes : List ℕ) (revisions : List Revision) (b : BeginsWithRevisions index data_bytes revisions) → AreWithinLimits revisions data_bytes
@@ -47,14 +48,14 @@ front_loaded index data_bytes revisions b limits =
     let h = held-loaded b.index_front b.data_front b.data_begins.0 revisions b.held front in
     (h.0, h.1, ap (read_all h.0.entries) b.data_begins.1 ∙ h.2, h.3)
 
-pub held-ignored : (index data_bytes : List ℕ) (revisions : List Revision) → BeginsWithRevisions index data_bytes revisions → length revisions ≡ length index / 64 → AreWithinLimits revisions data_bytes
-    → (log : Log) × (loaded Ignore index ≡ Ok log) × (read_all log.entries data_bytes ≡ Ok revisions) × (nodes_of log.entries ≡ nodes revisions)
+pub held-ignored : (index data_bytes : List ℕ) (revisions : List Revision) → (begins : BeginsWithRevisions index data_bytes revisions) → length revisions ≡ length index / 64 → AreWithinLimits revisions data_bytes
+    → (log : Log) × (loaded Ignore index ≡ Ok log) × (read_all log.entries data_bytes ≡ Ok revisions) × Agrees begins.index_front begins.data_front log.entries revisions
 held-ignored index data_bytes revisions b all limits =
     let h = front_loaded index data_bytes revisions b limits in
     let len = length-held b.index_front b.data_front revisions b.held in
     let front : take (64 * (length index / 64)) index ≡ b.index_front =
     ap (take (64 * (length index / 64))) b.index_begins.1 ∙ first_of b.index_front b.index_begins.0 (64 * (length index / 64)) (omega (arith, len, all)) in
-    (h.0, ignore-refuse index ∙ ap (loaded Refuse) front ∙ h.1, h.2, h.3.nodes_are)
+    (h.0, ignore-refuse index ∙ ap (loaded Refuse) front ∙ h.1, h.2, h.3)
 
 -- the first place in a list of values is that of what they come from
 pub position_map : {A B : Type 0} (f : A → B) (p : B → Bool) (xs : List A) → position p (map f xs) ≡ position (λ x. p (f x)) xs
@@ -69,23 +70,23 @@ position_map {A = A} f p xs = ap (λ n. cond (nat_lt n (length (map f xs))) (Som
     places (x ∷ xs) = ap (λ n. cond (not (p (f x))) (1 + n) 0) (places xs)
 
 place-ends : (index data_bytes : List ℕ) (entries : List Entry) (revisions : List Revision) (node : List ℕ) → Agrees index data_bytes entries revisions → place_of entries node ≡ position (λ n. same n node) (nodes revisions)
-place-ends index data_bytes entries revisions node h = sym (position_map (λ (e : Entry). e.node.0) (λ n. same n node) entries) ∙ ap (position (λ n. same n node)) h.nodes_are
+place-ends index data_bytes entries revisions node h = sym (position_map (λ (e : Entry). e.node.0) (λ n. same n node) entries) ∙ ap (position (λ n. same n node)) (nodes_of-agrees index data_bytes entries revisions h)
 
 pub until-held : (index data_bytes : List ℕ) (log : Log) (revisions : List Revision) (node : Node) → IsBytes index → loaded (Until node) index ≡ Ok log → read_all log.entries data_bytes ≡ Ok revisions
-    → BeginsWithRevisions index data_bytes revisions × EndsFirstAt node.0 revisions
+    → (begins : BeginsWithRevisions index data_bytes revisions) × Agrees begins.index_front begins.data_front log.entries revisions × EndsFirstAt node.0 revisions
 until-held index data_bytes log revisions node are load read =
     let u = until-refuse index log node load in
     let b = begins_from (64 * length log.entries) index data_bytes log revisions are u.0 read in
-    let len = length-agrees (take (64 * length log.entries) index) b.1.used log.entries revisions b.1.agrees in
-    (b.0, sym (place-ends (take (64 * length log.entries) index) b.1.used log.entries revisions node.0 b.1.agrees) ∙ u.1 ∙ ap (λ n. Some (n - 1)) len)
+    let len = length-agrees b.0.index_front b.0.data_front log.entries revisions b.1 in
+    (b.0, b.1, sym (place-ends b.0.index_front b.0.data_front log.entries revisions node.0 b.1) ∙ u.1 ∙ ap (λ n. Some (n - 1)) len)
 
-pub held-until : (index data_bytes : List ℕ) (revisions : List Revision) (node : Node) → BeginsWithRevisions index data_bytes revisions → EndsFirstAt node.0 revisions → AreWithinLimits revisions data_bytes
-    → (log : Log) × (loaded (Until node) index ≡ Ok log) × (read_all log.entries data_bytes ≡ Ok revisions) × (nodes_of log.entries ≡ nodes revisions)
+pub held-until : (index data_bytes : List ℕ) (revisions : List Revision) (node : Node) → (begins : BeginsWithRevisions index data_bytes revisions) → EndsFirstAt node.0 revisions → AreWithinLimits revisions data_bytes
+    → (log : Log) × (loaded (Until node) index ≡ Ok log) × (read_all log.entries data_bytes ≡ Ok revisions) × Agrees begins.index_front begins.data_front log.entries revisions
 held-until index data_bytes revisions node b ends limits =
     let h = front_loaded index data_bytes revisions b limits in
     let len = length-agrees b.index_front b.data_front h.0.entries revisions h.3 in
     let last = place-ends b.index_front b.data_front h.0.entries revisions node.0 h.3 ∙ ends ∙ ap (λ n. Some (n - 1)) (sym len) in
-    (h.0, ap (loaded (Until node)) b.index_begins.1 ∙ refuse-until b.index_front b.index_begins.0 h.0 node h.1 last, h.2, h.3.nodes_are)
+    (h.0, ap (loaded (Until node)) b.index_begins.1 ∙ refuse-until b.index_front b.index_begins.0 h.0 node h.1 last, h.2, h.3)
 
 -- ---- a revision that stands
 

@@ -1,12 +1,11 @@
 -- What a loaded index and its data file say of revisions.
-use Rattle.std.specs.Prelude.{◌≡◌, ℕ, suc, ◌-◌, ◌≤◌, position, Some, List, [], ◌∷◌, length, take, drop, Result, Ok, Err}
+use Rattle.std.specs.Prelude.{◌≡◌, ℕ, suc, ◌-◌, ◌≤◌, position, Some, List, [], ◌∷◌, length, take, drop, Result, Ok, Err, map}
 use Rattle.std.specs.List.{AllByRecursion}
 use Rattle.hgs_bytes.specs.Bytes.{same}
 use Rattle.hgs_index.specs.declared.entry.Entry.{Entry}
 use Rattle.hgs_index.specs.Revision.{Revision, nodes}
-use Rattle.hgs_index.specs.Revlog.{HoldsRevisions}
+use Rattle.hgs_index.specs.Revlog.{HoldsRevisions, items}
 use Rattle.hgs_revlog.specs.declared.fault.RevFault.{RevFault}
-use Rattle.hgs_revlog.specs.Log.{nodes_of, stored_sum}
 use Rattle.hgs_revlog.specs.Load.{most_revisions, most_text, most_data}
 use Rattle.hgs_revlog.specs.Text.{text_of}
 
@@ -42,8 +41,7 @@ pub record AreWithinLimits (revisions : List Revision) (data_bytes : List ℕ) :
 abbrev pub EndsFirstAt : List ℕ → List Revision → Type 0
 EndsFirstAt node revisions = position (λ n. same n node) (nodes revisions) ≡ Some (length revisions - 1)
 
--- Bytes hold these revisions, the entries have their nodes, and the data ends where the entries say.
+-- Bytes hold these revisions, and the entries are those of the index, in every field.
 pub record Agrees (index data_bytes : List ℕ) (entries : List Entry) (revisions : List Revision) : Type 0 where
   pub held : HoldsRevisions index data_bytes revisions
-  pub nodes_are : nodes_of entries ≡ nodes revisions
-  pub data_end : stored_sum entries ≡ length data_bytes
+  pub entries_are : entries ≡ map (λ i. i.entry) (items held.stored)

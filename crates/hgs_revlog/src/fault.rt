@@ -6,6 +6,7 @@ use hgs_index::entry::EntryFault;
 use hgs_index::kinds::Which;
 use hgs_index::node::Node;
 use std::alloc::{AllocError, AllocFailed};
+use thiserror::Error;
 
 /// How the end of an index is taken.
 #[derive(Clone, Copy, Debug, PartialEq, Eq)]
@@ -19,37 +20,52 @@ pub enum Tail {
 }
 
 /// The first fault of a revlog. The numbers are revisions.
-#[derive(Clone, Copy, Debug, PartialEq, Eq)]
+#[derive(Clone, Copy, Debug, PartialEq, Eq, Error)]
 pub enum RevFault {
     /// The 64 bytes are no entry.
+    #[error("revision {0}: {1}")]
     Entry(u32, EntryFault),
     /// The chunk is compressed, which is not read.
+    #[error("the chunk of revision {0} is compressed")]
     Compressed(u32),
     /// The chunk is a difference to another revision.
+    #[error("the chunk of revision {0} is a difference")]
     Delta(u32),
     /// The entry has flags, which are not read.
+    #[error("revision {0} has flags")]
     Flagged(u32),
     /// The chunk ends before its stored length.
+    #[error("the chunk of revision {0} is cut short")]
     Short(u32),
     /// The text has another length than the entry says.
+    #[error("the text of revision {0} has another length than its entry says")]
     Length(u32),
     /// The text and the parents give another node.
+    #[error("the text of revision {0} has another node")]
     Hash(u32),
     /// A parent does not come before the revision.
+    #[error("a parent of revision {0} does not come before it")]
     Parent(u32),
     /// The new node stands with another text or other parents.
+    #[error("revision {0} has the node with another text or other parents")]
     Collision(u32),
     /// A quantity is above its limit.
+    #[error("limit {number} is passed", number = .0.number())]
     Limit(Which),
     /// There is no memory.
+    #[error("out of memory")]
     Memory,
     /// The offset is not the sum of the stored lengths before it.
+    #[error("the chunk of revision {0} does not begin where the one before ends")]
     Offset(u32),
     /// An earlier entry has the same node, or it is the null node.
+    #[error("the node of revision {0} is taken")]
     Twice(u32),
     /// The index ends inside an entry; the number is the count of the whole ones.
+    #[error("the index ends inside an entry, after {0} whole ones")]
     Tail(u32),
     /// No whole entry has the node.
+    #[error("no entry has the node")]
     Missing,
 }
 

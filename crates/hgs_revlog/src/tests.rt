@@ -3,8 +3,10 @@ use crate::add::Added;
 use crate::fault::{RevFault, Tail};
 use crate::revlog::Revlog;
 use hgs_index::entry::EntryFault;
+use hgs_index::kinds::Which;
 use hgs_index::node::{Node, node_of};
 use std::alloc::Global;
+use std::fmt::InlineText;
 use std::test::Fail;
 
 // The first three entries of a changelog, and their chunks.
@@ -199,4 +201,23 @@ fn adds_then_finds(rt: HostRuntime) -> Result<(), Fail> {
         _ => assert!(rt; false, "not found"),
     }
     Ok(())
+}
+
+#[test]
+fn a_fault_says_what_it_is(rt: HostRuntime) {
+    let cases = [
+        (
+            RevFault::Entry(3, EntryFault::Padding),
+            "revision 3: a byte without meaning is not zero",
+        ),
+        (
+            RevFault::Compressed(0),
+            "the chunk of revision 0 is compressed",
+        ),
+        (RevFault::Limit(Which::Text), "limit 4 is passed"),
+    ];
+    for (fault, line) in cases {
+        let text: InlineText<64> = InlineText::of(fault);
+        assert_eq!(rt; text.as_str(), line);
+    }
 }

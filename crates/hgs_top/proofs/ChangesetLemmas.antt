@@ -1,23 +1,19 @@
 -- The changesets of a history, one by one.
-use Rattle.std.proofs.Common.{◌≡◌, ℕ, zero, suc, ◌+◌, ◌*◌, ◌/◌, ◌≤◌, List, [], ◌∷◌, length, Option, Some, Ok, refl, sym, ◌∙◌, ap, subst, arith}
+use Rattle.std.proofs.Common.{◌≡◌, ℕ, zero, suc, ◌+◌, List, [], ◌∷◌, length, Option, Some, Ok, refl, sym, ◌∙◌, ap, subst, arith}
 use Rattle.std.specs.Prelude.{slice_get}
 use Rattle.std.specs.List.{AllByRecursion}
-use Rattle.std.proofs.lemmas.List.{take_all}
 use Rattle.hgs_files.specs.Tree.{Tree, bytes_at}
 use Rattle.hgs_index.specs.declared.entry.Entry.{Entry}
 use Rattle.hgs_index.specs.Revision.{Revision, nodes}
-use Rattle.hgs_revlog.specs.Held.{AreWithinLimits, chunk_in, read_all}
-use Rattle.hgs_revlog.specs.Log.{Log}
+use Rattle.hgs_revlog.specs.Held.{AreWithinLimits, chunk_in}
 use Rattle.hgs_revlog.specs.Text.{text_of}
-use Rattle.hgs_revlog.proofs.TailHeldLemmas.{held-ignored}
 use Rattle.hgs_reader.specs.Asks.{at_rest}
 use Rattle.hgs_reader.specs.Line.{chunk_asks, change_asks, change_at, change_of_chunk, change_of_text}
-use Rattle.hgs_reader.specs.View.{View, changelog_data, changelog_index, most_pieces, piece_length, log_answer}
-use Rattle.hgs_reader.specs.Open.{open_asks, log_of}
+use Rattle.hgs_reader.specs.View.{View, changelog_data}
+use Rattle.hgs_reader.specs.Open.{open_asks}
 use Rattle.hgs_reader.proofs.HeldLemmas.{part_is, read_there, read_length}
 use Rattle.hgs_top.specs.History.{Changeset, HoldsHistory, IsRead, revisions_of, Opens}
-use Rattle.hgs_top.proofs.HistoryLemmas.{pieces_read, front_of, few_pieces}
-use Rattle.hgs_top.proofs.OpenLemmas.{opening}
+use Rattle.hgs_top.proofs.HistoryLemmas.{history-opens}
 
 some_is : {A : Type 0} (x y : A) → Some x ≡ Some y → x ≡ y
 some_is x y e = cc
@@ -48,20 +44,14 @@ change_at_rest t view rev e c at text reads =
 pub history-changesets : (t : Tree) (history : List Changeset) → HoldsHistory t history → Opens t (nodes (revisions_of history)) → AreWithinLimits (revisions_of history) (bytes_at t changelog_data)
     → (view : View) × (at_rest t open_asks ≡ Ok view) × (length view.changelog.entries ≡ length history) × ((rev : ℕ) (c : Changeset) → slice_get history rev ≡ Some c → at_rest t (change_asks view rev) ≡ Ok c.change)
 history-changesets t history h opens within =
-    let index = bytes_at t changelog_index in
     let data_bytes = bytes_at t changelog_data in
-    let loads = held-ignored index data_bytes (revisions_of history) h.held h.whole within in
-    let few : length index / 64 ≤ 1000000 = (let a = h.whole in let b = within.few in omega (arith, a, b)) in
-    let room = few_pieces (length index) few in
-    let all : front_of index ≡ index = take_all (most_pieces * piece_length) index (omega (arith, room)) in
-    let o = opening t loads.0 (nodes (revisions_of history)) (pieces_read t ∙ ap log_of all ∙ ap (log_answer changelog_index) loads.1) loads.3 opens in
-    let read : read_all o.0.changelog.entries data_bytes ≡ Ok (revisions_of history) = ap (λ (l : Log). read_all l.entries data_bytes) o.2 ∙ loads.2 in
+    let o = history-opens t history h opens within in
     let entries = o.0.changelog.entries in (
       o.0,
       o.1,
-      sym (read_length entries entries data_bytes 0 (revisions_of history) read) ∙ count_map history,
+      sym (read_length entries entries data_bytes 0 (revisions_of history) o.2) ∙ count_map history,
       λ rev c found.
-          let there = read_there entries entries data_bytes 0 rev (revisions_of history) c.revision read (get_map history rev c found) in
+          let there = read_there entries entries data_bytes 0 rev (revisions_of history) c.revision o.2 (get_map history rev c found) in
           let from_first : 0 + rev ≡ rev = omega arith in
           change_at_rest t o.0 rev there.0 c there.1 (ap (λ n. text_of entries n (chunk_in data_bytes there.0)) (sym from_first) ∙ there.2) (read_at history rev c h.read found),
     )

@@ -21,7 +21,8 @@ use Rattle.hgs_revlog.specs.declared.fault.Tail.TheVariants.{Ignore, Refuse}
 use Rattle.hgs_revlog.specs.Load.{loaded, load_from, most_revisions}
 use Rattle.hgs_revlog.specs.Log.{Log, nodes_of, with_entry}
 use Rattle.hgs_revlog.specs.Text.{text_of}
-use Rattle.hgs_revlog.proofs.ReadLemmas.{with_text_ok, slice_get_seam, loaded-front, bytes_take}
+use Rattle.hgs_revlog.proofs.HeldLemmas.{nodes_of-agrees}
+use Rattle.hgs_revlog.proofs.ReadLemmas.{with_text_ok, slice_get_seam}
 use Rattle.hgs_revlog.proofs.TailHeldLemmas.{held-ignored, ignored-held}
 use Rattle.hgs_revlog.proofs.TailLemmas.{ignore-refuse, refuse_step, refuse_none, load_length}
 use Rattle.hgs_revlog.proofs.LoadLemmas.{taken_entry}
@@ -78,13 +79,13 @@ pieces_front {A} t path (suc left) bytes rest more e =
     by false h on = on ∙ ap (λ l. at_rest t (more l)) (append_assoc bytes (take piece_length rest) (take (left * piece_length) (drop piece_length rest)) ∙ ap (λ l. bytes ++ l) (sym (take-add piece_length (left * piece_length) rest)))
 
 -- as much of a file as is read
-abbrev pub front_of : List ℕ → List ℕ
+abbrev front_of : List ℕ → List ℕ
 front_of index = take (most_pieces * piece_length) index
 
-pub pieces_read : (t : Tree) → at_rest t log_asks ≡ log_of (front_of (bytes_at t changelog_index))
+pieces_read : (t : Tree) → at_rest t log_asks ≡ log_of (front_of (bytes_at t changelog_index))
 pieces_read t = pieces_front t changelog_index most_pieces [] (bytes_at t changelog_index) (λ index. answer (log_of index)) refl
 
-pub few_pieces : (n : ℕ) → n / 64 ≤ 1000000 → n < most_pieces * piece_length
+few_pieces : (n : ℕ) → n / 64 ≤ 1000000 → n < most_pieces * piece_length
 few_pieces n h = let e : n < 64 * (n / 64 + 1) = lt-mul-div-succ n (omega arith) in omega (arith, e, h)
 
 -- ---- the lines
@@ -184,16 +185,24 @@ lines_are t view history texts nodes_are reads =
     ∙ down_from (λ rev. at_rest t (line_asks view rev)) (nodes_of entries) 0 history lines
     ∙ ap (λ l. let all : Outcome = record { text = l; refusal = None } in all) (append-nil (lines_from (nodes_of entries) 0 history) ∙ ap (λ known. lines_from known 0 history) nodes_are)
 
-pub history-log : (t : Tree) (history : List Changeset) → HoldsHistory t history → Opens t (nodes (revisions_of history)) → AreWithinLimits (revisions_of history) (bytes_at t changelog_data) → log_outcome t ≡ record { text = history_text history; refusal = None }
-history-log t history h opens within =
+-- over files that hold a history a load gives a view of it
+pub history-opens : (t : Tree) (history : List Changeset) → HoldsHistory t history → Opens t (nodes (revisions_of history)) → AreWithinLimits (revisions_of history) (bytes_at t changelog_data)
+    → (view : View) × (at_rest t open_asks ≡ Ok view) × (read_all view.changelog.entries (bytes_at t changelog_data) ≡ Ok (revisions_of history)) × (nodes_of view.changelog.entries ≡ nodes (revisions_of history))
+history-opens t history h opens within =
     let index = bytes_at t changelog_index in
     let data_bytes = bytes_at t changelog_data in
     let loads = held-ignored index data_bytes (revisions_of history) h.held h.whole within in
+    let nodes_are = nodes_of-agrees h.held.index_front h.held.data_front loads.0.entries (revisions_of history) loads.3 in
     let few : length index / 64 ≤ 1000000 = (let a = h.whole in let b = within.few in omega (arith, a, b)) in
     let room = few_pieces (length index) few in
     let all : front_of index ≡ index = take_all (most_pieces * piece_length) index (omega (arith, room)) in
-    let o = opening t loads.0 (nodes (revisions_of history)) (pieces_read t ∙ ap log_of all ∙ ap (log_answer changelog_index) loads.1) loads.3 opens in
-    ap (log_of_view t) o.1 ∙ lines_are t o.0 history (ap (λ (l : Log). read_all l.entries data_bytes) o.2 ∙ loads.2) (ap (λ (l : Log). nodes_of l.entries) o.2 ∙ loads.3) h.read
+    let o = opening t loads.0 (nodes (revisions_of history)) (pieces_read t ∙ ap log_of all ∙ ap (log_answer changelog_index) loads.1) nodes_are opens in
+    (o.0, o.1, ap (λ (l : Log). read_all l.entries data_bytes) o.2 ∙ loads.2, ap (λ (l : Log). nodes_of l.entries) o.2 ∙ nodes_are)
+
+pub history-log : (t : Tree) (history : List Changeset) → HoldsHistory t history → Opens t (nodes (revisions_of history)) → AreWithinLimits (revisions_of history) (bytes_at t changelog_data) → log_outcome t ≡ record { text = history_text history; refusal = None }
+history-log t history h opens within =
+    let o = history-opens t history h opens within in
+    ap (log_of_view t) o.1 ∙ lines_are t o.0 history o.2 o.3 h.read
 
 -- ---- the other direction
 
@@ -287,9 +296,8 @@ log-history t are none = by (at_rest t open_asks) refl none
         let load : loaded Ignore index ≡ Ok view.changelog = ap (loaded Ignore) (sym all) ∙ front_load in
         let told = history_of t view [] view.changelog.entries refl (lines_ok (λ rev. at_rest t (line_asks view rev)) (length view.changelog.entries) h) in
         let held = ignored-held index data_bytes view.changelog (revisions_of told.0) are load told.1 in
-        let whole = take (64 * (length index / 64)) index in
-        let front = loaded-front whole data_bytes view.changelog (revisions_of told.0) (bytes_take (64 * (length index / 64)) index are) (sym (ignore-refuse index) ∙ load) told.1 in (
+        let nodes_are = nodes_of-agrees held.0.index_front held.0.data_front view.changelog.entries (revisions_of told.0) held.1 in (
           told.0,
-          record { held = held.0; whole = held.1; read = told.2 },
-          ap (λ (o : Outcome). o.text) (lines_are t view told.0 told.1 front.agrees.nodes_are told.2),
+          record { held = held.0; whole = held.2; read = told.2 },
+          ap (λ (o : Outcome). o.text) (lines_are t view told.0 told.1 nodes_are told.2),
         )

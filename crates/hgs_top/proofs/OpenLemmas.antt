@@ -1,18 +1,14 @@
 -- What is loaded of a repository at rest.
-use Rattle.std.proofs.Common.{◌≡◌, ℕ, suc, ◌+◌, Bool, true, false, cond, List, [], ◌∷◌, length, map, Option, Some, None, Result, Ok, Err, refl, sym, ◌∙◌, ap, inl, inr}
-use Rattle.std.specs.Prelude.{not, nat_lt, position}
-use Rattle.std.specs.List.{position_or_len}
+use Rattle.std.proofs.Common.{◌≡◌, ℕ, Bool, true, false, cond, List, Option, Some, None, Ok, refl, sym, ◌∙◌, ap, inl, inr}
+use Rattle.std.specs.Prelude.{position}
 use Rattle.hgs_bytes.specs.Bytes.{same}
 use Rattle.hgs_files.specs.Tree.{Tree}
 use Rattle.hgs_index.specs.declared.entry.Entry.{Entry}
 use Rattle.hgs_index.specs.Node.{null_node}
-use Rattle.hgs_marks.specs.Bookmarks.{Mark}
-use Rattle.hgs_phases.specs.declared.roots.Root.{Root}
 use Rattle.hgs_phases.specs.Phases.{phases_by}
 use Rattle.hgs_revlog.specs.Log.{Log, nodes_of, place_of}
-use Rattle.hgs_reader.specs.declared.answer.ReadAnswer.{ReadAnswer}
-use Rattle.hgs_reader.specs.Asks.{Asks, answer, read, part_of, at_rest, then_asks}
-use Rattle.hgs_reader.specs.Marks.{Working, known_parent, parent_answer, both_parents, working_answer}
+use Rattle.hgs_reader.specs.Asks.{answer, at_rest, then_asks}
+use Rattle.hgs_reader.specs.Marks.{known_parent, parent_answer, both_parents, working_answer}
 use Rattle.hgs_reader.specs.Open.{requires_asks, bookmarks_asks, dirstate_asks, log_asks, roots_asks, view_with, view_of, open_asks}
 use Rattle.hgs_reader.specs.View.{View}
 use Rattle.hgs_revlog.proofs.TailHeldLemmas.{position_map}
