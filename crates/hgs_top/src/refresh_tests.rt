@@ -49,19 +49,54 @@ const PLAIN_TOLD: &[u8] = b"1 37bdf19219c0e69b87d6371fabfaf5c3a63794d9\npublic";
 const BOTH_TOLD: &[u8] =
     b"1 37bdf19219c0e69b87d6371fabfaf5c3a63794d9\nnew\t1\t37bdf19219c0e69b87d6371fabfaf5c3a63794d9\ndraft";
 
-#[test]
-fn a_refresh_sees_what_was_published(rt: HostRuntime) -> Result<(), Fail> {
-    let alloc = rt.alloc();
-    let mut files = store_of(alloc, false)?;
-    let mut session = Session::open(alloc, &mut files)?;
-    assert_eq!(rt; told(alloc, &session)?.as_slice(), FIRST_TOLD);
+/// The store of both changesets with a draft and a bookmark. It lacks `requires`, which a refresh does not read again.
+fn published(alloc: Global) -> Result<MemFiles, Fail> {
     let mut files = store_of(alloc, true)?;
     set(alloc, &mut files, b"store/phaseroots", DRAFT)?;
     set(alloc, &mut files, b"bookmarks", MARK)?;
-    // `requires` is not read again
     files.remove(&StorePath::new(alloc, b"requires")?)?;
-    session.refresh(&mut files)?;
-    assert_eq!(rt; told(alloc, &session)?.as_slice(), BOTH_TOLD);
+    Ok(files)
+}
+
+/// The store of both changesets with other bytes at a path.
+fn damaged(alloc: Global, path: &[u8], bytes: &[u8]) -> Result<MemFiles, Fail> {
+    let mut files = store_of(alloc, true)?;
+    set(alloc, &mut files, path, bytes)?;
+    Ok(files)
+}
+
+/// The line of the refusal with which a refresh ends; empty where there is none.
+fn refused(alloc: Global, session: &mut Session, files: &mut MemFiles) -> Result<Vec<u8>, Fail> {
+    let mut line = Vec::new(alloc);
+    match session.refresh(files) {
+        Ok(()) => {}
+        Err(refusal) => refusal.print(alloc, &mut line)?,
+    }
+    Ok(line)
+}
+
+/// What a session over the first files tells before it is refreshed from the second, the line of the refresh, and what it
+/// tells after.
+fn around(
+    alloc: Global,
+    first: &mut MemFiles,
+    second: &mut MemFiles,
+) -> Result<[Vec<u8>; 3], Fail> {
+    let mut session = Session::open(alloc, first)?;
+    let before = told(alloc, &session)?;
+    let line = refused(alloc, &mut session, second)?;
+    let after = told(alloc, &session)?;
+    Ok([before, line, after])
+}
+
+#[test]
+fn a_refresh_sees_what_was_published(rt: HostRuntime) -> Result<(), Fail> {
+    let alloc = rt.alloc();
+    let mut first = store_of(alloc, false)?;
+    let [before, refusal, after] = around(alloc, &mut first, &mut published(alloc)?)?;
+    assert_eq!(rt; before.as_slice(), FIRST_TOLD);
+    assert_eq!(rt; refusal.as_slice(), b"".as_slice());
+    assert_eq!(rt; after.as_slice(), BOTH_TOLD);
     Ok(())
 }
 
@@ -87,32 +122,16 @@ const CASES: [Case; 3] = [
     ),
 ];
 
-/// The line of the refusal with which a refresh ends; empty where there is none.
-fn refused(alloc: Global, session: &mut Session, files: &mut MemFiles) -> Result<Vec<u8>, Fail> {
-    let mut line = Vec::new(alloc);
-    match session.refresh(files) {
-        Ok(()) => {}
-        Err(refusal) => refusal.print(alloc, &mut line)?,
-    }
-    Ok(line)
-}
-
-/// What a session tells before a refresh and after it, and the line of the refresh between.
-fn around(alloc: Global, path: &[u8], bytes: &[u8]) -> Result<[Vec<u8>; 3], Fail> {
-    let mut files = store_of(alloc, true)?;
-    let mut session = Session::open(alloc, &mut files)?;
-    let before = told(alloc, &session)?;
-    set(alloc, &mut files, path, bytes)?;
-    let line = refused(alloc, &mut session, &mut files)?;
-    let after = told(alloc, &session)?;
-    Ok([before, line, after])
-}
-
 #[test]
 fn a_refused_refresh_changes_nothing(rt: HostRuntime) -> Result<(), Fail> {
     let alloc = rt.alloc();
     for (path, bytes, line) in CASES {
-        let [before, refusal, after] = around(alloc, path, bytes)?;
+        let mut first = store_of(alloc, true)?;
+        let [before, refusal, after] = around(
+            alloc,
+            &mut first,
+            &mut damaged(alloc, path, bytes)?,
+        )?;
         assert_eq!(rt; before.as_slice(), PLAIN_TOLD);
         assert_eq!(rt; refusal.as_slice(), line);
         assert_eq!(rt; after.as_slice(), PLAIN_TOLD);

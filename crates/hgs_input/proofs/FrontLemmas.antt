@@ -1,0 +1,290 @@
+-- What is read of a front of an input: the same as of the whole, or that it is cut.
+use Rattle.std.proofs.Common.{◌≡◌, ◌⊎◌, inl, inr, ℕ, zero, suc, ◌+◌, ◌<◌, ◌≤◌, Bool, true, false, List, [], ◌∷◌, ◌++◌, length, take, drop, Option, Some, None, Result, Ok, Err, refl, sym, ◌∙◌, ap, subst, arith, append_assoc, length-append, codes}
+use Rattle.std.specs.Prelude.{◌==◌, nat_le, slice_index, if◌then◌else◌}
+use Rattle.std.specs.Str.{is_utf8}
+use Rattle.std.proofs.Math.ListN.{get_or-append}
+use Rattle.std.proofs.lemmas.Bool.{le-leb, leb-true, leb-false, false_from_ne_true}
+use Rattle.std.proofs.lemmas.List.{nil_from_length, take-append-le, drop-append-le}
+use Rattle.hgs_bytes.specs.Text.{split}
+use Rattle.hgs_bytes.proofs.TextLemmas.{split_over, split_parts, number_is}
+use Rattle.hgs_model.specs.declared.command.NewChange.{NewChange}
+use Rattle.hgs_model.specs.declared.files.NewFile.{NewFile}
+use Rattle.hgs_input.specs.declared.fault.InputFault.{InputFault}
+use Rattle.hgs_input.specs.declared.fault.InputFault.TheVariants.{BadInput, Limit}
+use Rattle.hgs_index.specs.declared.kinds.Which.TheVariants.{Record}
+use Rattle.hgs_input.specs.Record.{most_input}
+use Rattle.hgs_input.specs.Read.{Rest, Reading, ◌>>=◌, place, bad_at, line_or_cut, next_line, required_at, required, optional_at, optional, counted, word_of, parent_of, user_of, date_of, phase_of, bookmark_of, length_of, FileLine, file_of, more, parents_from, text_at, description_from, allowed, file_with, file_behind, next_file, files_from, nothing_behind, end_from, head_from, change_with, change_from, read_record}
+use Rattle.hgs_input.proofs.FoundLemmas.{bound, contradiction, file_more_found}
+use Rattle.hgs_input.proofs.ReadLemmas.{at_end}
+use Rattle.hgs_input.proofs.RecordBack.{left}
+use Rattle.hgs_input.proofs.RecordFound.{none_behind, record_found}
+
+-- ---- the front of an input, and the whole
+
+pub record SameFault {A : Type 0} (a b : Reading A) : Type 0 where
+  pub fault : InputFault
+  pub front : a ≡ Err fault
+  pub all : b ≡ Err fault
+
+pub record SameRead {A : Type 0} (w : ℕ) (tail : List ℕ) (a b : Reading A) : Type 0 where
+  pub value : A
+  pub rest : List ℕ
+  pub front : a ≡ Ok (value, left w rest)
+  pub all : b ≡ Ok (value, left (w + length tail) (rest ++ tail))
+
+-- the front is cut, or both have the same fault, or the same is read of both and the tail is left of the whole besides
+abbrev Alike : {A : Type 0} → ℕ → List ℕ → Reading A → Reading A → Type 0
+Alike w tail a b = (a ≡ Err (bad_at w)) ⊎ (SameFault a b ⊎ SameRead w tail a b)
+
+alike_read : {A : Type 0} (w : ℕ) (tail rest : List ℕ) (x : A) → Alike w tail (Ok (x, left w rest)) (Ok (x, left (w + length tail) (rest ++ tail)))
+alike_read w tail rest x = inr (inr (record { value = x; rest = rest; front = refl; all = refl }))
+
+alike_fault : {A : Type 0} (w : ℕ) (tail : List ℕ) (e f : InputFault) → e ≡ f → Alike {A = A} w tail (Err e) (Err f)
+alike_fault w tail e f h = inr (inl (record { fault = e; front = refl; all = ap (λ x. Err x) (sym h) }))
+
+along : {A : Type 0} (w : ℕ) (tail : List ℕ) (a x b y : Reading A) → a ≡ x → b ≡ y → Alike w tail x y → Alike w tail a b
+along w tail a x b y e f h = subst (λ r. Alike w tail r b) (sym e) (subst (λ r. Alike w tail x r) (sym f) h)
+
+bind_alike : {A B : Type 0} (w : ℕ) (tail : List ℕ) (a b : Reading A) (f g : A × Rest → Reading B) → Alike w tail a b →
+    ((x : A) (rest : List ℕ) → a ≡ Ok (x, left w rest) → Alike w tail (f (x, left w rest)) (g (x, left (w + length tail) (rest ++ tail)))) → Alike w tail (a >>= f) (b >>= g)
+bind_alike w tail a b f g (inl h) k = inl (ap (λ r. r >>= f) h)
+bind_alike w tail a b f g (inr (inl s)) k = inr (inl (record { fault = s.fault; front = ap (λ r. r >>= f) s.front; all = ap (λ r. r >>= g) s.all }))
+bind_alike w tail a b f g (inr (inr s)) k =
+    along w tail (a >>= f) (f (s.value, left w s.rest)) (b >>= g) (g (s.value, left (w + length tail) (s.rest ++ tail))) (ap (λ r. r >>= f) s.front) (ap (λ r. r >>= g) s.all) (k s.value s.rest s.front)
+
+place_alike : (w : ℕ) (tail bytes : List ℕ) → place (left w bytes) ≡ place (left (w + length tail) (bytes ++ tail))
+place_alike w tail bytes = let k = length-append bytes tail in omega (arith, k)
+
+-- ---- lines and counted texts
+
+line_alike : (w : ℕ) (tail bytes : List ℕ) → Alike w tail (next_line (left w bytes)) (next_line (left (w + length tail) (bytes ++ tail)))
+line_alike w tail bytes = by (split 10 bytes) refl
+  where
+    by : (s : Option (List ℕ × List ℕ)) → split 10 bytes ≡ s → Alike w tail (line_or_cut (left w bytes) s) (next_line (left (w + length tail) (bytes ++ tail)))
+    by None e = inl refl
+    by (Some p) e =
+        let parts = split_parts 10 bytes p e in
+        let all : split 10 (bytes ++ tail) ≡ Some (p.0, p.1 ++ tail) =
+        ap (λ t. split 10 (t ++ tail)) parts.0 ∙ ap (split 10) (append_assoc p.0 (10 ∷ p.1) tail) ∙ split_over 10 p.0 (p.1 ++ tail) parts.1 in
+        inr (inr (record { value = p.0; rest = p.1; front = refl; all = ap (line_or_cut (left (w + length tail) (bytes ++ tail))) all }))
+
+required_alike : {A : Type 0} (form : List ℕ → Option A) (w : ℕ) (tail bytes : List ℕ) → Alike w tail (required form (left w bytes)) (required form (left (w + length tail) (bytes ++ tail)))
+required_alike {A} form w tail bytes =
+    let r = left w bytes in
+    let s = left (w + length tail) (bytes ++ tail) in
+    bind_alike w tail (next_line r) (next_line s) (λ l. required_at (place r) (form l.0) l.1) (λ l. required_at (place s) (form l.0) l.1) (line_alike w tail bytes) (λ x rest e. by (form x) rest)
+  where
+    by : (o : Option A) (rest : List ℕ) → Alike w tail (required_at (place (left w bytes)) o (left w rest)) (required_at (place (left (w + length tail) (bytes ++ tail))) o (left (w + length tail) (rest ++ tail)))
+    by None rest = alike_fault w tail (bad_at (place (left w bytes))) (bad_at (place (left (w + length tail) (bytes ++ tail)))) (ap bad_at (place_alike w tail bytes))
+    by (Some y) rest = alike_read w tail rest y
+
+optional_alike : {A : Type 0} (form : List ℕ → Option A) (w : ℕ) (tail bytes : List ℕ) → Alike w tail (optional form (left w bytes)) (optional form (left (w + length tail) (bytes ++ tail)))
+optional_alike {A} form w tail bytes =
+    let r = left w bytes in
+    let s = left (w + length tail) (bytes ++ tail) in
+    bind_alike w tail (next_line r) (next_line s) (λ l. optional_at r (form l.0) l.1) (λ l. optional_at s (form l.0) l.1) (line_alike w tail bytes) (λ x rest e. by (form x) rest)
+  where
+    by : (o : Option A) (rest : List ℕ) → Alike w tail (optional_at (left w bytes) o (left w rest)) (optional_at (left (w + length tail) (bytes ++ tail)) o (left (w + length tail) (rest ++ tail)))
+    by None rest = alike_read w tail bytes None
+    by (Some y) rest = alike_read w tail rest (Some y)
+
+counted_alike : (n w : ℕ) (tail bytes : List ℕ) → Alike w tail (counted n (left w bytes)) (counted n (left (w + length tail) (bytes ++ tail)))
+counted_alike n w tail bytes = by (nat_le (length bytes) n) refl
+  where
+    seam : (t : Bool) → Alike w tail (if t then Ok (take n bytes, left w (drop (n + 1) bytes)) else Err (bad_at (place (left w bytes))))
+        (if t then Ok (take n bytes, left (w + length tail) (drop (n + 1) bytes ++ tail)) else Err (bad_at (place (left w bytes))))
+    seam true = alike_read w tail (drop (n + 1) bytes) (take n bytes)
+    seam false = alike_fault w tail (bad_at (place (left w bytes))) (bad_at (place (left w bytes))) refl
+
+    by : (t : Bool) → nat_le (length bytes) n ≡ t → Alike w tail (counted n (left w bytes)) (counted n (left (w + length tail) (bytes ++ tail)))
+    by true e = inl (ap (λ t. if t then Err (bad_at w) else if slice_index bytes n == 10 then Ok (take n bytes, left w (drop (n + 1) bytes)) else Err (bad_at (place (left w bytes)))) e)
+    by false e =
+        let all = bytes ++ tail in
+        let v = w + length tail in
+        let room = leb-false (length bytes) n e in
+        let size = length-append bytes tail in
+        let high : nat_le (length all) n ≡ false = false_from_ne_true (nat_le (length all) n) (λ t. let k = leb-true (length all) n t in absurd (omega (arith, k, size, room))) in
+        let front : counted n (left w bytes) ≡ (if slice_index bytes n == 10 then Ok (take n bytes, left w (drop (n + 1) bytes)) else Err (bad_at (place (left w bytes)))) =
+        ap (λ t. if t then Err (bad_at w) else if slice_index bytes n == 10 then Ok (take n bytes, left w (drop (n + 1) bytes)) else Err (bad_at (place (left w bytes)))) e in
+        let whole : counted n (left v all) ≡ (if slice_index bytes n == 10 then Ok (take n bytes, left v (drop (n + 1) bytes ++ tail)) else Err (bad_at (place (left w bytes)))) =
+        ap (λ t. if t then Err (bad_at v) else if slice_index all n == 10 then Ok (take n all, left v (drop (n + 1) all)) else Err (bad_at (place (left v all)))) high
+        ∙ ap (λ x. if x == 10 then Ok (take n all, left v (drop (n + 1) all)) else Err (bad_at (place (left v all)))) (get_or-append bytes tail 0 n room)
+        ∙ ap (λ t. if slice_index bytes n == 10 then Ok (t, left v (drop (n + 1) all)) else Err (bad_at (place (left v all)))) (take-append-le n bytes tail (omega (arith, room)))
+        ∙ ap (λ t. if slice_index bytes n == 10 then Ok (take n bytes, left v t) else Err (bad_at (place (left v all)))) (drop-append-le (n + 1) bytes tail (omega (arith, room)))
+        ∙ ap (λ p. if slice_index bytes n == 10 then Ok (take n bytes, left v (drop (n + 1) bytes ++ tail)) else Err (bad_at p)) (sym (place_alike w tail bytes)) in
+        along w tail _ _ _ _ front whole (seam (slice_index bytes n == 10))
+
+-- ---- the parts of a record
+
+parents_alike : (n : ℕ) (names : List (List ℕ)) (w : ℕ) (tail bytes : List ℕ) → Alike w tail (parents_from n names (left w bytes)) (parents_from n names (left (w + length tail) (bytes ++ tail)))
+parents_alike zero names w tail bytes = alike_read w tail bytes names
+parents_alike (suc n) names w tail bytes =
+    bind_alike w tail (optional parent_of (left w bytes)) (optional parent_of (left (w + length tail) (bytes ++ tail))) (λ p. more names p.0 p.1 (λ all rest. parents_from n all rest)) (λ p. more names p.0 p.1 (λ all rest. parents_from n all rest))
+    (optional_alike parent_of w tail bytes) (λ o rest e. by o rest (λ x. parents_alike n (names ++ x ∷ []) w tail rest))
+  where
+    by : (o : Option (List ℕ)) (rest : List ℕ) → ((x : List ℕ) → Alike w tail (parents_from n (names ++ x ∷ []) (left w rest)) (parents_from n (names ++ x ∷ []) (left (w + length tail) (rest ++ tail)))) →
+        Alike w tail (more names o (left w rest) (λ all rest. parents_from n all rest)) (more names o (left (w + length tail) (rest ++ tail)) (λ all rest. parents_from n all rest))
+    by None rest k = alike_read w tail rest names
+    by (Some x) rest k = k x
+
+text_alike : (at other : ℕ) (text : List ℕ) (w : ℕ) (tail rest : List ℕ) → at ≡ other → Alike w tail (text_at at text (left w rest)) (text_at other text (left (w + length tail) (rest ++ tail)))
+text_alike at other text w tail rest e = by (is_utf8 text)
+  where
+    by : (t : Bool) → Alike w tail (if t then Ok (text, left w rest) else Err (bad_at at)) (if t then Ok (text, left (w + length tail) (rest ++ tail)) else Err (bad_at other))
+    by true = alike_read w tail rest text
+    by false = alike_fault w tail (bad_at at) (bad_at other) (ap bad_at e)
+
+description_alike : (w : ℕ) (tail bytes : List ℕ) → Alike w tail (description_from (left w bytes)) (description_from (left (w + length tail) (bytes ++ tail)))
+description_alike w tail bytes =
+    let v = w + length tail in
+    let after = λ (n : ℕ × Rest). counted n.0 n.1 >>= λ text. text_at (place n.1) text.0 text.1 in
+    bind_alike w tail (required length_of (left w bytes)) (required length_of (left v (bytes ++ tail))) after after (required_alike length_of w tail bytes)
+    (λ n rest e. bind_alike w tail (counted n (left w rest)) (counted n (left v (rest ++ tail))) (λ text. text_at (place (left w rest)) text.0 text.1) (λ text. text_at (place (left v (rest ++ tail))) text.0 text.1) (counted_alike n w tail rest)
+    (λ text last e. text_alike (place (left w rest)) (place (left v (rest ++ tail))) text w tail last (place_alike w tail rest)))
+
+-- the body behind the line of a file
+abbrev body : List ℕ → ℕ → FileLine → Reading (Option NewFile)
+body rest v f = counted f.size (left v rest) >>= λ text. Ok (Some (file_with f text.0), text.1)
+
+file_alike : (files : List NewFile) (w : ℕ) (tail bytes : List ℕ) → Alike w tail (next_file files (left w bytes)) (next_file files (left (w + length tail) (bytes ++ tail)))
+file_alike files w tail bytes =
+    let r = left w bytes in
+    let s = left (w + length tail) (bytes ++ tail) in
+    bind_alike w tail (optional file_of r) (optional file_of s) (λ p. file_behind (place r) files p.0 p.1) (λ p. file_behind (place s) files p.0 p.1) (optional_alike file_of w tail bytes) (λ o rest e. by o rest)
+  where
+    allowed_alike : (x : Result FileLine InputFault) (rest : List ℕ) → Alike w tail (x >>= body rest w) (x >>= body (rest ++ tail) (w + length tail))
+    allowed_alike (Err e) rest = alike_fault w tail e e refl
+    allowed_alike (Ok f) rest =
+        bind_alike w tail (counted f.size (left w rest)) (counted f.size (left (w + length tail) (rest ++ tail))) (λ text. Ok (Some (file_with f text.0), text.1)) (λ text. Ok (Some (file_with f text.0), text.1)) (counted_alike f.size w tail rest)
+        (λ text last e. alike_read w tail last (Some (file_with f text)))
+
+    by : (o : Option FileLine) (rest : List ℕ) → Alike w tail (file_behind (place (left w bytes)) files o (left w rest)) (file_behind (place (left (w + length tail) (bytes ++ tail))) files o (left (w + length tail) (rest ++ tail)))
+    by None rest = alike_read w tail rest None
+    by (Some line) rest =
+        subst (λ p. Alike w tail (file_behind (place (left w bytes)) files (Some line) (left w rest)) (file_behind p files (Some line) (left (w + length tail) (rest ++ tail)))) (place_alike w tail bytes)
+        (allowed_alike (allowed (place (left w bytes)) files line) rest)
+
+files_alike : (n m : ℕ) (files : List NewFile) (w : ℕ) (tail bytes : List ℕ) → length bytes ≤ n → length (bytes ++ tail) ≤ m → Alike w tail (files_from n files (left w bytes)) (files_from m files (left (w + length tail) (bytes ++ tail)))
+files_alike zero m files w tail bytes a b = inl refl
+files_alike (suc n) zero files w tail bytes a b =
+    let size = length-append bytes tail in
+    let none : bytes ≡ [] = nil_from_length bytes (omega (arith, size, b)) in
+    inl (ap (λ x. x >>= λ p. more files p.0 p.1 (λ all rest. files_from n all rest)) (at_end files (left w bytes) none))
+files_alike (suc n) (suc m) files w tail bytes a b =
+    bind_alike w tail (next_file files (left w bytes)) (next_file files (left (w + length tail) (bytes ++ tail))) (λ p. more files p.0 p.1 (λ all rest. files_from n all rest)) (λ p. more files p.0 p.1 (λ all rest. files_from m all rest))
+    (file_alike files w tail bytes) (λ o rest e. by o rest e (λ f. files_alike n m (files ++ f ∷ []) w tail rest))
+  where
+    by : (o : Option NewFile) (rest : List ℕ) → next_file files (left w bytes) ≡ Ok (o, left w rest) →
+        ((f : NewFile) → length rest ≤ n → length (rest ++ tail) ≤ m → Alike w tail (files_from n (files ++ f ∷ []) (left w rest)) (files_from m (files ++ f ∷ []) (left (w + length tail) (rest ++ tail)))) →
+        Alike w tail (more files o (left w rest) (λ all rest. files_from n all rest)) (more files o (left (w + length tail) (rest ++ tail)) (λ all rest. files_from m all rest))
+    by None rest e k = alike_read w tail rest files
+    by (Some f) rest e k =
+        let fewer = (file_more_found files (left w bytes) (left w rest) f e).fewer in
+        let x = length-append bytes tail in
+        let y = length-append rest tail in
+        k f (omega (arith, fewer, a)) (omega (arith, fewer, b, x, y))
+
+head_alike : (w : ℕ) (tail bytes : List ℕ) → Alike w tail (head_from (left w bytes)) (head_from (left (w + length tail) (bytes ++ tail)))
+head_alike w tail bytes =
+    bind_alike w tail _ _ _ _ (required_alike (word_of (codes "commit")) w tail bytes)
+    (λ _ r1 e1. bind_alike w tail _ _ _ _ (parents_alike 2 [] w tail r1)
+    (λ parents r2 e2. bind_alike w tail _ _ _ _ (required_alike user_of w tail r2)
+    (λ user r3 e3. bind_alike w tail _ _ _ _ (required_alike date_of w tail r3)
+    (λ date r4 e4. bind_alike w tail _ _ _ _ (optional_alike phase_of w tail r4)
+    (λ phase r5 e5. bind_alike w tail _ _ _ _ (optional_alike bookmark_of w tail r5)
+    (λ bookmark r6 e6. alike_read w tail r6 (record { parents = parents; user = user; date = date; phase = phase; bookmark = bookmark })))))))
+
+-- ---- a front of a record
+
+err_ok : {B : Type 0} (e : InputFault) (y : B) → ◌≡◌ {A = Result B InputFault} (Err e) (Ok y) → ⊥
+err_ok e y h = cc
+
+-- where the whole is read to its end, the front is cut at once or further on
+bind_cut : {A B : Type 0} (w : ℕ) (tail : List ℕ) (a b : Reading A) (f g : A × Rest → Result B InputFault) (y : B) → Alike w tail a b → (b >>= g) ≡ Ok y →
+    ((x : A) (rest : List ℕ) → g (x, left (w + length tail) (rest ++ tail)) ≡ Ok y → f (x, left w rest) ≡ Err (bad_at w)) → (a >>= f) ≡ Err (bad_at w)
+bind_cut w tail a b f g y (inl h) e k = ap (λ r. r >>= f) h
+bind_cut w tail a b f g y (inr (inl s)) e k = absurd (err_ok s.fault y (sym (ap (λ r. r >>= g) s.all) ∙ e))
+bind_cut w tail a b f g y (inr (inr s)) e k = ap (λ r. r >>= f) s.front ∙ k s.value s.rest (sym (ap (λ r. r >>= g) s.all) ∙ e)
+
+not_at_end : (w b : ℕ) (more rest : List ℕ) → nothing_behind (left w (rest ++ b ∷ more)) ≡ Ok tt → ⊥
+not_at_end w b more rest e =
+    let none = ap length (none_behind (left w (rest ++ b ∷ more)) e).0 in
+    let size = length-append rest (b ∷ more) in
+    absurd (omega (arith, none, size))
+
+end_cut : (w b : ℕ) (more bytes : List ℕ) → end_from (left (w + length (b ∷ more)) (bytes ++ b ∷ more)) ≡ Ok tt → end_from (left w bytes) ≡ Err (bad_at w)
+end_cut w b more bytes e =
+    let tail = b ∷ more in
+    bind_cut w tail (required (word_of (codes "end")) (left w bytes)) (required (word_of (codes "end")) (left (w + length tail) (bytes ++ tail))) (λ x. nothing_behind x.1) (λ x. nothing_behind x.1) tt (required_alike (word_of (codes "end")) w tail bytes) e
+    (λ _ rest k. absurd (not_at_end (w + length tail) b more rest k))
+
+change_cut : (w b : ℕ) (more bytes : List ℕ) (c : NewChange) → change_from (left (w + length (b ∷ more)) (bytes ++ b ∷ more)) ≡ Ok c → change_from (left w bytes) ≡ Err (bad_at w)
+change_cut w b more bytes c e =
+    let tail = b ∷ more in
+    bind_cut w tail _ _ _ _ c (head_alike w tail bytes) e
+    (λ head r1 k1. bind_cut w tail _ _ _ _ c (description_alike w tail r1) k1
+    (λ text r2 k2. bind_cut w tail _ _ _ _ c (files_alike (length r2) (length (r2 ++ tail)) [] w tail r2 (omega arith) (omega arith)) k2
+    (λ files r3 k3. let last = bound (end_from (left (w + length tail) (r3 ++ tail))) _ c k3 in ap (λ x. x >>= λ _. Ok (change_with head text files)) (end_cut w b more r3 last.is))))
+
+pub front_cut : (front more : List ℕ) (b : ℕ) (c : NewChange) → read_record (front ++ b ∷ more) ≡ Ok c → read_record front ≡ Err (BadInput (length front))
+front_cut front more b c e =
+    let tail = b ∷ more in
+    let size = length-append front tail in
+    let whole : change_from (left (length front + length tail) (front ++ tail)) ≡ Ok c = ap (λ n. change_from (left n (front ++ tail))) (sym size) ∙ e in
+    let room = (record_found (front ++ tail) c e).size in
+    change_cut (length front) b more front c whole ∙ ap (λ t. Err (if t then BadInput (length front) else Limit Record)) (le-leb (length front) most_input (omega (arith, room, size)))
+
+-- ---- what stands behind a fault
+
+bad_is : (w at : ℕ) → ◌≡◌ {A = InputFault} (bad_at w) (BadInput at) → w ≡ at
+bad_is w at e = by (nat_le w most_input) refl e
+  where
+    by : (t : Bool) → nat_le w most_input ≡ t → ◌≡◌ {A = InputFault} (if t then BadInput w else Limit Record) (BadInput at) → w ≡ at
+    by true h k = cc
+    by false h k = cc
+
+err_is : {B : Type 0} (e f : InputFault) → ◌≡◌ {A = Result B InputFault} (Err e) (Err f) → e ≡ f
+err_is e f h = cc
+
+bind_stay : {A B : Type 0} (w : ℕ) (tail : List ℕ) (a b : Reading A) (f g : A × Rest → Result B InputFault) (at : ℕ) → Alike w tail a b → at < w → (a >>= f) ≡ Err (BadInput at) →
+    ((x : A) (rest : List ℕ) → f (x, left w rest) ≡ Err (BadInput at) → g (x, left (w + length tail) (rest ++ tail)) ≡ Err (BadInput at)) → (b >>= g) ≡ Err (BadInput at)
+bind_stay {A} {B} w tail a b f g at (inl h) lt e k =
+    let is = bad_is w at (err_is {B = B} (bad_at w) (BadInput at) (sym (ap (λ r. r >>= f) h) ∙ e)) in
+    absurd (omega (arith, is, lt))
+bind_stay w tail a b f g at (inr (inl s)) lt e k = ap (λ r. r >>= g) s.all ∙ sym (ap (λ r. r >>= f) s.front) ∙ e
+bind_stay w tail a b f g at (inr (inr s)) lt e k = ap (λ r. r >>= g) s.all ∙ k s.value s.rest (sym (ap (λ r. r >>= f) s.front) ∙ e)
+
+nothing_stays : (w at : ℕ) (tail rest : List ℕ) → nothing_behind (left w rest) ≡ Err (BadInput at) → nothing_behind (left (w + length tail) (rest ++ tail)) ≡ Err (BadInput at)
+nothing_stays w at tail rest e = by (length rest == 0) (nat_le w most_input) refl e
+  where
+    by : (s t : Bool) → (length rest == 0) ≡ s → ◌≡◌ {A = Result (Unit {0}) InputFault} (if s then (if t then Ok tt else Err (Limit Record)) else Err (bad_at (place (left w rest)))) (Err (BadInput at)) →
+        nothing_behind (left (w + length tail) (rest ++ tail)) ≡ Err (BadInput at)
+    by true true h k = cc
+    by true false h k = cc
+    by false t h k =
+        let size = length-append rest tail in
+        let some : (length (rest ++ tail) == 0) ≡ false = false_from_ne_true (length (rest ++ tail) == 0) (λ t. let n = number_is (length (rest ++ tail)) 0 t in let z : (length rest == 0) ≡ true = ap (λ m. m == 0) (zero_of rest (omega (arith, n, size))) in absurd (contradiction (length rest == 0) h z)) in
+        ap (λ t. if t then (if nat_le (w + length tail) most_input then Ok tt else Err (Limit Record)) else Err (bad_at (place (left (w + length tail) (rest ++ tail))))) some
+        ∙ ap (λ p. Err (bad_at p)) (sym (place_alike w tail rest)) ∙ k
+      where
+        zero_of : (xs : List ℕ) → length xs ≤ 0 → length xs ≡ 0
+        zero_of xs h = omega (arith, h)
+
+end_stays : (w at : ℕ) (tail bytes : List ℕ) → at < w → end_from (left w bytes) ≡ Err (BadInput at) → end_from (left (w + length tail) (bytes ++ tail)) ≡ Err (BadInput at)
+end_stays w at tail bytes lt e =
+    bind_stay w tail (required (word_of (codes "end")) (left w bytes)) (required (word_of (codes "end")) (left (w + length tail) (bytes ++ tail))) (λ x. nothing_behind x.1) (λ x. nothing_behind x.1) at (required_alike (word_of (codes "end")) w tail bytes) lt e
+    (λ _ rest k. nothing_stays w at tail rest k)
+
+then_err : {A B : Type 0} (x : Result A InputFault) (f : A → B) (e : InputFault) → (x >>= λ a. Ok (f a)) ≡ Err e → x ≡ Err e
+then_err (Ok a) f e h = absurd (err_ok e (f a) (sym h))
+then_err {A} {B} (Err d) f e h = ap (λ z. Err z) (err_is {B = B} d e h)
+
+change_stays : (w at : ℕ) (tail bytes : List ℕ) → at < w → change_from (left w bytes) ≡ Err (BadInput at) → change_from (left (w + length tail) (bytes ++ tail)) ≡ Err (BadInput at)
+change_stays w at tail bytes lt e =
+    bind_stay w tail _ _ _ _ at (head_alike w tail bytes) lt e
+    (λ head r1 k1. bind_stay w tail _ _ _ _ at (description_alike w tail r1) lt k1
+    (λ text r2 k2. bind_stay w tail _ _ _ _ at (files_alike (length r2) (length (r2 ++ tail)) [] w tail r2 (omega arith) (omega arith)) lt k2
+    (λ files r3 k3. ap (λ x. x >>= λ _. Ok (change_with head text files)) (end_stays w at tail r3 lt (then_err (end_from (left w r3)) _ (BadInput at) k3)))))
+
+pub fault_stays : (front more : List ℕ) (at : ℕ) → at < length front → read_record front ≡ Err (BadInput at) → read_record (front ++ more) ≡ Err (BadInput at)
+fault_stays front more at lt e = ap (λ n. change_from (left n (front ++ more))) (length-append front more) ∙ change_stays (length front) at more front lt e

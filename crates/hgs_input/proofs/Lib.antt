@@ -1,0 +1,7 @@
+pub mod FoundLemmas
+pub mod FrontLemmas
+pub mod NumberLemmas
+pub mod PathLemmas
+pub mod ReadLemmas
+pub mod RecordBack
+pub mod RecordFound

@@ -1,0 +1,27 @@
+//! What the definitions of this crate imply. Each function is one law; none does anything.
+ghost use Rattle.std.specs.Prelude.{◌≡◌, ◌≤◌, ◌<◌, ◌∷◌, ◌++◌, Bool, List, ℕ, Ok, Err, length};
+ghost use Rattle.hgs_model.specs.Valid.{IsNewChange};
+ghost use Rattle.hgs_model.specs.declared.command.NewChange.{NewChange};
+ghost use Rattle.hgs_input.specs.declared.fault.InputFault.TheVariants.{BadInput};
+ghost use Rattle.hgs_input.specs.Read.{read_record};
+ghost use Rattle.hgs_input.specs.Record.{IsRecord, most_input, record_text};
+
+/// What is read is a record of that changeset.
+pub fn read_records_are_records()
+    ensures { (bytes : List ℕ) (c : NewChange) → read_record bytes ≡ Ok c → IsRecord bytes c }
+{}
+
+/// A changeset is read from its record again, whether that says a draft's phase or not.
+pub fn record_written_then_read()
+    ensures { (says_draft : Bool) (c : NewChange) → IsNewChange c → length (record_text says_draft c) ≤ most_input → read_record (record_text says_draft c) ≡ Ok c }
+{}
+
+/// Each front of a record is cut, and so refused at its length.
+pub fn fronts_are_cut()
+    ensures { (front more : List ℕ) (b : ℕ) (c : NewChange) → read_record (front ++ b ∷ more) ≡ Ok c → read_record front ≡ Err (BadInput (length front)) }
+{}
+
+/// A fault that is not at the end of the input is that of each input that goes on, so only what stands before it decides.
+pub fn faults_stay()
+    ensures { (front more : List ℕ) (at : ℕ) → at < length front → read_record front ≡ Err (BadInput at) → read_record (front ++ more) ≡ Err (BadInput at) }
+{}

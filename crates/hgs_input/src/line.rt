@@ -1,0 +1,159 @@
+// What the lines of a record say, each without its LF.
+ghost use Rattle.std.specs.Prelude.{◌≡◌, ◌==◌, IfOk};
+ghost use Rattle.std.specs.List.{list_any};
+ghost use Rattle.std.specs.Option.{option_map};
+ghost use Rattle.hgs_changelog.specs.View.{view_when};
+ghost use Rattle.hgs_input.specs.Read.{behind, is_user, user_of, date_of, phase_named, phase_of, bookmark_of, length_of, flag_of, file_of, file_of_parts};
+ghost use Rattle.hgs_index.specs.TrackedPath.{is_tracked};
+ghost use Rattle.hgs_input.specs.View.{view_line};
+
+use crate::number::number_up_to;
+use hgs_bytes::parts::{equal, past, split_at_byte, starts};
+use hgs_changelog::date::{When, is_text, when_from};
+use hgs_index::kinds::Flag;
+use hgs_marks::name::is_mark_name;
+use hgs_model::phase::Phase;
+use hgs_path::check::check;
+use std::alloc::{AllocError, Global};
+
+const MOST_USER: usize = 1024;
+
+const MOST_DESCRIPTION: u64 = 65_536;
+
+/// The most bytes of a file's body.
+pub(crate) const MOST_FILE: u64 = 16_777_216;
+
+/// What stands behind a front, where the line begins with it.
+pub(crate) fn behind<'a>(line: &'a [u8], front: &[u8]) -> Option<&'a [u8]>
+    ensures { option_map (λ x. x.now) result ≡ behind front.now line.now }
+{
+    if starts(line, front) {
+        Some(past(line, front.len()))
+    } else {
+        None
+    }
+}
+
+fn has_nul(text: &[u8]) -> bool
+    ensures { result ≡ list_any (λ b. b == 0) text.now }
+{
+    text.iter().any(|byte| *byte == 0)
+}
+
+fn is_user(user: &[u8]) -> bool
+    ensures { result ≡ is_user user.now }
+{
+    1 <= user.len() && user.len() <= MOST_USER && !has_nul(user) && is_text(user)
+}
+
+pub(crate) fn user_from(line: &[u8]) -> Option<&[u8]>
+    ensures { option_map (λ x. x.now) result ≡ user_of line.now }
+{
+    let user = behind(line, b"user ")?;
+    if is_user(user) { Some(user) } else { None }
+}
+
+/// The date of a line, which has no extras.
+pub(crate) fn date_from(alloc: Global, line: &[u8]) -> Result<Option<When>, AllocError>
+    ensures { IfOk result (λ w. option_map view_when w ≡ date_of line.now) }
+{
+    let Some(text) = behind(line, b"date ") else {
+        return Ok(None);
+    };
+    let Some(when) = when_from(alloc, text)? else {
+        return Ok(None);
+    };
+    if when.extras.is_empty() {
+        Ok(Some(when))
+    } else {
+        Ok(None)
+    }
+}
+
+fn phase_named(name: &[u8]) -> Option<Phase>
+    ensures { result ≡ phase_named name.now }
+{
+    if equal(name, Phase::Public.name()) {
+        Some(Phase::Public)
+    } else if equal(name, Phase::Draft.name()) {
+        Some(Phase::Draft)
+    } else if equal(name, Phase::Secret.name()) {
+        Some(Phase::Secret)
+    } else {
+        None
+    }
+}
+
+pub(crate) fn phase_from(line: &[u8]) -> Option<Phase>
+    ensures { result ≡ phase_of line.now }
+{
+    phase_named(behind(line, b"phase ")?)
+}
+
+pub(crate) fn bookmark_from(line: &[u8]) -> Option<&[u8]>
+    ensures { option_map (λ x. x.now) result ≡ bookmark_of line.now }
+{
+    let name = behind(line, b"bookmark ")?;
+    if is_mark_name(name) { Some(name) } else { None }
+}
+
+/// The length of a description.
+pub(crate) fn length_from(line: &[u8]) -> Option<u64>
+    ensures { result ≡ length_of line.now }
+{
+    let length = number_up_to(behind(line, b"desc ")?, MOST_DESCRIPTION)?;
+    if length <= MOST_DESCRIPTION {
+        Some(length)
+    } else {
+        None
+    }
+}
+
+/// What the line of a file says.
+#[derive(Clone, Copy)]
+pub(crate) struct FileLine<'a> {
+    pub flag: Flag,
+    /// The length of the body; each above the limit counts as the next one.
+    pub size: u64,
+    pub path: &'a [u8],
+}
+
+fn flag_from(sign: &[u8]) -> Option<Flag>
+    ensures { result ≡ flag_of sign.now }
+{
+    if equal(sign, b"-") {
+        Some(Flag::Plain)
+    } else if equal(sign, b"x") {
+        Some(Flag::Exec)
+    } else if equal(sign, b"l") {
+        Some(Flag::Link)
+    } else {
+        None
+    }
+}
+
+fn is_tracked(path: &[u8]) -> bool
+    ensures { result ≡ is_tracked path.now }
+{
+    check(path).is_ok()
+}
+
+fn file_from_parts<'a>(sign: &[u8], size: &[u8], path: &'a [u8]) -> Option<FileLine<'a>>
+    ensures { option_map view_line result ≡ file_of_parts sign.now size.now path.now }
+{
+    let flag = flag_from(sign)?;
+    let size = number_up_to(size, MOST_FILE)?;
+    if is_tracked(path) {
+        Some(FileLine { flag, size, path })
+    } else {
+        None
+    }
+}
+
+pub(crate) fn file_from(line: &[u8]) -> Option<FileLine<'_>>
+    ensures { option_map view_line result ≡ file_of line.now }
+{
+    let (sign, rest) = split_at_byte(behind(line, b"file ")?, b' ')?;
+    let (size, path) = split_at_byte(rest, b' ')?;
+    file_from_parts(sign, size, path)
+}

@@ -1,0 +1,58 @@
+//! The record of a new changeset.
+ghost use Rattle.hgs_bytes.specs.Answer.{Gives};
+ghost use Rattle.std.specs.Prelude.{◌≡◌, IfOk};
+ghost use Rattle.hgs_input.specs.Read.{read_record, is_memory, change_with};
+ghost use Rattle.hgs_input.specs.View.{view_head};
+
+use crate::fault::InputFault;
+use crate::head::Head;
+use crate::input::Input;
+use hgs_bytes::bytes::Bytes;
+use hgs_model::command::NewChange;
+use hgs_model::files::NewFiles;
+use hgs_model::phase::Phase;
+use std::alloc::{AllocError, Global};
+
+// The changeset of these parts.
+fn change_with(
+    alloc: Global,
+    head: Head<'_>,
+    description: &[u8],
+    files: NewFiles,
+) -> Result<NewChange, AllocError>
+    ensures { IfOk result (λ c. c ≡ change_with (view_head head.entry) description.now files) }
+{
+    let bookmark = match head.bookmark {
+        Some(name) => Some(Bytes::from_slice(alloc, name)?),
+        None => None,
+    };
+    Ok(NewChange {
+        parents: head.parents,
+        user: Bytes::from_slice(alloc, head.user)?,
+        seconds: head.date.seconds,
+        offset: head.date.offset,
+        phase: head.phase.unwrap_or(Phase::Draft),
+        bookmark,
+        description: Bytes::from_slice(alloc, description)?,
+        files,
+    })
+}
+
+/// The changeset of a record, or the first fault of the input.
+///
+/// The record has, each with an LF: `commit`; up to two lines `parent NAME`; `user TEXT`; `date SECONDS OFFSET`; where it
+/// says them `phase PHASE` and `bookmark NAME`; `desc LEN`, and so many bytes of text; for each file of the tree `file FLAG
+/// LEN PATH`, and so many bytes; `end`, with nothing behind it.
+///
+/// The time grows with the length of the input, and for each file with the logarithm of their number.
+pub fn read_commit(alloc: Global, bytes: &[u8]) -> Result<NewChange, InputFault>
+    ensures { Gives is_memory (λ c. c) result (read_record bytes.now) }
+{
+    let mut input = Input::new(bytes);
+    let head = input.head(alloc)?;
+    let description = input.description()?;
+    let files = input.files(alloc)?;
+    input.word(b"end")?;
+    input.nothing_behind()?;
+    Ok(change_with(alloc, head, description, files)?)
+}

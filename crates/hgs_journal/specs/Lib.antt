@@ -1,0 +1,5 @@
+pub mod Names
+pub mod Texts
+pub mod Read
+pub mod Undo
+pub mod Covers

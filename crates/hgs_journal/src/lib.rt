@@ -1,0 +1,13 @@
+//! The journal of an open transaction, the list of its backups, and the operations that undo it.
+#![tactic(auto)]
+
+pub mod backups;
+pub mod fault;
+pub mod journal;
+pub mod laws;
+mod names;
+mod offset;
+mod print;
+#[cfg(test)]
+mod tests;
+pub mod undo;
