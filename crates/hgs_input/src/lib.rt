@@ -12,6 +12,3 @@ pub mod record;
 #[cfg(test)]
 mod tests;
 mod tree;
-
-pub use hgs_index::kinds::Which;
-pub use hgs_model::command::NewChange;
