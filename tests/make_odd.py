@@ -13,8 +13,9 @@ import tempfile
 
 os.environ.update(HGRCPATH="/dev/null", HGPLAIN="1", TZ="UTC")
 from mercurial import commands, hg, revlog, ui as uimod  # noqa: E402
-from mercurial.node import hex  # noqa: E402
 from mercurial.revlogutils import deltas  # noqa: E402
+
+import hg_answers  # noqa: E402
 
 CONFIG = [
     (b"format", b"usegeneraldelta", b"no"),
@@ -115,43 +116,6 @@ def make(ui, repo):
     commands.copy(ui, repo, b"f", b"newname")
 
 
-def ask(repo):
-    """Each question with its status and what is to be written."""
-    last = len(repo) - 1
-    changes = [repo[rev] for rev in range(len(repo))]
-
-    def line(c):
-        seconds, offset = c.date()
-        numbers = [b"%d" % c.rev(), c.hex()] + [b"%d" % p for p in (c.p1().rev(), c.p2().rev())]
-        text = [b"%d" % int(seconds), b"%d" % offset, c.user(), c.description().split(b"\n")[0]]
-        return b"\t".join(numbers + text) + b"\n"
-
-    def pair(c):
-        return b"%d %s\n" % (c.rev(), c.hex())
-
-    yield [b"log"], 0, b"".join(line(c) for c in reversed(changes))
-    yield [b"heads"], 0, b"".join(pair(c) for c in changes if not c.children())
-    marks = sorted(repo._bookmarks.items())
-    yield [b"bookmarks"], 0, b"".join(b"%s\t%d\t%s\n" % (n, repo[m].rev(), hex(m)) for n, m in marks)
-    parents = [repo[p] for p in repo.dirstate.parents() if p != repo.nullid]
-    yield [b"parents"], 0, b"".join(pair(c) for c in parents)
-    yield [b"phase", b"."], 0, parents[0].phasestr() + b"\n"
-    for name, mark in marks:
-        if b"\t" in name:  # the questions stand with tabs between their words
-            continue
-        yield [b"phase", b"--", name], 0, repo[mark].phasestr() + b"\n"
-    for c in changes:
-        rev = b"%d" % c.rev()
-        manifest = c.manifest()
-        rows = [(manifest[p], manifest.flags(p) or b"-", p) for p in sorted(manifest)]
-        yield [b"files", rev], 0, b"".join(b"%s %s %s\n" % (hex(n), f, p) for n, f, p in rows)
-        yield [b"phase", c.hex()], 0, c.phasestr() + b"\n"
-        for _, _, path in rows:
-            yield [b"cat", rev, path], 0, c[path].data()
-        yield [b"cat", rev, b"nowhere"], 23, b"abort: unknown path\n"
-    yield [b"files", b"%d" % (last + 1)], 12, b"abort: unknown revision\n"
-
-
 def main():
     top = os.path.abspath(sys.argv[1])
     work = tempfile.mkdtemp()
@@ -163,11 +127,7 @@ def main():
     repo = hg.repository(ui, work.encode(), create=True)
     make(ui, repo)
     repo = hg.repository(ui, work.encode())
-    os.makedirs(top + "/expected")
-    with open(top + "/expected/index", "wb") as index:
-        for number, (words, status, text) in enumerate(ask(repo)):
-            write(top + "/expected/%03d" % number, text)
-            index.write(b"\t".join([b"%03d" % number, b"%d" % status] + words) + b"\n")
+    hg_answers.write_expected(repo, top + "/expected")
     for name in ["bookmarks", "dirstate", "requires"]:
         shutil.copy(work + "/.hg/" + name, top)
     for at, folders, names in os.walk(work + "/.hg/store"):
@@ -180,4 +140,5 @@ def main():
     shutil.rmtree(work)
 
 
-main()
+if __name__ == "__main__":
+    main()

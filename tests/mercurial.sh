@@ -1,7 +1,7 @@
 #!/usr/bin/env bash
-# Asks the program every question whose answer real Mercurial gave for the stores under tests/fixtures, and compares what
-# it writes and its status with that answer. A question that is not built yet is counted and named by kind, and each
-# difference is shown. The last line is 'N passed, M failed, K not built'.
+# Asks the program every question whose answer real Mercurial gave for the stores under tests/fixtures, or for those in the
+# folders that are named, and compares what it writes and its status with that answer. A question that is not built yet is
+# counted and named by kind, and each difference is shown. The last line is 'N passed, M failed, K not built'.
 set -u
 built=' log heads files cat bookmarks parents phase '
 
@@ -26,20 +26,22 @@ ask() { # STORE NUMBER STATUS WORDS..
     shift 3
     "$program" "$@" >"$work/out" 2>"$work/err" </dev/null
     status=$?
-    if [ "$status" = "$want" ] && cmp -s "$work/out" "$here/fixtures/$store/expected/$number"; then
+    if [ "$status" = "$want" ] && cmp -s "$work/out" "$folder/expected/$number"; then
         passed=$((passed + 1))
         return
     fi
     failed=$((failed + 1))
     echo "$store $number: '$*' ended with $status, wanted $want; wanted (<) and written (>):"
-    diff <(head -c 2000 "$here/fixtures/$store/expected/$number") <(head -c 2000 "$work/out") | head -10
+    diff <(head -c 2000 "$folder/expected/$number") <(head -c 2000 "$work/out") | head -10
     head -5 "$work/err"
 }
 
-for folder in "$here"/fixtures/*/; do
+if [ $# = 0 ]; then set -- "$here"/fixtures/*; fi
+mapfile -t folders < <(realpath -- "$@")
+for folder in "${folders[@]}"; do
     store=$(basename "$folder")
     mkdir -p "$work/$store/.hg"
-    cp -r "$folder". "$work/$store/.hg"
+    cp -r "$folder"/. "$work/$store/.hg"
     rm -rf "$work/$store/.hg/expected"
     cd "$work/$store" || exit 1
     while IFS= read -r line; do

@@ -1,7 +1,7 @@
 #!/usr/bin/env bash
 # Bad worlds: each line of the table lays one out in a new folder, runs the program there, and says which status and which
-# line must come. No file may change, which a checksum of the whole folder before and after shows. The last line is
-# 'N passed, M failed'.
+# line must come; on standard error the hint that docs/ANSWERS.md has for the status comes last, and nothing where there is
+# none. No file may change, which a checksum of the whole folder before and after shows. The last line is 'N passed, M failed'.
 set -u
 here=$(cd "$(dirname "$0")" && pwd)
 program=$("$here/../bin/hg_store" --build) || exit 1
@@ -75,6 +75,17 @@ file_as_store() { lay_store && rm -r .hg/store && echo text >.hg/store; }
 cut_data() { lay_store && truncate -s -1 .hg/store/00changelog.d; }
 cut_entry() { lay_store && printf '\377%.0s' $(seq 63) >>.hg/store/00changelog.i; }
 other_byte() { lay_store && printf X | dd of=.hg/store/00changelog.d bs=1 seek=10 conv=notrunc status=none; }
+pipe_as_index() { lay_store && rm .hg/store/00changelog.i && mkfifo .hg/store/00changelog.i; }
+pipe_as_data() { lay_store && rm .hg/store/00changelog.d && mkfifo .hg/store/00changelog.d; }
+pipe_as_requires() { mkdir .hg && mkfifo .hg/requires; }
+device_as_index() { lay_store && ln -sf /dev/zero .hg/store/00changelog.i; }
+socket_as_index() {
+    lay_store && rm .hg/store/00changelog.i
+    python3 -Bc "import socket; socket.socket(socket.AF_UNIX).bind('.hg/store/00changelog.i')"
+}
+link_to_index() { lay_store && mv .hg/store/00changelog.i other && ln -s "$PWD/other" .hg/store/00changelog.i; }
+link_to_nowhere() { mkdir .hg && ln -s nowhere .hg/requires; }
+locked_by_mercurial() { lay_store && ln -s box:77 .hg/wlock && ln -s box:77 .hg/store/lock; }
 second_link() { lay_store && ln .hg/store/00changelog.i other-clone.i && ln .hg/store/00changelog.d other-clone.d; }
 
 # Ways to run the program; each writes what the program says and returns its status.
@@ -82,6 +93,7 @@ plain() { "$program" "$@" </dev/null; }
 as_nobody() { # root may read every file
     if [ "$(id -u)" = 0 ]; then setpriv --reuid=65534 --regid=65534 --clear-groups "$program" "$@" </dev/null; else plain "$@"; fi
 }
+in_time() { timeout 10 "$program" "$@" </dev/null; } # opening a pipe would wait for its other end
 closed_output() { "$program" "$@" </dev/null >&-; }
 full_output() { "$program" "$@" </dev/null >/dev/full; }
 reader_gone() { # standard output is a pipe that nobody reads any more, and the signal for that is handled so
@@ -106,7 +118,7 @@ checksum() {
 expected_log=$here/fixtures/separate/expected/000
 
 check() { # WORLD WAY STATUS LINE WORDS..: LINE is the last line written, 'log' for the whole log, or '-' for nothing
-    local world=$1 way=$2 want=$3 line=$4 status before after said
+    local world=$1 way=$2 want=$3 line=$4 status before after said hint
     shift 4
     rm -rf "$work/world" && mkdir "$work/world" && cd "$work/world" || exit 1
     "$world" || exit 1
@@ -119,7 +131,8 @@ check() { # WORLD WAY STATUS LINE WORDS..: LINE is the last line written, 'log' 
     -) [ -s "$work/out" ] && said=$(tail -n 1 "$work/out") || said=- ;;
     *) said=$(tail -n 1 "$work/out") ;;
     esac
-    if [ "$status" = "$want" ] && [ "$said" = "$line" ] && [ "$before" = "$after" ] && [ ! -s "$work/err" ]; then
+    hint=$(sed -n "/^## Hints/,/^## Limits/s/^| $want | \(.*\) |$/hg_store: \1/p" "$here/../docs/ANSWERS.md")
+    if [ "$status" = "$want" ] && [ "$said" = "$line" ] && [ "$before" = "$after" ] && [ "$(tail -n 1 "$work/err")" = "$hint" ]; then
         passed=$((passed + 1))
         return
     fi
@@ -143,6 +156,14 @@ unreadable_data|as_nobody|16|abort: file operation failed|log
 folder_as_index|plain|16|abort: file operation failed|log
 folder_as_data|plain|16|abort: file operation failed|log
 file_as_store|plain|15|abort: damaged dirstate: dirstate 6 0|log
+pipe_as_index|in_time|16|abort: file operation failed|log
+pipe_as_data|in_time|16|abort: file operation failed|log
+pipe_as_requires|in_time|16|abort: file operation failed|log
+device_as_index|in_time|16|abort: file operation failed|log
+socket_as_index|in_time|16|abort: file operation failed|log
+link_to_index|plain|0|log|log
+link_to_nowhere|plain|27|abort: requirement nowhere|log
+locked_by_mercurial|plain|0|log|log
 cut_data|plain|15|abort: damaged store/00changelog.i: revlog 5 15|log
 cut_entry|plain|0|log|log
 other_byte|plain|15|abort: damaged store/00changelog.i: revlog 7 0|log

@@ -9,17 +9,29 @@ use crate::streams::read_once;
 use hgs_files::files::Created;
 use hgs_files::path::StorePath;
 use std::alloc::AllocError;
-use std::fs::{self, File, OpenOptions};
+use std::fs::{self, File, OpenOptions, Permissions};
 use std::io::{self, ErrorKind, Read, Seek, SeekFrom, Write};
-use std::os::unix::fs::MetadataExt;
+use std::os::unix::fs::{MetadataExt, PermissionsExt};
 use std::path::Path;
 
-/// A folder, and the folders whose lists of names changed since they were last made to last.
+/// A folder, and the folders whose lists of names changed since they were last made to last, the latest change last.
 #[derive(Drop)]
 pub struct Folder {
     rt: HostRuntime,
     name: String,
     changed: Vec<String>,
+    /// Whether the names of the whole store were made to last, those too that an earlier process changed.
+    settled: bool,
+}
+
+/// What stands under a name.
+#[derive(Drop)]
+enum Found {
+    Nothing,
+    /// A file, which has one name or more.
+    File { len: u64, names: u64 },
+    /// A link that leads nowhere, as Mercurial's locks are. Its text is the file's bytes.
+    Link(Vec<u8>),
 }
 
 // Whether the error says that no file stands there: none has the name, or a folder on the way to it is missing or a file.
@@ -57,12 +69,22 @@ fn read_up_to<R: Read>(reader: &mut R, most: u64, into: &mut Vec<u8>) -> io::Res
     Ok(count)
 }
 
+// The part of these bytes from a place on, of at most so many.
+fn part_of(bytes: &[u8], from: u64, most: u64) -> &[u8]
+    ensures { length result.now ≤ most }
+{
+    let from = from.min(bytes.len() as u64) as usize;
+    let rest = &bytes[from..];
+    &rest[..most.min(rest.len() as u64) as usize]
+}
+
 impl Folder {
     pub fn new(rt: HostRuntime, name: &str) -> Result<Folder, AllocError> {
         Ok(Folder {
             rt,
             name: String::from_str(rt.alloc(), name)?,
             changed: Vec::new(rt.alloc()),
+            settled: false,
         })
     }
 
@@ -74,26 +96,49 @@ impl Folder {
         }
     }
 
-    // Whether a folder is above this one and stands, so that what is above it stays as it is.
-    fn is_above(&self, folder: &str) -> bool {
-        folder.len() < self.name.len()
-            && match fs::metadata(&self.rt, folder) {
-                Ok(_) => true,
-                Err(error) => !is_absent(&error),
-            }
+    // What stands under a name. What is neither a file nor such a link is an error, and is not opened, since opening a pipe
+    // waits for its other end.
+    fn find(&self, name: &str) -> io::Result<Found> {
+        match fs::metadata(&self.rt, name) {
+            Ok(found) if found.is_file() => Ok(Found::File {
+                len: found.len(),
+                names: found.nlink(),
+            }),
+            Ok(_) => Err(ErrorKind::IsADirectory.into()),
+            Err(error) if is_absent(&error) => self.find_link(name),
+            Err(error) => Err(error),
+        }
     }
 
-    // Notes that the lists of names of the folders on the way to a file may change. Of those above this folder only the
-    // nearest that stands may, and those that are to be made below it.
+    // The link that leads nowhere under a name, where there is one.
+    fn find_link(&self, name: &str) -> io::Result<Found> {
+        match fs::read_link(&self.rt, name) {
+            Ok(text) => Ok(Found::Link(Vec::from_slice(
+                self.rt.alloc(),
+                text.as_str().as_bytes(),
+            )?)),
+            Err(error) if is_absent(&error) => Ok(Found::Nothing),
+            Err(error) => Err(error),
+        }
+    }
+
+    // Notes that the list of names of a folder changes now.
+    fn note_folder(&mut self, folder: &str) -> io::Result<()> {
+        self.changed.retain(|noted| noted.as_str() != folder);
+        self.changed
+            .push(String::from_str(self.rt.alloc(), folder)?)?;
+        Ok(())
+    }
+
+    // Notes that the list of names of the folder of a file changes now, and those of the folders above that do not stand,
+    // which are made with it. What cannot be looked at, stands.
     fn note(&mut self, name: &str) -> io::Result<()> {
         for folder in Path::new(name).ancestors().skip(1) {
             let folder = folder.as_str();
-            if !self.changed.iter().any(|noted| noted.as_str() == folder) {
-                self.changed
-                    .push(String::from_str(self.rt.alloc(), folder)?)?;
-            }
-            if self.is_above(folder) {
-                break;
+            self.note_folder(folder)?;
+            match fs::metadata(&self.rt, folder) {
+                Err(error) if is_absent(&error) => {}
+                _ => break,
             }
         }
         Ok(())
@@ -118,6 +163,19 @@ impl Folder {
         }
     }
 
+    // Gives a file that was made the mode of its folder, without the right to run it, as Mercurial does, so that a store
+    // that a group shares stays so.
+    fn give_mode(&self, file: &File, name: &str) -> io::Result<()> {
+        let Some(folder) = Path::new(name).parent() else {
+            return Ok(());
+        };
+        let wanted = fs::metadata(&self.rt, folder)?.mode() & 0o666;
+        if file.metadata()?.mode() & 0o777 == wanted {
+            return Ok(());
+        }
+        file.set_permissions(Permissions::from_mode(wanted))
+    }
+
     // Writes a copy of a file beside it, and puts it into its place once the copy lasts.
     fn replace_by_copy(&self, name: &str, copy: &str) -> io::Result<()> {
         fs::copy(&self.rt, name, copy)?;
@@ -125,20 +183,24 @@ impl Folder {
         fs::rename(&self.rt, copy, name)
     }
 
-    // Gives a file that has several names a copy of its own under this one. `hg clone` on one disk makes the files of the
-    // new store second names of the old one's, and a change in place would reach into both.
-    fn make_own(&self, name: &str) -> io::Result<()> {
-        match fs::metadata(&self.rt, name) {
-            Ok(found) if found.is_file() && found.nlink() > 1 => {}
-            Err(error) if !is_absent(&error) => return Err(error),
-            _ => return Ok(()),
-        }
+    // Makes a file ready to be changed in place, and answers whether it is still to be made. One that has several names gets
+    // a copy of its own under this one: `hg clone` on one disk makes the files of the new store second names of the old one's,
+    // and a change would reach into both. A copy that a stop left behind is removed. A link that leads nowhere is left alone.
+    fn make_own(&self, name: &str) -> io::Result<bool> {
+        let names = match self.find(name)? {
+            Found::Nothing => 0,
+            Found::File { names, .. } => names,
+            Found::Link(_) => return Err(ErrorKind::AlreadyExists.into()),
+        };
         let copy = format!(in self.rt.alloc(); "{name}.hg_store-copy")?;
-        let answer = self.replace_by_copy(name, copy.as_str());
-        if answer.is_err() {
-            let _ = fs::remove_file(&self.rt, copy.as_str());
-        }
-        begun(answer)
+        let answer = if names > 1 {
+            self.replace_by_copy(name, copy.as_str())
+        } else {
+            Ok(())
+        };
+        let _ = fs::remove_file(&self.rt, copy.as_str());
+        begun(answer)?;
+        Ok(names == 0)
     }
 
     /// Adds a part of a file to `into`, and answers how many bytes; none where the file is absent. The length that counts
@@ -153,7 +215,28 @@ impl Folder {
         ensures { AddsPart most into.old.items into.new.items result }
     {
         let name = self.name_of(path)?;
-        let mut file = match File::open(&self.rt, name.as_str()) {
+        match self.find(name.as_str())? {
+            Found::Nothing => Ok(None),
+            Found::File { .. } => self.read_file(name.as_str(), from, most, into),
+            Found::Link(text) => {
+                let part = part_of(&text, from, most);
+                into.extend_from_slice(part)?;
+                Ok(Some(part.len() as u64))
+            }
+        }
+    }
+
+    // Adds a part of a file that stood.
+    fn read_file(
+        &self,
+        name: &str,
+        from: u64,
+        most: u64,
+        into: &mut Vec<u8>,
+    ) -> io::Result<Option<u64>>
+        ensures { AddsPart most into.old.items into.new.items result }
+    {
+        let mut file = match File::open(&self.rt, name) {
             Ok(file) => file,
             Err(error) if is_absent(&error) => return Ok(None),
             Err(error) => return Err(error),
@@ -168,11 +251,10 @@ impl Folder {
     }
 
     pub fn size(&self, path: &StorePath) -> io::Result<Option<u64>> {
-        match fs::metadata(&self.rt, self.name_of(path)?) {
-            Ok(found) if found.is_file() => Ok(Some(found.len())),
-            Ok(_) => Err(ErrorKind::IsADirectory.into()),
-            Err(error) if is_absent(&error) => Ok(None),
-            Err(error) => Err(error),
+        match self.find(self.name_of(path)?.as_str())? {
+            Found::Nothing => Ok(None),
+            Found::File { len, .. } => Ok(Some(len)),
+            Found::Link(text) => Ok(Some(text.len() as u64)),
         }
     }
 
@@ -180,21 +262,27 @@ impl Folder {
     pub fn append(&mut self, path: &StorePath, bytes: &[u8]) -> io::Result<()> {
         let name = self.name_of(path)?;
         self.note(name.as_str())?;
-        self.make_own(name.as_str())?;
+        let is_new = self.make_own(name.as_str())?;
         let mut file = self.open_or_make(
             OpenOptions::new().append(true).create(true),
             name.as_str(),
         )?;
+        if is_new {
+            begun(self.give_mode(&file, name.as_str()))?;
+        }
         begun(file.write_all(bytes))
     }
 
     pub fn put(&mut self, path: &StorePath, bytes: &[u8]) -> io::Result<()> {
         let name = self.name_of(path)?;
         self.note(name.as_str())?;
-        self.make_own(name.as_str())?;
+        let is_new = self.make_own(name.as_str())?;
         let mut how = OpenOptions::new();
         how.write(true).create(true).truncate(true);
         let mut file = self.open_or_make(&how, name.as_str())?;
+        if is_new {
+            begun(self.give_mode(&file, name.as_str()))?;
+        }
         begun(file.write_all(bytes))
     }
 
@@ -209,13 +297,19 @@ impl Folder {
             Err(error) if error.kind() == ErrorKind::AlreadyExists => return Ok(Created::There),
             Err(error) => return Err(error),
         };
-        match file.write_all(bytes) {
+        match self.fill(&mut file, name.as_str(), bytes) {
             Ok(()) => Ok(Created::Made),
             Err(error) => {
-                fs::remove_file(&self.rt, name.as_str())?;
+                begun(fs::remove_file(&self.rt, name.as_str()))?;
                 Err(error)
             }
         }
+    }
+
+    // Gives a new file its mode and its bytes.
+    fn fill(&self, file: &mut File, name: &str, bytes: &[u8]) -> io::Result<()> {
+        self.give_mode(file, name)?;
+        file.write_all(bytes)
     }
 
     pub fn cut(&mut self, path: &StorePath, len: u64) -> io::Result<()> {
@@ -269,9 +363,51 @@ impl Folder {
         }
     }
 
-    /// Makes the names last in each folder where this object may have changed some. What another process changed in a
-    /// folder that is not among these is not made to last.
+    // Makes the names in a folder and in all below it last, those below first.
+    fn settle_below(&self, name: &str) -> io::Result<()> {
+        let mut folders = Vec::new(self.rt.alloc());
+        folders.push(String::from_str(self.rt.alloc(), name)?)?;
+        let mut at = 0;
+        for _ in 0..u64::MAX {
+            if at >= folders.len() {
+                break;
+            }
+            self.add_folders(at, &mut folders)?;
+            at += 1;
+        }
+        for folder in folders.iter().rev() {
+            self.settle_folder(folder.as_str())?;
+        }
+        Ok(())
+    }
+
+    // Adds the folders in one of these.
+    fn add_folders(&self, at: usize, folders: &mut Vec<String>) -> io::Result<()> {
+        let Some(folder) = folders.get(at) else {
+            return Ok(());
+        };
+        let listing = match fs::read_dir(&self.rt, folder.as_str()) {
+            Ok(listing) => listing,
+            Err(error) if is_absent(&error) => return Ok(()),
+            Err(error) => return Err(error),
+        };
+        for entry in listing {
+            let entry = entry?;
+            if entry.file_type()?.is_dir() {
+                folders.push(String::from_str(self.rt.alloc(), entry.path().as_str())?)?;
+            }
+        }
+        Ok(())
+    }
+
+    /// Makes the names last in each folder where this object may have changed some, in the order in which they were last
+    /// changed. The first time it does so before in all folders of the store, since a process that was stopped may have
+    /// changed names there that nobody made to last.
     pub fn settle(&mut self) -> io::Result<()> {
+        if !self.settled {
+            self.settle_below(format!(in self.rt.alloc(); "{}/store", self.name)?.as_str())?;
+            self.settled = true;
+        }
         for folder in self.changed.iter() {
             self.settle_folder(folder.as_str())?;
         }

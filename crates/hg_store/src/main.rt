@@ -7,6 +7,7 @@
 mod command_line;
 mod files;
 mod folder;
+mod hints;
 mod streams;
 #[cfg(test)]
 mod tests;
@@ -14,6 +15,7 @@ mod yard;
 
 use crate::command_line::{Words, read_words};
 use crate::files::OsFiles;
+use crate::hints::hint;
 use crate::streams::{OsSink, OsSource};
 use crate::yard::OsYard;
 use hgs_files::streams::Sink;
@@ -33,6 +35,23 @@ fn refuse_text<K: Sink>(rt: &HostRuntime, before: &[String], out: &mut K) -> u8 
     refuse_words(rt.alloc(), place, out)
 }
 
+// Names the word that does not fit on standard error, or says that one is missing.
+fn say_word(rt: &HostRuntime, words: &[String]) {
+    if let Err(place) = command_from(words) {
+        let _ = match words.get(place) {
+            Some(word) => eprintln!(rt; "hg_store: the word {word} does not fit here"),
+            None => eprintln!(rt; "hg_store: a word is missing"),
+        };
+    }
+}
+
+// Says on standard error what a status means, where it is a refusal. What becomes of that line does not matter.
+fn say_hint(rt: &HostRuntime, status: u8) {
+    if let Some(text) = hint(status) {
+        let _ = eprintln!(rt; "hg_store: {text}");
+    }
+}
+
 // Does what the words ask for, and gives the status.
 fn answer<K: Sink>(rt: &HostRuntime, out: &mut K) -> Result<u8, AllocError> {
     match read_words(rt)? {
@@ -40,6 +59,9 @@ fn answer<K: Sink>(rt: &HostRuntime, out: &mut K) -> Result<u8, AllocError> {
             let yard = OsYard::new(OsFiles::new(*rt, ".hg")?);
             let mut input = OsSource::new(rt.stdin());
             let ran = run(rt, rt.alloc(), &words, yard, &mut input, out);
+            if ran.status == 28 {
+                say_word(rt, &words);
+            }
             Ok(ran.status)
         }
         Words::UpTo(before) => Ok(refuse_text(rt, &before, out)),
@@ -49,11 +71,15 @@ fn answer<K: Sink>(rt: &HostRuntime, out: &mut K) -> Result<u8, AllocError> {
 /// Ends with the status, with 19 at once where standard output is closed.
 fn main(rt: HostRuntime) -> ExitCode {
     if rt.stdout().as_fd().try_clone_to_owned().is_err() {
+        say_hint(&rt, 19);
         return ExitCode::from(19);
     }
     let mut out = OsSink::new(rt.stdout());
     match answer(&rt, &mut out) {
-        Ok(status) => ExitCode::from(status),
+        Ok(status) => {
+            say_hint(&rt, status);
+            ExitCode::from(status)
+        }
         Err(_) => {
             let _ = out.write(b"abort: out of memory\n");
             ExitCode::from(30)

@@ -1,7 +1,7 @@
 //! The source and the sink over what std reads and writes: standard input and standard output, in the program.
 //!
 //! They tell no content, and keep a count of what failed.
-ghost use Rattle.std.specs.Prelude.{◌≡◌, ◌≤◌, None};
+ghost use Rattle.std.specs.Prelude.{◌≡◌, ◌≤◌, None, IfOk, length};
 ghost use Rattle.hg_store.specs.Reading.{AddsAnswered};
 
 use hgs_files::streams::{IoFault, Sink, Source};
@@ -10,6 +10,36 @@ use std::io::{self, Read, Write};
 /// One read asks for no more than this.
 const PIECE: usize = 8_192;
 
+/// A call that a signal interrupted is made so often before that is an error.
+const TRIES: u32 = 1_000;
+
+// Reads once, again where a signal interrupts it.
+fn read_piece<R: Read>(reader: &mut R, piece: &mut [u8]) -> io::Result<usize>
+    ensures same { length piece.new ≡ length piece.old }
+    ensures count { IfOk result (λ k. k ≤ length piece.old) }
+{
+    for _ in 1..TRIES {
+        match reader.read(piece) {
+            Err(error) if error.kind() == io::ErrorKind::Interrupted => {}
+            answer => return answer,
+        }
+    }
+    reader.read(piece)
+}
+
+// Writes once, again where a signal interrupts it.
+fn write_piece<W: Write>(writer: &mut W, bytes: &[u8]) -> io::Result<usize>
+    ensures { IfOk result (λ k. k ≤ length bytes.now) }
+{
+    for _ in 1..TRIES {
+        match writer.write(bytes) {
+            Err(error) if error.kind() == io::ErrorKind::Interrupted => {}
+            answer => return answer,
+        }
+    }
+    writer.write(bytes)
+}
+
 /// Reads once, adds at most `most` bytes at the end of `into`, and answers how many. An error adds none.
 pub fn read_once<R: Read>(reader: &mut R, most: u64, into: &mut Vec<u8>) -> io::Result<u64>
     ensures { AddsAnswered most into.old.items into.new.items result }
@@ -17,7 +47,7 @@ pub fn read_once<R: Read>(reader: &mut R, most: u64, into: &mut Vec<u8>) -> io::
     let mut piece = [0; PIECE];
     let room = PIECE.min(most as usize);
     into.reserve(room)?;
-    let count = reader.read(&mut piece[..room])?;
+    let count = read_piece(reader, &mut piece[..room])?;
     into.extend_from_slice(&piece[..count])?;
     Ok(count as u64)
 }
@@ -71,7 +101,7 @@ impl<W: Write + Drop> Sink for OsSink<W> {
     ghost faults = { λ sink. sink.faults };
 
     fn write(&mut self, bytes: &[u8]) -> Result<u64, IoFault> {
-        match self.writer.write(bytes) {
+        match write_piece(&mut self.writer, bytes) {
             Ok(count) if count > 0 || bytes.is_empty() => Ok(count as u64),
             _ => {
                 self.faults = self.faults.saturating_add(1);

@@ -5,7 +5,8 @@ use hgs_files::files::{Created, FileFault, Files, Reads};
 use hgs_files::path::StorePath;
 use hgs_files::streams::{Sink, Source};
 use std::env;
-use std::fs::{self, File};
+use std::fs::{self, File, Permissions};
+use std::os::unix::fs::{MetadataExt, PermissionsExt, symlink};
 use std::test::Fail;
 
 // A folder that stands for one test, under the system's folder for such.
@@ -99,6 +100,46 @@ fn folders_in_place_of_files_are_faults(rt: HostRuntime) -> Result<(), Fail> {
     Ok(())
 }
 
+// As Mercurial's locks are.
+#[test]
+fn links_that_lead_nowhere_stand(rt: HostRuntime) -> Result<(), Fail> {
+    let folder = new_folder(&rt)?;
+    let mut files = OsFiles::new(rt, folder.as_str())?;
+    let lock = path(&rt, "wlock")?;
+    let name = format!(in rt.alloc(); "{folder}/wlock")?;
+    symlink(&rt, "box:77", name.as_str())?;
+    assert_eq!(rt; files.size(&lock), Ok(Some(6)));
+    assert_eq!(rt; text(&rt, &mut files, "wlock", 1)?.as_str(), "ox:77");
+    assert_eq!(rt; files.create_new(&lock, b"mine"), Ok(Created::There));
+    assert_eq!(rt; files.append(&lock, b"text"), Err(FileFault::Failed));
+    assert_eq!(rt; files.put(&lock, b"text"), Err(FileFault::Failed));
+    assert_eq!(rt; text(&rt, &mut files, "wlock", 0)?.as_str(), "box:77");
+    assert_eq!(rt; files.remove(&lock), Ok(()));
+    assert_eq!(rt; files.size(&lock), Ok(None));
+    fs::remove_dir_all(&rt, folder.as_str())?;
+    Ok(())
+}
+
+#[test]
+fn new_files_have_the_mode_of_their_folder(rt: HostRuntime) -> Result<(), Fail> {
+    let folder = new_folder(&rt)?;
+    fs::set_permissions(&rt, folder.as_str(), Permissions::from_mode(0o2770))?;
+    let mut files = OsFiles::new(rt, folder.as_str())?;
+    for name in ["a", "b", "c"] {
+        let file = path(&rt, name)?;
+        let made = match name {
+            "a" => files.append(&file, b"text"),
+            "b" => files.put(&file, b"text"),
+            _ => files.create_new(&file, b"text").map(|_| ()),
+        };
+        assert_eq!(rt; made, Ok(()));
+        let name = format!(in rt.alloc(); "{folder}/{name}")?;
+        assert_eq!(rt; fs::metadata(&rt, name.as_str())?.mode() & 0o777, 0o660);
+    }
+    fs::remove_dir_all(&rt, folder.as_str())?;
+    Ok(())
+}
+
 #[test]
 fn second_names_keep_their_bytes(rt: HostRuntime) -> Result<(), Fail> {
     let folder = new_folder(&rt)?;
@@ -116,6 +157,8 @@ fn second_names_keep_their_bytes(rt: HostRuntime) -> Result<(), Fail> {
         };
         assert_eq!(rt; changed, Ok(()));
         assert_eq!(rt; fs::read_to_string(&rt, two.as_str())?.as_str(), "text");
+        let left = format!(in rt.alloc(); "{one}.hg_store-copy")?;
+        assert_eq!(rt; fs::exists(&rt, left.as_str())?, false);
     }
     assert_eq!(rt; text(&rt, &mut files, "a", 0)?.as_str(), "text more");
     assert_eq!(rt; text(&rt, &mut files, "b", 0)?.as_str(), "t");

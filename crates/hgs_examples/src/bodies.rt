@@ -35,7 +35,7 @@ const CASES: [Case; 4] = [
 
 /// The chunk and the node of a text as the first revision of a revlog.
 fn first(alloc: Global, text: &[u8]) -> Result<(Vec<u8>, Node), RevFault> {
-    match Revlog::empty(alloc, false).add(alloc, text, None, None, 0, None)? {
+    match Revlog::empty(alloc, false).add(text, None, None, 0, None)? {
         Added::New {
             entry: _,
             chunk,

@@ -46,6 +46,7 @@ fn block_len(text: &[u8]) -> usize
 /// A text that does not begin with the bytes 1 and LF, or whose block has no such end, is all body.
 pub fn unpack(text: &[u8]) -> Parts
     ensures value { (bytes_in text.now result.meta, bytes_in text.now result.body) ≡ unpacked text.now }
+    ensures first { result.meta.from ≡ 0 }
     ensures meta { result.meta.from + result.meta.len ≤ length text.now }
     ensures body { result.body.from + result.body.len ≡ length text.now }
 {

@@ -12,7 +12,7 @@ use Rattle.hgs_index.specs.Node.{null_node}
 use Rattle.hgs_index.specs.Revision.{Revision, Parents, node_after, nodes_from, nodes, ParentsBefore}
 use Rattle.hgs_index.specs.Revlog.{chunk_text, Stored, Item, entry_after, items_from, items, index_bytes, all_different, next_header, HoldsRevisions, BeginsWithRevisions}
 use Rattle.hgs_index.proofs.RevisionLemmas.{nodes_from-append, nodes-append}
-use Rattle.hgs_index.proofs.RevlogLemmas.{chunks_of, map-append, concat-append, items_from-append, index_bytes-append, entries_behind, HeldAs, held-more}
+use Rattle.hgs_index.proofs.RevlogLemmas.{chunks_of, map-append, concat-append, items_from-append, index_bytes-append, entries_behind, HeldAs, held-more, begins-more}
 
 all-front : {A : Type 0} (P : A → Type 0) (xs ys : List A) → AllByRecursion P (xs ++ ys) → AllByRecursion P xs
 all-front P [] ys h = tt
@@ -166,3 +166,10 @@ held-one-more index data_bytes revisions s k held separate text p1 p2 fits new =
     subst (HeldAs (index ++ entry_bytes (entry_after (length data_bytes) (nodes revisions) s) (next_header revisions k)) (data_bytes ++ s.chunk) (revisions ++ s.revision ∷ [])) (ap (λ l. l ++ s ∷ []) g.1)
     (subst (λ l. HeldAs l (data_bytes ++ s.chunk) (revisions ++ s.revision ∷ []) stored) index_same
     (subst (λ l. HeldAs (index ++ entries_behind h.header (items h.stored) (items_from (length data_bytes) (nodes revisions) (s ∷ []))) l (revisions ++ s.revision ∷ []) stored) data_same more))
+
+-- bytes that begin with a list begin with each front of it
+pub begins-front : (index data_bytes : List ℕ) (revisions front back : List Revision) → front ++ back ≡ revisions → BeginsWithRevisions index data_bytes revisions → BeginsWithRevisions index data_bytes front
+begins-front index data_bytes revisions front back joined b =
+    let h = held-front b.index_front b.data_front front back (subst (HoldsRevisions b.index_front b.data_front) (sym joined) b.held) in
+    let more = begins-more b.index_front b.data_front b.index_begins.0 b.data_begins.0 front h in
+    subst (λ i. BeginsWithRevisions i data_bytes front) (sym b.index_begins.1) (subst (λ d. BeginsWithRevisions (b.index_front ++ b.index_begins.0) d front) (sym b.data_begins.1) more)

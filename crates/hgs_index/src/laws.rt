@@ -1,15 +1,16 @@
 //! What the definitions of this crate imply. Each function is one law; none does anything.
-ghost use Rattle.std.specs.Prelude.{◌≡◌, ◌⊎◌, ◌↔◌, false, true, ℕ, ◌<◌, ◌++◌, List, [], ◌∷◌, length, take, map, None, Some, Ok, IsSome, IfSome, Option};
+ghost use Rattle.std.specs.Prelude.{◌≡◌, ◌⊎◌, ◌↔◌, false, true, ℕ, ◌<◌, ◌*◌, ◌++◌, List, [], ◌∷◌, length, take, map, None, Some, Ok, IsSome, IfSome, Option, position, slice_index_or};
 ghost use Rattle.hex.specs.Hex.{IsBytes};
-ghost use Rattle.hgs_bytes.specs.Bytes.{among, begins_with};
+ghost use Rattle.hgs_bytes.specs.Bytes.{among, begins_with, same};
 ghost use Rattle.hgs_index.specs.declared.entry.Entry.{Entry};
 ghost use Rattle.hgs_index.specs.declared.entry.Header.{Header};
 ghost use Rattle.hgs_index.specs.Ancestor.{IsAncestor, is_ancestor};
 ghost use Rattle.hgs_index.specs.Entry.{Fits, entry_at, entry_bytes, header_at, header_within};
 ghost use Rattle.hgs_index.specs.FileText.{IsBlock, marker, plain_prefix, prefix_of, body_of, unpacked};
-ghost use Rattle.hgs_index.specs.Node.{null_node};
+ghost use Rattle.hgs_index.specs.Hex.{hex, node_at};
+ghost use Rattle.hgs_index.specs.Node.{IsNode, null_node};
 ghost use Rattle.hgs_index.specs.Revision.{Parents, ParentsBefore, Revision, node_after, nodes};
-ghost use Rattle.hgs_index.specs.Revlog.{BeginsWithRevisions, HoldsRevisions, Stored, chunk_of, chunk_text, entry_after, next_header};
+ghost use Rattle.hgs_index.specs.Revlog.{BeginsWithRevisions, HoldsRevisions, Stored, all_different, chunk_of, chunk_text, entry_after, next_header};
 
 /// An entry that is written is read again.
 pub fn encode_then_decode()
@@ -62,6 +63,39 @@ pub fn held_once()
 /// Bytes that hold a list begin with bytes that hold each front of it.
 pub fn held_fronts()
     ensures { (index data_bytes : List ℕ) (front more : List Revision) → HoldsRevisions index data_bytes (front ++ more) → BeginsWithRevisions index data_bytes front }
+{}
+
+/// A node is read from its digits again, and what is read of digits is a node whose digits they are.
+pub fn nodes_written_then_read()
+    ensures back { (node : List ℕ) → IsNode node → node_at (hex node) ≡ Some node }
+    ensures found { (digits node : List ℕ) → node_at digits ≡ Some node → (digits ≡ hex node) × IsNode node }
+{}
+
+/// There is a node for each revision.
+pub fn nodes_are_counted()
+    ensures { (revisions : List Revision) → length (nodes revisions) ≡ length revisions }
+{}
+
+/// Each node of a list stands in it. Where all differ, one node is at one place, and is found there first; where none is
+/// the null node, none is taken for it.
+pub fn nodes_have_places()
+    ensures among { (known : List (List ℕ)) (rev : ℕ) → rev < length known → among (slice_index_or known rev null_node) known ≡ true }
+    ensures one { (known : List (List ℕ)) (i j : ℕ) → all_different known ≡ true → i < length known → j < length known → slice_index_or known i null_node ≡ slice_index_or known j null_node → i ≡ j }
+    ensures first { (known : List (List ℕ)) (rev : ℕ) → all_different known ≡ true → rev < length known → position (λ n. same n (slice_index_or known rev null_node)) known ≡ Some rev }
+    ensures not_null { (known : List (List ℕ)) (rev : ℕ) → among null_node known ≡ false → rev < length known → same (slice_index_or known rev null_node) null_node ≡ false }
+{}
+
+/// The index of a list of revisions has 64 bytes for each.
+pub fn held_index_length()
+    ensures { (index data_bytes : List ℕ) (revisions : List Revision) → HoldsRevisions index data_bytes revisions → length index ≡ 64 * length revisions }
+{}
+
+/// Bytes that hold a list begin with it; what begins with a list begins with each front of it, and does so with any more
+/// bytes behind.
+pub fn lists_begin()
+    ensures held { (index data_bytes : List ℕ) (revisions : List Revision) → HoldsRevisions index data_bytes revisions → BeginsWithRevisions index data_bytes revisions }
+    ensures fronts { (index data_bytes : List ℕ) (revisions front back : List Revision) → front ++ back ≡ revisions → BeginsWithRevisions index data_bytes revisions → BeginsWithRevisions index data_bytes front }
+    ensures more { (index data_bytes more more_data : List ℕ) (revisions : List Revision) → BeginsWithRevisions index data_bytes revisions → BeginsWithRevisions (index ++ more) (data_bytes ++ more_data) revisions }
 {}
 
 /// The entry and the chunk of one more revision, behind bytes that hold a list, hold the list with it.

@@ -1,5 +1,5 @@
 -- What is read of a front of an input: the same as of the whole, or that it is cut.
-use Rattle.std.proofs.Common.{◌≡◌, ◌⊎◌, inl, inr, ℕ, zero, suc, ◌+◌, ◌<◌, ◌≤◌, Bool, true, false, List, [], ◌∷◌, ◌++◌, length, take, drop, Option, Some, None, Result, Ok, Err, refl, sym, ◌∙◌, ap, subst, arith, append_assoc, length-append, codes}
+use Rattle.std.proofs.Common.{◌≡◌, ◌⊎◌, inl, inr, ℕ, zero, suc, ◌+◌, ◌-◌, ◌<◌, ◌≤◌, Bool, true, false, List, [], ◌∷◌, ◌++◌, length, take, drop, Option, Some, None, Result, Ok, Err, refl, sym, ◌∙◌, ap, subst, arith, append_assoc, length-append, codes}
 use Rattle.std.specs.Prelude.{◌==◌, nat_le, slice_index, if◌then◌else◌}
 use Rattle.std.specs.Str.{is_utf8}
 use Rattle.std.proofs.Math.ListN.{get_or-append}
@@ -11,9 +11,11 @@ use Rattle.hgs_model.specs.declared.command.NewChange.{NewChange}
 use Rattle.hgs_model.specs.declared.files.NewFile.{NewFile}
 use Rattle.hgs_input.specs.declared.fault.InputFault.{InputFault}
 use Rattle.hgs_input.specs.declared.fault.InputFault.TheVariants.{BadInput, Limit}
-use Rattle.hgs_index.specs.declared.kinds.Which.TheVariants.{Record}
+use Rattle.hgs_index.specs.declared.kinds.Which.{Which}
+use Rattle.hgs_index.specs.declared.kinds.Which.TheVariants.{FileText, Tree, Record}
 use Rattle.hgs_input.specs.Record.{most_input}
-use Rattle.hgs_input.specs.Read.{Rest, Reading, ◌>>=◌, place, bad_at, line_or_cut, next_line, required_at, required, optional_at, optional, counted, word_of, parent_of, user_of, date_of, phase_of, bookmark_of, length_of, FileLine, file_of, more, parents_from, text_at, description_from, allowed, file_with, file_behind, next_file, files_from, nothing_behind, end_from, head_from, change_with, change_from, read_record}
+use Rattle.hgs_input.specs.Read.{Rest, Reading, ◌>>=◌, place, bad_at, line_or_cut, next_line, required_at, required, optional_at, optional, counted, word_of, parent_of, user_of, date_of, phase_of, bookmark_of, length_of, FileLine, file_of, more, parents_from, text_at, description_from, allowed, file_with, file_behind, next_file, files_from, nothing_behind, head_from, change_with, looked_at, read_record}
+use Rattle.hgs_input.proofs.WholeLemmas.{end_from, change_from, looked-whole, looked-on, looked-front, read-looked, read-all}
 use Rattle.hgs_input.proofs.FoundLemmas.{bound, contradiction, file_more_found}
 use Rattle.hgs_input.proofs.ReadLemmas.{at_end}
 use Rattle.hgs_input.proofs.RecordBack.{left}
@@ -230,9 +232,11 @@ pub front_cut : (front more : List ℕ) (b : ℕ) (c : NewChange) → read_recor
 front_cut front more b c e =
     let tail = b ∷ more in
     let size = length-append front tail in
-    let whole : change_from (left (length front + length tail) (front ++ tail)) ≡ Ok c = ap (λ n. change_from (left n (front ++ tail))) (sym size) ∙ e in
     let room = (record_found (front ++ tail) c e).size in
-    change_cut (length front) b more front c whole ∙ ap (λ t. Err (if t then BadInput (length front) else Limit Record)) (le-leb (length front) most_input (omega (arith, room, size)))
+    let all : looked_at (front ++ tail) ≡ front ++ tail = looked-whole (front ++ tail) (omega (arith, room)) in
+    let whole : change_from (left (length front + length tail) (front ++ tail)) ≡ Ok c = ap (λ n. change_from (left n (front ++ tail))) (sym size) ∙ sym (read-all (front ++ tail) (front ++ tail) all) ∙ e in
+    read-all front front (looked-whole front (omega (arith, room, size)))
+    ∙ change_cut (length front) b more front c whole ∙ ap (λ t. Err (if t then BadInput (length front) else Limit Record)) (le-leb (length front) most_input (omega (arith, room, size)))
 
 -- ---- what stands behind a fault
 
@@ -246,21 +250,24 @@ bad_is w at e = by (nat_le w most_input) refl e
 err_is : {B : Type 0} (e f : InputFault) → ◌≡◌ {A = Result B InputFault} (Err e) (Err f) → e ≡ f
 err_is e f h = cc
 
-bind_stay : {A B : Type 0} (w : ℕ) (tail : List ℕ) (a b : Reading A) (f g : A × Rest → Result B InputFault) (at : ℕ) → Alike w tail a b → at < w → (a >>= f) ≡ Err (BadInput at) →
-    ((x : A) (rest : List ℕ) → f (x, left w rest) ≡ Err (BadInput at) → g (x, left (w + length tail) (rest ++ tail)) ≡ Err (BadInput at)) → (b >>= g) ≡ Err (BadInput at)
-bind_stay {A} {B} w tail a b f g at (inl h) lt e k =
-    let is = bad_is w at (err_is {B = B} (bad_at w) (BadInput at) (sym (ap (λ r. r >>= f) h) ∙ e)) in
-    absurd (omega (arith, is, lt))
-bind_stay w tail a b f g at (inr (inl s)) lt e k = ap (λ r. r >>= g) s.all ∙ sym (ap (λ r. r >>= f) s.front) ∙ e
-bind_stay w tail a b f g at (inr (inr s)) lt e k = ap (λ r. r >>= g) s.all ∙ k s.value s.rest (sym (ap (λ r. r >>= f) s.front) ∙ e)
+-- a fault other than that of an input that is cut, or longer than the limit
+record IsBefore (w : ℕ) (f : InputFault) : Type 0 where
+  cut : ◌≡◌ {A = InputFault} (bad_at w) f → ⊥
+  long : ◌≡◌ {A = InputFault} (Limit Record) f → ⊥
 
-nothing_stays : (w at : ℕ) (tail rest : List ℕ) → nothing_behind (left w rest) ≡ Err (BadInput at) → nothing_behind (left (w + length tail) (rest ++ tail)) ≡ Err (BadInput at)
-nothing_stays w at tail rest e = by (length rest == 0) (nat_le w most_input) refl e
+bind_stay : {A B : Type 0} (w : ℕ) (tail : List ℕ) (a b : Reading A) (f g : A × Rest → Result B InputFault) (e : InputFault) → Alike w tail a b → IsBefore w e → (a >>= f) ≡ Err e →
+    ((x : A) (rest : List ℕ) → f (x, left w rest) ≡ Err e → g (x, left (w + length tail) (rest ++ tail)) ≡ Err e) → (b >>= g) ≡ Err e
+bind_stay {A} {B} w tail a b f g e (inl h) other is k = absurd (other.cut (err_is {B = B} (bad_at w) e (sym (ap (λ r. r >>= f) h) ∙ is)))
+bind_stay w tail a b f g e (inr (inl s)) other is k = ap (λ r. r >>= g) s.all ∙ sym (ap (λ r. r >>= f) s.front) ∙ is
+bind_stay w tail a b f g e (inr (inr s)) other is k = ap (λ r. r >>= g) s.all ∙ k s.value s.rest (sym (ap (λ r. r >>= f) s.front) ∙ is)
+
+nothing_stays : (w : ℕ) (e : InputFault) (tail rest : List ℕ) → IsBefore w e → nothing_behind (left w rest) ≡ Err e → nothing_behind (left (w + length tail) (rest ++ tail)) ≡ Err e
+nothing_stays w e tail rest other is = by (length rest == 0) (nat_le w most_input) refl is
   where
-    by : (s t : Bool) → (length rest == 0) ≡ s → ◌≡◌ {A = Result (Unit {0}) InputFault} (if s then (if t then Ok tt else Err (Limit Record)) else Err (bad_at (place (left w rest)))) (Err (BadInput at)) →
-        nothing_behind (left (w + length tail) (rest ++ tail)) ≡ Err (BadInput at)
+    by : (s t : Bool) → (length rest == 0) ≡ s → ◌≡◌ {A = Result (Unit {0}) InputFault} (if s then (if t then Ok tt else Err (Limit Record)) else Err (bad_at (place (left w rest)))) (Err e) →
+        nothing_behind (left (w + length tail) (rest ++ tail)) ≡ Err e
     by true true h k = cc
-    by true false h k = cc
+    by true false h k = absurd (other.long (err_is {B = Unit {0}} (Limit Record) e k))
     by false t h k =
         let size = length-append rest tail in
         let some : (length (rest ++ tail) == 0) ≡ false = false_from_ne_true (length (rest ++ tail) == 0) (λ t. let n = number_is (length (rest ++ tail)) 0 t in let z : (length rest == 0) ≡ true = ap (λ m. m == 0) (zero_of rest (omega (arith, n, size))) in absurd (contradiction (length rest == 0) h z)) in
@@ -270,21 +277,60 @@ nothing_stays w at tail rest e = by (length rest == 0) (nat_le w most_input) ref
         zero_of : (xs : List ℕ) → length xs ≤ 0 → length xs ≡ 0
         zero_of xs h = omega (arith, h)
 
-end_stays : (w at : ℕ) (tail bytes : List ℕ) → at < w → end_from (left w bytes) ≡ Err (BadInput at) → end_from (left (w + length tail) (bytes ++ tail)) ≡ Err (BadInput at)
-end_stays w at tail bytes lt e =
-    bind_stay w tail (required (word_of (codes "end")) (left w bytes)) (required (word_of (codes "end")) (left (w + length tail) (bytes ++ tail))) (λ x. nothing_behind x.1) (λ x. nothing_behind x.1) at (required_alike (word_of (codes "end")) w tail bytes) lt e
-    (λ _ rest k. nothing_stays w at tail rest k)
+end_stays : (w : ℕ) (e : InputFault) (tail bytes : List ℕ) → IsBefore w e → end_from (left w bytes) ≡ Err e → end_from (left (w + length tail) (bytes ++ tail)) ≡ Err e
+end_stays w e tail bytes other is =
+    bind_stay w tail (required (word_of (codes "end")) (left w bytes)) (required (word_of (codes "end")) (left (w + length tail) (bytes ++ tail))) (λ x. nothing_behind x.1) (λ x. nothing_behind x.1) e (required_alike (word_of (codes "end")) w tail bytes) other is
+    (λ _ rest k. nothing_stays w e tail rest other k)
 
 then_err : {A B : Type 0} (x : Result A InputFault) (f : A → B) (e : InputFault) → (x >>= λ a. Ok (f a)) ≡ Err e → x ≡ Err e
 then_err (Ok a) f e h = absurd (err_ok e (f a) (sym h))
 then_err {A} {B} (Err d) f e h = ap (λ z. Err z) (err_is {B = B} d e h)
 
-change_stays : (w at : ℕ) (tail bytes : List ℕ) → at < w → change_from (left w bytes) ≡ Err (BadInput at) → change_from (left (w + length tail) (bytes ++ tail)) ≡ Err (BadInput at)
-change_stays w at tail bytes lt e =
-    bind_stay w tail _ _ _ _ at (head_alike w tail bytes) lt e
-    (λ head r1 k1. bind_stay w tail _ _ _ _ at (description_alike w tail r1) lt k1
-    (λ text r2 k2. bind_stay w tail _ _ _ _ at (files_alike (length r2) (length (r2 ++ tail)) [] w tail r2 (omega arith) (omega arith)) lt k2
-    (λ files r3 k3. ap (λ x. x >>= λ _. Ok (change_with head text files)) (end_stays w at tail r3 lt (then_err (end_from (left w r3)) _ (BadInput at) k3)))))
+change_stays : (w : ℕ) (e : InputFault) (tail bytes : List ℕ) → IsBefore w e → change_from (left w bytes) ≡ Err e → change_from (left (w + length tail) (bytes ++ tail)) ≡ Err e
+change_stays w e tail bytes other is =
+    bind_stay w tail _ _ _ _ e (head_alike w tail bytes) other is
+    (λ head r1 k1. bind_stay w tail _ _ _ _ e (description_alike w tail r1) other k1
+    (λ text r2 k2. bind_stay w tail _ _ _ _ e (files_alike (length r2) (length (r2 ++ tail)) [] w tail r2 (omega arith) (omega arith)) other k2
+    (λ files r3 k3. ap (λ x. x >>= λ _. Ok (change_with head text files)) (end_stays w e tail r3 other (then_err (end_from (left w r3)) _ e k3)))))
+
+-- what stands behind the first byte past the limit decides nothing
+pub decided : (front more : List ℕ) → most_input < length front → read_record (front ++ more) ≡ read_record front
+decided front more long = read-looked (front ++ more) ∙ ap (λ b. change_from (left (length b) b)) (looked-front front more (omega (arith, long))) ∙ sym (read-looked front)
+
+stays : (front more : List ℕ) (e : InputFault) → IsBefore (length front) e → read_record front ≡ Err e → read_record (front ++ more) ≡ Err e
+stays front more e other is = by (nat_le (length front) most_input) refl
+  where
+    by : (b : Bool) → nat_le (length front) most_input ≡ b → read_record (front ++ more) ≡ Err e
+    by true h =
+        let room = leb-true (length front) most_input h in
+        let rest = take (most_input + 1 - length front) more in
+        read-all (front ++ more) (front ++ rest) (looked-on front more (omega (arith, room)))
+        ∙ ap (λ n. change_from (left n (front ++ rest))) (length-append front rest)
+        ∙ change_stays (length front) e rest front other (sym (read-all front front (looked-whole front (omega (arith, room)))) ∙ is)
+    by false h = decided front more (leb-false (length front) most_input h) ∙ is
 
 pub fault_stays : (front more : List ℕ) (at : ℕ) → at < length front → read_record front ≡ Err (BadInput at) → read_record (front ++ more) ≡ Err (BadInput at)
-fault_stays front more at lt e = ap (λ n. change_from (left n (front ++ more))) (length-append front more) ∙ change_stays (length front) at more front lt e
+fault_stays front more at lt is = stays front more (BadInput at) (record { cut = λ h. (let same = bad_is (length front) at h in absurd (omega (arith, same, lt))); long = no }) is
+  where
+    no : ◌≡◌ {A = InputFault} (Limit Record) (BadInput at) → ⊥
+    no h = cc
+
+-- the limit of one thing in a record is not that of the input
+other_limit : (w : ℕ) (which : Which) → (◌≡◌ {A = InputFault} (Limit Record) (Limit which) → ⊥) → IsBefore w (Limit which)
+other_limit w which other = record { cut = by (nat_le w most_input); long = other }
+  where
+    by : (t : Bool) → ◌≡◌ {A = InputFault} (if t then BadInput w else Limit Record) (Limit which) → ⊥
+    by true k = cc
+    by false k = other k
+
+pub body_stays : (front more : List ℕ) → read_record front ≡ Err (Limit FileText) → read_record (front ++ more) ≡ Err (Limit FileText)
+body_stays front more is = stays front more (Limit FileText) (other_limit (length front) FileText no) is
+  where
+    no : ◌≡◌ {A = InputFault} (Limit Record) (Limit FileText) → ⊥
+    no h = cc
+
+pub files_stay : (front more : List ℕ) → read_record front ≡ Err (Limit Tree) → read_record (front ++ more) ≡ Err (Limit Tree)
+files_stay front more is = stays front more (Limit Tree) (other_limit (length front) Tree no) is
+  where
+    no : ◌≡◌ {A = InputFault} (Limit Record) (Limit Tree) → ⊥
+    no h = cc

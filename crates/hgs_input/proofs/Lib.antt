@@ -5,3 +5,4 @@ pub mod PathLemmas
 pub mod ReadLemmas
 pub mod RecordBack
 pub mod RecordFound
+pub mod WholeLemmas

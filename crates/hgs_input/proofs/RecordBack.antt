@@ -32,7 +32,8 @@ use Rattle.hgs_input.specs.declared.fault.InputFault.{InputFault}
 use Rattle.hgs_input.specs.declared.fault.InputFault.TheVariants.{Limit}
 use Rattle.hgs_index.specs.declared.kinds.Which.TheVariants.{FileText, Tree, Record}
 use Rattle.hgs_input.specs.Record.{most_input, parent_text, phase_text, bookmark_text, description_text, flag_sign, file_text, record_text}
-use Rattle.hgs_input.specs.Read.{Rest, ◌>>=◌, place, bad_at, fault_at, line_or_cut, next_line, required_at, required, optional_at, optional, counted, behind, and_then, where_true, word_of, parent_of, is_user, most_user, user_of, date_of, phase_of, bookmark_of, is_number, number_up_to, most_description, length_of, FileLine, flag_of, file_of_parts, file_of, more, parents_from, text_at, description_from, fits_behind, allowed, file_with, file_behind, most_file, most_files, next_file, files_from, nothing_behind, end_from, Head, head_from, change_from, read_record}
+use Rattle.hgs_input.specs.Read.{Rest, ◌>>=◌, place, bad_at, fault_at, line_or_cut, next_line, required_at, required, optional_at, optional, counted, behind, and_then, where_true, word_of, parent_of, is_user, most_user, user_of, date_of, phase_of, bookmark_of, is_number, number_up_to, most_description, length_of, FileLine, flag_of, file_of_parts, file_of, more, parents_from, text_at, description_from, fits_behind, allowed, file_with, file_behind, most_file, most_files, next_file, files_from, nothing_behind, Head, head_from, read_record}
+use Rattle.hgs_input.proofs.WholeLemmas.{end_from, change_from, looked-whole, read-all}
 use Rattle.hgs_input.proofs.PathLemmas.{begins_front, drop_front, take_front, any_there, any_found, or_true, both, contradiction, any-append}
 use Rattle.hgs_input.proofs.FoundLemmas.{not_true, paths-push}
 
@@ -469,4 +470,4 @@ change_back says c w h small =
     (then_ok (end_from (left w r3)) tt _ _ (end_back w small) (ap (λ p. Ok (record c { phase = p })) (phase_is says c.phase)))))
 
 pub record_back : (says : Bool) (c : NewChange) → IsNewChange c → length (record_text says c) ≤ most_input → read_record (record_text says c) ≡ Ok c
-record_back says c h small = change_back says c (length (record_text says c)) h small
+record_back says c h small = read-all (record_text says c) (record_text says c) (looked-whole (record_text says c) (omega (arith, small))) ∙ change_back says c (length (record_text says c)) h small

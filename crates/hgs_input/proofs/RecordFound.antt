@@ -21,14 +21,15 @@ use Rattle.hgs_model.specs.declared.command.NewChange.{NewChange}
 use Rattle.hgs_model.specs.declared.files.NewFile.{NewFile}
 use Rattle.hgs_model.specs.declared.phase.Phase.{Phase}
 use Rattle.hgs_model.specs.declared.phase.Phase.TheVariants.{Public, Draft, Secret}
-use Rattle.hgs_model.specs.Phase.{phase_name}
+use Rattle.hgs_model.specs.Phase.{phase_name, phase_named}
 use Rattle.hgs_model.specs.Valid.{new_paths, IsNewChange}
 use Rattle.hgs_input.specs.declared.fault.InputFault.{InputFault}
 use Rattle.hgs_input.specs.declared.fault.InputFault.TheVariants.{Limit}
 use Rattle.hgs_index.specs.declared.kinds.Which.TheVariants.{Record}
 use Rattle.hgs_input.specs.Record.{most_input, parent_text, phase_text, bookmark_text, description_text, file_text, record_text, IsRecord}
-use Rattle.hgs_input.specs.Read.{Rest, ◌>>=◌, place, bad_at, required, optional, counted, behind, and_then, where_true, word_of, parent_of, is_user, most_user, user_of, date_of, phase_named, phase_of, bookmark_of, number_up_to, most_description, length_of, more, parents_from, text_at, description_from, next_file, files_from, nothing_behind, end_from, Head, head_from, change_with, change_from, read_record}
+use Rattle.hgs_input.specs.Read.{Rest, ◌>>=◌, place, bad_at, required, optional, counted, behind, and_then, where_true, word_of, parent_of, is_user, most_user, user_of, date_of, phase_of, bookmark_of, number_up_to, most_description, length_of, more, parents_from, text_at, description_from, next_file, files_from, nothing_behind, Head, head_from, change_with, looked_at, read_record}
 use Rattle.hgs_input.specs.View.{IsTree}
+use Rattle.hgs_input.proofs.WholeLemmas.{end_from, change_from, looked-length, looked-whole, read-looked}
 use Rattle.hgs_input.proofs.FoundLemmas.{bound, ok_is, some_is, contradiction, and_then_some, where_some, both, not_true, LineFound, required_found, optional_some, optional_none, counted_found, behind_some, number_found as count_found, FileFound, file_found, file_none, tree_with, paths-push}
 
 -- what stands before the rest of an input, and the same input behind it
@@ -486,8 +487,8 @@ record_parts r c e =
       change = ok_is (change_with a.value.0 b.value.0 d.value.0) c f.gives;
     }
 
-pub record_found : (bytes : List ℕ) (c : NewChange) → read_record bytes ≡ Ok c → IsRecord bytes c
-record_found bytes c e =
+whole_found : (bytes : List ℕ) (c : NewChange) → change_from (record { whole = length bytes; bytes = bytes }) ≡ Ok c → IsRecord bytes c
+whole_found bytes c e =
     let r : Rest = record { whole = length bytes; bytes = bytes } in
     let k = record_parts r c e in
     let h = k.head in
@@ -519,3 +520,10 @@ record_found bytes c e =
     } in
     let whole : k.r3.whole ≡ length bytes = texts.whole ∙ description.before.whole ∙ head.before.whole in
     subst (IsRecord bytes) k.change (record { says_draft = is_some h.phase; text = is; valid = valid; size = subst (λ n. n ≤ most_input) whole tail.room })
+
+pub record_found : (bytes : List ℕ) (c : NewChange) → read_record bytes ≡ Ok c → IsRecord bytes c
+record_found bytes c e =
+    let h = whole_found (looked_at bytes) c (sym (read-looked bytes) ∙ e) in
+    let room = h.size in
+    let few = looked-length bytes room in
+    subst (λ b. IsRecord b c) (looked-whole bytes (omega (arith, few))) h

@@ -14,8 +14,8 @@ use Rattle.hgs_index.specs.TrackedPath.{is_tracked}
 use Rattle.hgs_model.specs.declared.command.NewChange.{NewChange}
 use Rattle.hgs_model.specs.declared.files.NewFile.{NewFile}
 use Rattle.hgs_model.specs.declared.phase.Phase.{Phase}
-use Rattle.hgs_model.specs.declared.phase.Phase.TheVariants.{Public, Draft, Secret}
-use Rattle.hgs_model.specs.Phase.{phase_name}
+use Rattle.hgs_model.specs.declared.phase.Phase.TheVariants.{Draft}
+use Rattle.hgs_model.specs.Phase.{phase_named}
 use Rattle.hgs_model.specs.Valid.{has_directory, new_paths}
 use Rattle.hgs_input.specs.declared.fault.InputFault.{InputFault}
 use Rattle.hgs_input.specs.declared.fault.InputFault.TheVariants.{BadInput, Limit, Memory}
@@ -125,12 +125,6 @@ user_of line = and_then (behind (codes "user ") line) (λ user. where_true (is_u
 abbrev pub date_of : List ℕ → Option When
 date_of line = and_then (behind (codes "date ") line) (λ text. and_then (when_at text) (λ w. where_true (length w.extras == 0) w))
 
-abbrev pub phase_named : List ℕ → Option Phase
-phase_named name =
-    if same name (phase_name Public) then Some Public
-    else if same name (phase_name Draft) then Some Draft
-    else where_true (same name (phase_name Secret)) Secret
-
 abbrev pub phase_of : List ℕ → Option Phase
 phase_of line = and_then (behind (codes "phase ") line) phase_named
 
@@ -214,12 +208,9 @@ abbrev pub files_from : ℕ → List NewFile → Rest → Reading (List NewFile)
 files_from zero files r = Err (bad_at r.whole)
 files_from (suc n) files r = next_file files r >>= λ p. more files p.0 p.1 (λ all rest. files_from n all rest)
 
+-- the end of an input that is no longer than an input may be
 abbrev pub nothing_behind : Rest → Result Unit InputFault
 nothing_behind r = if length r.bytes == 0 then (if nat_le r.whole most_input then Ok tt else Err (Limit Record)) else Err (bad_at (place r))
-
--- the last line, and nothing behind it
-abbrev pub end_from : Rest → Result Unit InputFault
-end_from r = required (word_of (codes "end")) r >>= λ e. nothing_behind e.1
 
 -- what stands before the description
 pub record Head : Type 0 where
@@ -252,17 +243,28 @@ change_with h description files = record {
   files = files;
 }
 
-abbrev pub change_from : Rest → Result NewChange InputFault
-change_from r = do
+-- the changeset of a record up to its last line, and what is left behind it
+abbrev pub record_from : Rest → Reading NewChange
+record_from r = do
   head ← head_from r
   description ← description_from head.1
   files ← files_from (length description.1.bytes) [] description.1
-  end ← end_from files.1
-  Ok (change_with head.0 description.0 files.0)
+  end ← required (word_of (codes "end")) files.1
+  Ok (change_with head.0 description.0 files.0, end.1)
 
--- the changeset of a record, or the first fault of the input
+-- An input that is too long is decided by its bytes up to the first past the limit.
+abbrev pub looked_at : List ℕ → List ℕ
+looked_at bytes = take (most_input + 1) bytes
+
+abbrev pub start_of : List ℕ → Rest
+start_of bytes = record { whole = length (looked_at bytes); bytes = looked_at bytes }
+
+-- the changeset of a record with nothing behind it, or the first fault of the input
 abbrev pub read_record : List ℕ → Result NewChange InputFault
-read_record bytes = change_from (record { whole = length bytes; bytes = bytes })
+read_record bytes = do
+  change ← record_from (start_of bytes)
+  end ← nothing_behind change.1
+  Ok change.0
 
 -- the fault that stands for want of memory
 abbrev pub is_memory : InputFault → Bool

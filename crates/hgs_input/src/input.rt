@@ -1,11 +1,11 @@
 // What is left to read of an input.
-ghost use Rattle.std.specs.Prelude.{◌≡◌, length};
+ghost use Rattle.std.specs.Prelude.{◌≡◌};
 ghost use Rattle.std.specs.Result.{result_map_both};
-ghost use Rattle.hgs_input.specs.Read.{Rest, fault_at, bad_at, place, next_line, counted, nothing_behind};
+ghost use Rattle.hgs_input.specs.Read.{Rest, fault_at, bad_at, place, next_line, counted, nothing_behind, start_of};
 ghost use Rattle.hgs_input.specs.View.{Reads};
 
 use crate::fault::InputFault;
-use hgs_bytes::parts::split_at_byte;
+use hgs_bytes::parts::{front, split_at_byte};
 use hgs_index::kinds::Which;
 use std::marker::Model;
 
@@ -48,12 +48,14 @@ impl<'a> Model for Input<'a> {
 }
 
 impl<'a> Input<'a> {
+    /// An input of which nothing is read. Of one that is too long only the first byte past the limit is looked at.
     pub(crate) fn new(bytes: &'a [u8]) -> Input<'a>
-        ensures { result ≡ record { whole = length bytes.now; bytes = bytes.now } }
+        ensures { result ≡ start_of bytes.now }
     {
+        let rest = front(bytes, MOST_INPUT + 1);
         Input {
-            whole: bytes.len(),
-            rest: bytes,
+            whole: rest.len(),
+            rest,
         }
     }
 

@@ -2,7 +2,8 @@
 ghost use Rattle.std.specs.Prelude.{◌≡◌, ◌≤◌, ◌<◌, ◌∷◌, ◌++◌, Bool, List, ℕ, Ok, Err, length};
 ghost use Rattle.hgs_model.specs.Valid.{IsNewChange};
 ghost use Rattle.hgs_model.specs.declared.command.NewChange.{NewChange};
-ghost use Rattle.hgs_input.specs.declared.fault.InputFault.TheVariants.{BadInput};
+ghost use Rattle.hgs_index.specs.declared.kinds.Which.TheVariants.{FileText, Tree};
+ghost use Rattle.hgs_input.specs.declared.fault.InputFault.TheVariants.{BadInput, Limit};
 ghost use Rattle.hgs_input.specs.Read.{read_record};
 ghost use Rattle.hgs_input.specs.Record.{IsRecord, most_input, record_text};
 
@@ -22,6 +23,14 @@ pub fn fronts_are_cut()
 {}
 
 /// A fault that is not at the end of the input is that of each input that goes on, so only what stands before it decides.
+/// So are the limits of a body and of the number of files.
 pub fn faults_stay()
-    ensures { (front more : List ℕ) (at : ℕ) → at < length front → read_record front ≡ Err (BadInput at) → read_record (front ++ more) ≡ Err (BadInput at) }
+    ensures body { (front more : List ℕ) → read_record front ≡ Err (Limit FileText) → read_record (front ++ more) ≡ Err (Limit FileText) }
+    ensures files { (front more : List ℕ) → read_record front ≡ Err (Limit Tree) → read_record (front ++ more) ≡ Err (Limit Tree) }
+    ensures form { (front more : List ℕ) (at : ℕ) → at < length front → read_record front ≡ Err (BadInput at) → read_record (front ++ more) ≡ Err (BadInput at) }
+{}
+
+/// An input that is longer than the limit is decided by its bytes up to the first past the limit.
+pub fn long_inputs_are_decided()
+    ensures { (front more : List ℕ) → most_input < length front → read_record (front ++ more) ≡ read_record front }
 {}

@@ -3,7 +3,7 @@ ghost use Rattle.std.specs.Prelude.{◌≡◌, ◌==◌, IfOk};
 ghost use Rattle.std.specs.List.{list_any};
 ghost use Rattle.std.specs.Option.{option_map};
 ghost use Rattle.hgs_changelog.specs.View.{view_when};
-ghost use Rattle.hgs_input.specs.Read.{behind, is_user, user_of, date_of, phase_named, phase_of, bookmark_of, length_of, flag_of, file_of, file_of_parts};
+ghost use Rattle.hgs_input.specs.Read.{behind, is_user, user_of, date_of, phase_of, bookmark_of, length_of, flag_of, file_of, file_of_parts};
 ghost use Rattle.hgs_index.specs.TrackedPath.{is_tracked};
 ghost use Rattle.hgs_input.specs.View.{view_line};
 
@@ -70,24 +70,10 @@ pub(crate) fn date_from(alloc: Global, line: &[u8]) -> Result<Option<When>, Allo
     }
 }
 
-fn phase_named(name: &[u8]) -> Option<Phase>
-    ensures { result ≡ phase_named name.now }
-{
-    if equal(name, Phase::Public.name()) {
-        Some(Phase::Public)
-    } else if equal(name, Phase::Draft.name()) {
-        Some(Phase::Draft)
-    } else if equal(name, Phase::Secret.name()) {
-        Some(Phase::Secret)
-    } else {
-        None
-    }
-}
-
 pub(crate) fn phase_from(line: &[u8]) -> Option<Phase>
     ensures { result ≡ phase_of line.now }
 {
-    phase_named(behind(line, b"phase ")?)
+    Phase::named(behind(line, b"phase ")?)
 }
 
 pub(crate) fn bookmark_from(line: &[u8]) -> Option<&[u8]>

@@ -215,14 +215,22 @@ fn an_input_has_at_most_268435456_bytes(rt: HostRuntime) -> Result<(), Fail> {
     for _ in 1..16_777_216 {
         text.extend_from_slice(b"0123456789abcdef")?;
     }
-    // cut at the limit, cut behind it, and a line that breaks before it
+    // cut at the limit, cut behind it, and a line that goes on behind it
     for (byte, fault) in [
         (b'a', InputFault::BadInput(268_435_456)),
         (b'\n', InputFault::Limit(Which::Record)),
-        (b'a', InputFault::BadInput(7)),
+        (b'a', InputFault::Limit(Which::Record)),
     ] {
         assert_eq!(rt; read_commit(rt.alloc(), &text).err(), Some(fault));
         text.push(byte)?;
     }
+    // a line that breaks before it
+    if let Some(first) = text.first_mut() {
+        *first = b'x';
+    }
+    assert_eq!(rt;
+        read_commit(rt.alloc(), &text).err(),
+        Some(InputFault::BadInput(0))
+    );
     Ok(())
 }

@@ -7,7 +7,14 @@ pub mod LineLemmas
 pub mod JournalText
 pub mod BackupText
 pub mod TreeFacts
+pub mod Touched
 pub mod Undoing
 pub mod OwnNames
 pub mod UndoStops
+pub mod LeadLemmas
+pub mod Steps
+pub mod BegunLemmas
+pub mod FileLemmas
+pub mod EarlyLemmas
 pub mod PathLemmas
+pub mod SampleLemmas

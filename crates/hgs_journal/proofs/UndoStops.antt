@@ -16,6 +16,7 @@ use Rattle.hgs_journal.specs.declared.fault.JournalFault.{JournalFault}
 use Rattle.hgs_journal.specs.declared.journal.JournalLine.{JournalLine}
 use Rattle.hgs_journal.specs.declared.backups.BackupLine.{BackupLine}
 use Rattle.hgs_journal.specs.Names.{in_store, place, new_name, backup_name, journal_path, backups_path, is_replaced}
+use Rattle.hgs_journal.specs.Begun.{LeadsBack}
 use Rattle.hgs_journal.specs.Undo.{undo_line, undo_with, undo_backup, undo_backups}
 use Rattle.hgs_journal.specs.Covers.{HasOwnStrays, is_loose, journal_paths, backup_places, KeepsFront, KeepsBackup, Covers, ReadsAs, Restores, kept_bytes, undo_ops}
 use Rattle.hgs_journal.specs.Read.{read_journal, read_backups}
@@ -347,6 +348,17 @@ covers-of strays t u q c by = record {
 by-of : (strays : List (List ℕ)) (t q : Tree) (c : Covers strays t q) → CoversBy strays c.journal c.backups c.journal_bytes c.backups_bytes q t
 by-of strays t q c = record { journal_stands = c.journal_stands; backups_stand = c.backups_stand; fronts = c.fronts; kept = c.kept; others = c.others }
 
+-- ---- of what is read
+
+ok_is : {L : Type 0} (x y : List L) → (let a : Result (List L) JournalFault = Ok x in a) ≡ Ok y → x ≡ y
+ok_is x y e = cc
+
+pub reads-of : (strays : List (List ℕ)) (t q : Tree) (c : Covers strays t q) → ReadsAs t c.journal c.backups
+reads-of strays t q c = record {
+  journal_read = ap read_journal (bytes_at-is t journal_path c.journal_bytes c.journal_stands) ∙ journal-back c.journal_bytes c.journal c.journal_text;
+  backups_read = ap read_backups (bytes_at-is t backups_path c.backups_bytes c.backups_stand) ∙ backups-back c.backups_bytes c.backups c.backups_text;
+}
+
 module _ (strays : List (List ℕ)) (own : HasOwnStrays strays) (t q : Tree) (c : Covers strays t q) where
   ones : AllOnes c.backups
   ones = all-ones c.backups c.replaced
@@ -374,31 +386,21 @@ module _ (strays : List (List ℕ)) (own : HasOwnStrays strays) (t q : Tree) (c 
       (λ b. along-backups strays own c.journal c.backups c.journal_bytes c.backups_bytes q c.apart ones c.backups kept last t1 ones (all-placed c.backups) (are-kept t q c.backups c.kept) b
       (λ d. (d, tt, subst (λ (u : Tree). Restores strays u q) whole undo-leads))))
 
-  along-covers : (left : List Op) (u : Tree) → AlongHere left u → Covers strays u q ⊎ ((left ≡ []) × Restores strays u q)
-  along-covers [] u a = inr (refl, a)
-  along-covers (op ∷ left) u a = inl (covers-of strays t u q c a.0)
+  along-leads : (left : List Op) (u : Tree) → AlongHere left u → LeadsBack strays c.journal c.backups u q ⊎ ((left ≡ []) × Restores strays u q)
+  unfolding covers-of
+  along-leads [] u a = inr (refl, a)
+  along-leads (op ∷ left) u a = inl (record { covers = covers-of strays t u q c a.0; reads = reads-of strays u q (covers-of strays t u q c a.0) })
 
-  pub undo-parts : (done left : List Op) → IsDone list done left → Covers strays (after_all done t) q ⊎ ((left ≡ []) × Restores strays (after_all done t) q)
-  undo-parts done left d = along-covers left (after_all done t) (done-along strays own c.journal c.backups c.journal_bytes c.backups_bytes q c.apart ones list done left t d list-along)
+  pub undo-parts : (done left : List Op) → IsDone list done left → LeadsBack strays c.journal c.backups (after_all done t) q ⊎ ((left ≡ []) × Restores strays (after_all done t) q)
+  undo-parts done left d = along-leads left (after_all done t) (done-along strays own c.journal c.backups c.journal_bytes c.backups_bytes q c.apart ones list done left t d list-along)
 
-  pub undo-stops : (u : Tree) → StopLeaves t list u → Covers strays u q ⊎ Restores strays u q
+  pub undo-stops : (u : Tree) → StopLeaves t list u → LeadsBack strays c.journal c.backups u q ⊎ Restores strays u q
   undo-stops u s =
       let d = stop-leaves-done t u list s in
-      subst (λ (v : Tree). Covers strays v q ⊎ Restores strays v q) (sym d.3) (elim (undo-parts d.0 d.1 d.2) [
+      subst (λ (v : Tree). LeadsBack strays c.journal c.backups v q ⊎ Restores strays v q) (sym d.3) (elim (undo-parts d.0 d.1 d.2) [
         | inl covered ↦ inl covered
         | inr last ↦ inr last.1
       ])
-
--- ---- of what is read
-
-ok_is : {L : Type 0} (x y : List L) → (let a : Result (List L) JournalFault = Ok x in a) ≡ Ok y → x ≡ y
-ok_is x y e = cc
-
-pub reads-of : (strays : List (List ℕ)) (t q : Tree) (c : Covers strays t q) → ReadsAs t c.journal c.backups
-reads-of strays t q c = record {
-  journal_read = ap read_journal (bytes_at-is t journal_path c.journal_bytes c.journal_stands) ∙ journal-back c.journal_bytes c.journal c.journal_text;
-  backups_read = ap read_backups (bytes_at-is t backups_path c.backups_bytes c.backups_stand) ∙ backups-back c.backups_bytes c.backups c.backups_text;
-}
 
 -- what is read is what the tree is covered by
 pub read-covers : (strays : List (List ℕ)) (t q : Tree) (c : Covers strays t q) (journal : List JournalLine) (backups : List BackupLine) → ReadsAs t journal backups → undo_ops t c.journal c.backups ≡ undo_ops t journal backups
@@ -408,7 +410,7 @@ read-covers strays t q c journal backups r =
 
 -- ---- what a transaction does, from a covered tree
 
-named-read : (strays : List (List ℕ)) (t q : Tree) (c : Covers strays t q) (journal : List JournalLine) (backups : List BackupLine) → ReadsAs t journal backups → (c.journal ≡ journal) × (c.backups ≡ backups)
+pub named-read : (strays : List (List ℕ)) (t q : Tree) (c : Covers strays t q) (journal : List JournalLine) (backups : List BackupLine) → ReadsAs t journal backups → (c.journal ≡ journal) × (c.backups ≡ backups)
 named-read strays t q c journal backups r =
     let own = reads-of strays t q c in
     (ok_is c.journal journal (sym own.journal_read ∙ r.journal_read), ok_is c.backups backups (sym own.backups_read ∙ r.backups_read))

@@ -61,7 +61,7 @@ line-keeps t q l p k restored = elim (bool (same (in_store l.name) p)) [
   | inr e ↦ subst (λ f. IsRestored f (q p)) (sym (line-other t l p e)) restored
 ]
 
-restored-bytes : (u q : Tree) (p : List ℕ) → IsRestored (u p) (q p) → bytes_at u p ≡ bytes_at q p
+pub restored-bytes : (u q : Tree) (p : List ℕ) → IsRestored (u p) (q p) → bytes_at u p ≡ bytes_at q p
 restored-bytes u q p (inl e) = ap (λ f. unwrap_or f []) e
 restored-bytes u q p (inr e) = ap (λ f. unwrap_or f []) e.0 ∙ sym (ap (λ f. unwrap_or f []) e.1)
 

@@ -3,3 +3,5 @@ pub mod Texts
 pub mod Read
 pub mod Undo
 pub mod Covers
+pub mod Begun
+pub mod Samples

@@ -1,17 +1,19 @@
 //! What the definitions of this crate imply. Each function is one law; none does anything.
-ghost use Rattle.std.specs.Prelude.{◌≡◌, ◌↔◌, ◌⊎◌, ◌++◌, [], Bool, List, ℕ, Ok, false, true};
+ghost use Rattle.std.specs.Prelude.{◌≡◌, ◌↔◌, ◌⊎◌, ◌++◌, ◌||◌, [], Bool, List, ℕ, None, Ok, false, true};
 ghost use Rattle.std.specs.List.{AllByRecursion};
-ghost use Rattle.hgs_bytes.specs.Bytes.{among};
+ghost use Rattle.hgs_bytes.specs.Bytes.{among, same};
 ghost use Rattle.hgs_files.specs.declared.op.Op.{Op};
 ghost use Rattle.hgs_files.specs.Log.{IsDone};
 ghost use Rattle.hgs_files.specs.Stop.{StopLeaves};
-ghost use Rattle.hgs_files.specs.Tree.{Tree, after_all, apply};
+ghost use Rattle.hgs_files.specs.Tree.{Tree, after_all, apply, bytes_at};
 ghost use Rattle.hgs_journal.specs.declared.backups.BackupLine.{BackupLine};
 ghost use Rattle.hgs_journal.specs.declared.journal.JournalLine.{JournalLine};
-ghost use Rattle.hgs_journal.specs.Covers.{Covers, HasOwnStrays, ReadsAs, Restores, backup_places, journal_paths, undo_ops};
-ghost use Rattle.hgs_journal.specs.Names.{is_replaced, new_name, place};
+ghost use Rattle.hgs_journal.specs.Begun.{IsAllowed, IsPrepared, LeadsBack, bytes_before, is_free};
+ghost use Rattle.hgs_journal.specs.Covers.{Covers, HasOwnStrays, Restores, backup_places, is_loose, journal_paths, undo_ops};
+ghost use Rattle.hgs_journal.specs.Names.{is_replaced, journal_path, locks, new_name, place};
 ghost use Rattle.hgs_journal.specs.Read.{read_backups, read_journal};
 ghost use Rattle.hgs_journal.specs.Texts.{IsBackupLine, IsBackupsText, IsJournalLine, IsJournalText, backups_text, journal_text};
+ghost use Rattle.hgs_journal.specs.Undo.{undo_list};
 
 /// A text is read as these lines exactly where it has them; behind the lines of a journal a part of one more may stand.
 pub fn texts_read()
@@ -30,23 +32,42 @@ pub fn cut_journals()
     ensures { (lines : List JournalLine) (front back : List ℕ) → AllByRecursion IsJournalLine lines → journal_text lines ≡ front ++ back → (first : List JournalLine) × (more : List JournalLine) × (lines ≡ first ++ more) × (read_journal front ≡ Ok first) }
 {}
 
-/// What a transaction does while its journal stands leaves a tree that covers the same: an append to a file that the journal
-/// names, and the renaming of a new text to a file that the list names.
+/// From the first byte of a journal on the tree leads back to the one before it, by those of its lines that stand whole. While
+/// nothing else was done, the journal alone may be removed.
+pub fn journals_begin()
+    ensures fronts { (strays : List (List ℕ)) (journal : List JournalLine) (backups : List BackupLine) (t q : Tree) (front back : List ℕ) → HasOwnStrays strays → IsPrepared strays journal backups t q → journal_text journal ≡ front ++ back → (first : List JournalLine) × (more : List JournalLine) × (journal ≡ first ++ more) × LeadsBack strays first backups (apply (Op.Create journal_path front) t) q }
+    ensures whole { (strays : List (List ℕ)) (journal : List JournalLine) (backups : List BackupLine) (t q : Tree) → HasOwnStrays strays → IsPrepared strays journal backups t q → LeadsBack strays journal backups (apply (Op.Create journal_path (journal_text journal)) t) q }
+    ensures dropped { (strays : List (List ℕ)) (u q : Tree) → q journal_path ≡ None → ((path : List ℕ) → (is_loose strays path || same path journal_path) ≡ false → u path ≡ q path) → Restores strays (apply (Op.Remove journal_path) u) q }
+{}
+
+/// What a transaction does while its journal stands leaves a tree that leads back to the same: an append to a file that the
+/// journal names, the renaming of a new text to a file that the list names, and any part of such operations. Locks, and
+/// strays that undoing does not need, may come and go.
 pub fn transactions_stay_covered()
-    ensures appends { (strays : List (List ℕ)) (t q : Tree) (journal : List JournalLine) (backups : List BackupLine) (path bytes : List ℕ) → HasOwnStrays strays → Covers strays t q → ReadsAs t journal backups → among path (journal_paths journal) ≡ true → Covers strays (apply (Op.Append path bytes) t) q }
-    ensures renames { (strays : List (List ℕ)) (t q : Tree) (journal : List JournalLine) (backups : List BackupLine) (plain : Bool) (file : List ℕ) → HasOwnStrays strays → Covers strays t q → ReadsAs t journal backups → is_replaced plain file ≡ true → among (place plain file) (backup_places backups) ≡ true → among (place plain file) (journal_paths journal) ≡ false → Covers strays (apply (Op.Rename (place plain (new_name file)) (place plain file)) t) q }
+    ensures appends { (strays : List (List ℕ)) (t q : Tree) (journal : List JournalLine) (backups : List BackupLine) (path bytes : List ℕ) → HasOwnStrays strays → LeadsBack strays journal backups t q → among path (journal_paths journal) ≡ true → LeadsBack strays journal backups (apply (Op.Append path bytes) t) q }
+    ensures renames { (strays : List (List ℕ)) (t q : Tree) (journal : List JournalLine) (backups : List BackupLine) (plain : Bool) (file : List ℕ) → HasOwnStrays strays → LeadsBack strays journal backups t q → is_replaced plain file ≡ true → among (place plain file) (backup_places backups) ≡ true → among (place plain file) (journal_paths journal) ≡ false → LeadsBack strays journal backups (apply (Op.Rename (place plain (new_name file)) (place plain file)) t) q }
+    ensures parts { (strays : List (List ℕ)) (t q : Tree) (journal : List JournalLine) (backups : List BackupLine) (ops done left : List Op) → HasOwnStrays strays → LeadsBack strays journal backups t q → AllByRecursion (IsAllowed journal backups) ops → IsDone ops done left → LeadsBack strays journal backups (after_all done t) q }
+    ensures locks { (strays : List (List ℕ)) (t u q : Tree) (journal : List JournalLine) (backups : List BackupLine) → LeadsBack strays journal backups t q → ((path : List ℕ) → among path locks ≡ false → u path ≡ t path) → LeadsBack strays journal backups u q }
+    ensures free { (strays : List (List ℕ)) (t u q : Tree) (journal : List JournalLine) (backups : List BackupLine) → LeadsBack strays journal backups t q → ((path : List ℕ) → is_free strays backups path ≡ false → u path ≡ t path) → LeadsBack strays journal backups u q }
 {}
 
 /// A tree that covers another has a journal and a list of backups that are read, and the list of operations that is made of
-/// them and of the backups leads to the other, locks, strays and empty files aside.
+/// them and of the backups leads to the other, locks, strays and empty files aside. The bytes that the files had before
+/// serve as well as the backups.
 pub fn undo_leads_back()
-    ensures read { (strays : List (List ℕ)) (t q : Tree) → Covers strays t q → (journal : List JournalLine) × (backups : List BackupLine) × ReadsAs t journal backups }
-    ensures leads { (strays : List (List ℕ)) (t q : Tree) (journal : List JournalLine) (backups : List BackupLine) → HasOwnStrays strays → Covers strays t q → ReadsAs t journal backups → Restores strays (after_all (undo_ops t journal backups) t) q }
+    ensures read { (strays : List (List ℕ)) (t q : Tree) → Covers strays t q → (journal : List JournalLine) × (backups : List BackupLine) × LeadsBack strays journal backups t q }
+    ensures leads { (strays : List (List ℕ)) (t q : Tree) (journal : List JournalLine) (backups : List BackupLine) → HasOwnStrays strays → LeadsBack strays journal backups t q → Restores strays (after_all (undo_ops t journal backups) t) q }
+    ensures kept { (strays : List (List ℕ)) (t q : Tree) (journal : List JournalLine) (backups : List BackupLine) → LeadsBack strays journal backups t q → undo_ops t journal backups ≡ undo_list journal backups (bytes_before q backups) }
 {}
 
-/// Wherever that list is stopped, and in whatever parts its operations are done, the tree still covers the other, or all is
-/// done and it has its files: so it may be begun again.
+/// Wherever that list is stopped, and in whatever parts its operations are done, the tree still leads back, or all is done
+/// and it has the files of the other: so it may be begun again. It may also begin while the journal is being made; then the
+/// tree leads back to one that has the files of the other, empty ones aside. On the way each file has the bytes that it had
+/// when undoing began, or those of the other tree.
 pub fn undo_may_stop()
-    ensures parts { (strays : List (List ℕ)) (t q : Tree) (journal : List JournalLine) (backups : List BackupLine) (done left : List Op) → HasOwnStrays strays → Covers strays t q → ReadsAs t journal backups → IsDone (undo_ops t journal backups) done left → Covers strays (after_all done t) q ⊎ ((left ≡ []) × Restores strays (after_all done t) q) }
-    ensures stops { (strays : List (List ℕ)) (t q u : Tree) (journal : List JournalLine) (backups : List BackupLine) → HasOwnStrays strays → Covers strays t q → ReadsAs t journal backups → StopLeaves t (undo_ops t journal backups) u → Covers strays u q ⊎ Restores strays u q }
+    ensures parts { (strays : List (List ℕ)) (t q : Tree) (journal : List JournalLine) (backups : List BackupLine) (done left : List Op) → HasOwnStrays strays → LeadsBack strays journal backups t q → IsDone (undo_ops t journal backups) done left → LeadsBack strays journal backups (after_all done t) q ⊎ ((left ≡ []) × Restores strays (after_all done t) q) }
+    ensures stops { (strays : List (List ℕ)) (t q u : Tree) (journal : List JournalLine) (backups : List BackupLine) → HasOwnStrays strays → LeadsBack strays journal backups t q → StopLeaves t (undo_ops t journal backups) u → LeadsBack strays journal backups u q ⊎ Restores strays u q }
+    ensures early { (strays : List (List ℕ)) (journal : List JournalLine) (backups : List BackupLine) (t q : Tree) (front back : List ℕ) (done left : List Op) → HasOwnStrays strays → IsPrepared strays journal backups t q → journal_text journal ≡ front ++ back → IsDone (undo_list journal backups (bytes_before q backups)) done left → ((first : List JournalLine) × (p : Tree) × LeadsBack strays first backups (after_all done (apply (Op.Create journal_path front) t)) p × Restores strays p q) ⊎ ((left ≡ []) × Restores strays (after_all done (apply (Op.Create journal_path front) t)) q) }
+    ensures files { (strays : List (List ℕ)) (t q : Tree) (journal : List JournalLine) (backups : List BackupLine) (path : List ℕ) (done left : List Op) → HasOwnStrays strays → LeadsBack strays journal backups t q → is_loose strays path ≡ false → same path journal_path ≡ false → IsDone (undo_ops t journal backups) done left → (bytes_at (after_all done t) path ≡ bytes_at t path) ⊎ (bytes_at (after_all done t) path ≡ bytes_at q path) }
+    ensures early_files { (strays : List (List ℕ)) (journal : List JournalLine) (backups : List BackupLine) (t q : Tree) (front back path : List ℕ) (done left : List Op) → HasOwnStrays strays → IsPrepared strays journal backups t q → journal_text journal ≡ front ++ back → is_loose strays path ≡ false → same path journal_path ≡ false → IsDone (undo_list journal backups (bytes_before q backups)) done left → bytes_at (after_all done (apply (Op.Create journal_path front) t)) path ≡ bytes_at q path }
 {}

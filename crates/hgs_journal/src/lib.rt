@@ -2,10 +2,11 @@
 #![tactic(auto)]
 
 pub mod backups;
+pub mod examples;
 pub mod fault;
 pub mod journal;
 pub mod laws;
-mod names;
+pub mod names;
 mod offset;
 mod print;
 #[cfg(test)]

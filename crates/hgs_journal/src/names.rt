@@ -1,7 +1,7 @@
-// The paths of names in the store and beside it.
+//! The names of a transaction's files, and the paths of names in the store and beside it.
 ghost use Rattle.std.specs.Prelude.{◌≡◌, ◌++◌, IfOk, codes, true};
 ghost use Rattle.hgs_files.specs.Path.{is_store_path};
-ghost use Rattle.hgs_journal.specs.Names.{new_name, place};
+ghost use Rattle.hgs_journal.specs.Names.{backup_name, new_name, place};
 
 use hgs_files::path::{NameFault, StorePath, is_path};
 use std::alloc::{AllocError, Global};
@@ -30,6 +30,15 @@ pub fn new_name(alloc: Global, file: &[u8]) -> Result<Vec<u8>, AllocError>
     ensures { IfOk result (λ name. name.items ≡ new_name file.now) }
 {
     let mut name = Vec::from_slice(alloc, b"journal.new.")?;
+    name.extend_from_slice(file)?;
+    Ok(name)
+}
+
+/// The name of the backup of a file.
+pub fn backup_name(alloc: Global, file: &[u8]) -> Result<Vec<u8>, AllocError>
+    ensures { IfOk result (λ name. name.items ≡ backup_name file.now) }
+{
+    let mut name = Vec::from_slice(alloc, b"journal.backup.")?;
     name.extend_from_slice(file)?;
     Ok(name)
 }

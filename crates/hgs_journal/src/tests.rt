@@ -2,6 +2,7 @@
 use crate::backups::Backups;
 use crate::fault::JournalFault;
 use crate::journal::Journal;
+use crate::names::{backup_name, new_name, place};
 use crate::offset::print_number;
 use crate::undo::undo_plan;
 use hgs_bytes::bytes::Bytes;
@@ -194,5 +195,19 @@ fn transactions_are_undone_from_the_last_file_to_the_first(rt: HostRuntime) -> R
     assert_eq!(rt; second.as_slice(), UNDO_SECOND.as_slice());
     let first = undo_words(rt.alloc(), FIRST_JOURNAL, FIRST_BACKUPS, &[b"", b""])?;
     assert_eq!(rt; first.as_slice(), UNDO_FIRST.as_slice());
+    Ok(())
+}
+
+#[test]
+fn the_names_of_a_transaction_stand_beside_their_files(rt: HostRuntime) -> Result<(), Fail> {
+    let backup = backup_name(rt.alloc(), b"phaseroots")?;
+    let path = place(rt.alloc(), false, &backup)?;
+    assert_eq!(rt;
+        path.as_slice(),
+        b"store/journal.backup.phaseroots".as_slice()
+    );
+    let new = new_name(rt.alloc(), b"dirstate")?;
+    let path = place(rt.alloc(), true, &new)?;
+    assert_eq!(rt; path.as_slice(), b"journal.new.dirstate".as_slice());
     Ok(())
 }

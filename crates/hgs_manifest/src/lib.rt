@@ -1,6 +1,7 @@
 //! Manifests: the files of a changeset, by path.
 #![tactic(auto)]
 
+pub mod laws;
 pub mod manifest;
 pub mod place;
 pub mod print;

@@ -15,7 +15,7 @@ use Rattle.hgs_marks.specs.declared.fault.MarkFault.TheVariants.{Short, State}
 use Rattle.hgs_marks.specs.Dirstate.{Dirstate, Entry, no_dirstate, is_state, has_entry, first_entry, name_len, next_entry, entry_then, entry_and_more, entries_from, before_nul, entry_path, tracked, paths_with, read_paths, dirstate_with, read_dirstate}
 use Rattle.hgs_marks.specs.Texts.{IsTracked, IsDirstate}
 
-bytes-drop : (n : ℕ) (xs : List ℕ) → IsBytes xs → IsBytes (drop n xs)
+pub bytes-drop : (n : ℕ) (xs : List ℕ) → IsBytes xs → IsBytes (drop n xs)
 bytes-drop zero xs h = h
 bytes-drop (suc n) [] h = h
 bytes-drop (suc n) (x ∷ xs) h = bytes-drop n xs (λ i. h (suc i))
@@ -24,12 +24,12 @@ cells : (x : ℕ) (xs : List ℕ) → x < 256 → IsBytes xs → IsBytes (x ∷ 
 cells x xs a h zero = a
 cells x xs a h (suc i) = h i
 
-bytes-take : (n : ℕ) (xs : List ℕ) → IsBytes xs → IsBytes (take n xs)
+pub bytes-take : (n : ℕ) (xs : List ℕ) → IsBytes xs → IsBytes (take n xs)
 bytes-take zero xs h = λ i. omega arith
 bytes-take (suc n) [] h = h
 bytes-take (suc n) (x ∷ xs) h = cells x (take n xs) (h 0) (bytes-take n xs (λ k. h (suc k)))
 
-below_32 : (xs : List ℕ) → IsBytes xs → from_be_bytes w32 xs < 2 ^ 32
+pub below_32 : (xs : List ℕ) → IsBytes xs → from_be_bytes w32 xs < 2 ^ 32
 below_32 xs h = let a = h 0 in let b = h 1 in let c = h 2 in let d = h 3 in omega (arith, a, b, c, d)
 
 -- an entry whose name has a length of 32 bits
@@ -110,7 +110,7 @@ parents-step p1 p2 (Ok paths) d e a b h =
     let is : ◌≡◌ {A = Dirstate} (record { p1 = p1; p2 = p2; paths = paths }) d = cc in
     subst IsDirstate is (record { p1 = a; p2 = b; paths = h paths refl })
 
-long_is : (n m : ℕ) → nat_le n m ≡ true → n ≤ m
+pub long_is : (n m : ℕ) → nat_le n m ≡ true → n ≤ m
 long_is n m h = grind (arith, nat_tests)
 
 text-step : (s t : Bool) (text : List ℕ) (d : Dirstate) → nat_le 40 (length text) ≡ t → IsBytes text →

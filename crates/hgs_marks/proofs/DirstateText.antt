@@ -17,7 +17,7 @@ use Rattle.hgs_marks.proofs.DirstateLemmas.{one_step}
 abbrev normal : List ℕ → Entry
 normal path = record { state = 110; name = path }
 
-within : (n m : ℕ) → n ≤ m → nat_le n m ≡ true
+pub within : (n m : ℕ) → n ≤ m → nat_le n m ≡ true
 within n m h = grind (arith, nat_tests)
 
 abbrev read : List ℕ → List ℕ → Result (Entry × List ℕ) MarkFault
@@ -61,7 +61,7 @@ not_none : (n : ℕ) → 40 ≤ n → (n == 0) ≡ false
 not_none n h = grind arith
 
 -- two parents and what stands behind them
-parents_back : (p1 p2 rest : List ℕ) (paths : Result (List (List ℕ)) MarkFault) → length p1 ≡ 20 → length p2 ≡ 20 → read_paths (p1 ++ (p2 ++ rest)) ≡ paths → read_dirstate (p1 ++ (p2 ++ rest)) ≡ dirstate_with p1 p2 paths
+pub parents_back : (p1 p2 rest : List ℕ) (paths : Result (List (List ℕ)) MarkFault) → length p1 ≡ 20 → length p2 ≡ 20 → read_paths (p1 ++ (p2 ++ rest)) ≡ paths → read_dirstate (p1 ++ (p2 ++ rest)) ≡ dirstate_with p1 p2 paths
 parents_back p1 p2 rest paths a b e =
     let text = p1 ++ (p2 ++ rest) in
     let size = length-append p1 (p2 ++ rest) in

@@ -1,7 +1,10 @@
+pub mod CopyLemmas
 pub mod DirstateFound
 pub mod DirstateLemmas
 pub mod DirstateText
+pub mod DirstateTextLemmas
 pub mod MapLemmas
 pub mod MarkLemmas
 pub mod MarkOrder
 pub mod MarkText
+pub mod MarkTextLemmas

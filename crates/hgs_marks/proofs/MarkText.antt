@@ -20,7 +20,7 @@ use Rattle.hgs_marks.proofs.MarkOrder.{placed_so, all_kept}
 -- ---- what is written is read again
 
 -- a bookmark's line without its LF
-abbrev item : Mark → List ℕ
+abbrev pub item : Mark → List ℕ
 item m = hex m.node ++ 32 ∷ m.name
 
 end-step : (a b c d r : Bool) → ((a || b || c || d) || r) ≡ false → (c ≡ false) × (r ≡ false)
@@ -45,10 +45,10 @@ name_lacks : (name : List ℕ) → is_mark_name name ≡ true → Lacks 10 name
 name_lacks name e =
     no_end name (name-step (not (length name == 0)) (nat_le (length name) 255) (not (among name reserved_names)) (list_any is_name_end name) (not (list_all is_digit name)) (not (ends_in_space name)) (is_utf8 name) e)
 
-item_lacks : (m : Mark) → IsMark m → Lacks 10 (item m)
+pub item_lacks : (m : Mark) → IsMark m → Lacks 10 (item m)
 item_lacks m h = lacks-append 10 (hex m.node) (32 ∷ m.name) (hex_lacks m.node) (refl, name_lacks m.name h.named)
 
-mark_back : (n : ℕ) (m : Mark) → IsMark m → mark_of n (item m) ≡ Ok m
+pub mark_back : (n : ℕ) (m : Mark) → IsMark m → mark_of n (item m) ≡ Ok m
 mark_back n m h =
     let forty = hex_length m.node h.node.size in
     let rest : drop 40 (item m) ≡ 32 ∷ m.name = drop_at (hex m.node) (32 ∷ m.name) 40 forty in
@@ -58,7 +58,7 @@ mark_back n m h =
     ∙ ap (mark_with n (Some m.node)) name
     ∙ ap (λ b. if b then Ok m else Err (Name n)) h.named
 
-marks_back : (n : ℕ) (marks : List Mark) → AllByRecursion IsMark marks → marks_from n (lines_of (bookmarks_text marks)) ≡ Ok marks
+pub marks_back : (n : ℕ) (marks : List Mark) → AllByRecursion IsMark marks → marks_from n (lines_of (bookmarks_text marks)) ≡ Ok marks
 marks_back n [] h = refl
 marks_back n (m ∷ marks) h =
     let rest = bookmarks_text marks in
@@ -86,7 +86,7 @@ begin-step : (t : Bool) (n : ℕ) (text : List ℕ) (m : Mark) → (if t then ma
 begin-step true n text m e = with-step n (node_at (take 40 text)) (take 40 text) (drop 41 text) m refl e
 begin-step false n text m e = cc
 
-mark_found : (n : ℕ) (text : List ℕ) (m : Mark) → mark_of n text ≡ Ok m → IsMark m
+pub mark_found : (n : ℕ) (text : List ℕ) (m : Mark) → mark_of n text ≡ Ok m → IsMark m
 mark_found n text m e = begin-step (begins_with (drop 40 text) (32 ∷ [])) n text m e
 
 then-step : (r : Result Mark MarkFault) (x : Result (List Mark) MarkFault) (marks : List Mark) → mark_then r x ≡ Ok marks → ((m : Mark) → r ≡ Ok m → IsMark m) → ((ms : List Mark) → x ≡ Ok ms → AllByRecursion IsMark ms) →

@@ -1,5 +1,5 @@
 //! Bookmarks (Mercurial's file `bookmarks`).
-ghost use Rattle.std.specs.Prelude.{◌≡◌, ℕ, [], length, map, OnOk, OnErr, is_some};
+ghost use Rattle.std.specs.Prelude.{◌≡◌, ℕ, [], length, map, IfOk, OnOk, OnErr, is_some};
 ghost use Rattle.std.specs.Option.{option_map};
 ghost use Rattle.std.specs.Result.{result_map_both};
 ghost use Rattle.hgs_bytes.specs.Answer.{Gives};
@@ -25,6 +25,7 @@ pub struct Mark<'a> {
 /// The bookmarks of a repository, in byte order of their names.
 #[derive(Drop)]
 pub struct Bookmarks {
+    alloc: Global,
     pub(crate) marks: BTreeMap<Vec<u8>, Node>,
 }
 
@@ -61,8 +62,19 @@ impl Bookmarks {
         ensures { result ≡ [] }
     {
         Bookmarks {
+            alloc,
             marks: BTreeMap::new(alloc),
         }
+    }
+
+    /// The same bookmarks once more.
+    pub fn copy(&self) -> Result<Bookmarks, AllocError>
+        ensures { IfOk result (λ copy. copy ≡ self.now) }
+    {
+        Ok(Bookmarks {
+            alloc: self.alloc,
+            marks: self.marks.clone()?,
+        })
     }
 
     /// How many bookmarks there are.
@@ -87,11 +99,11 @@ impl Bookmarks {
     }
 
     // Adds a bookmark in its place, or changes nothing where there is no memory.
-    fn put(&mut self, alloc: Global, mark: Mark<'_>) -> Result<(), AllocError>
+    fn put(&mut self, mark: Mark<'_>) -> Result<(), AllocError>
         ensures ok { OnOk result (self.new ≡ with_mark self.old (view_mark mark.entry)) }
         ensures err { OnErr result (self.new ≡ self.old) }
     {
-        let name = Vec::from_slice(alloc, mark.name)?;
+        let name = Vec::from_slice(self.alloc, mark.name)?;
         self.marks.insert(name, mark.node)?;
         Ok(())
     }
@@ -110,7 +122,7 @@ impl Bookmarks {
             let (line, _, after) = next_line(rest);
             number += 1;
             let mark = mark_from(line, number)?;
-            bookmarks.put(alloc, mark)?;
+            bookmarks.put(mark)?;
             rest = after;
         }
         Ok(bookmarks)
@@ -118,14 +130,14 @@ impl Bookmarks {
 
     /// Gives a name to a changeset, whether it stood or not. `Name(0)` refuses a name that no bookmark can have; after an
     /// error nothing has changed.
-    pub fn set(&mut self, alloc: Global, name: &[u8], node: Node) -> Result<(), MarkFault>
+    pub fn set(&mut self, name: &[u8], node: Node) -> Result<(), MarkFault>
         ensures answer { Gives is_memory (λ _. self.new) result (set_mark self.old (record { name = name.now; node = node.0 })) }
         ensures err { OnErr result (self.new ≡ self.old) }
     {
         if !is_mark_name(name) {
             return Err(MarkFault::Name(0));
         }
-        self.put(alloc, Mark { name, node })?;
+        self.put(Mark { name, node })?;
         Ok(())
     }
 

@@ -4,6 +4,7 @@
 pub mod bookmarks;
 pub mod dirstate;
 pub mod fault;
+pub mod grammar;
 pub mod laws;
 pub mod name;
 pub mod print;

@@ -17,17 +17,19 @@ const MARKS: &[u8; 133] =
 fn bookmarks_of_a_repository(rt: HostRuntime) -> Result<(), Fail> {
     let mut marks = Bookmarks::read(rt.alloc(), MARKS)?;
     assert_eq!(rt; marks.len(), 3);
+    let before = marks.copy()?;
     let mut text = Vec::new(rt.alloc());
     marks.print(&mut text)?;
     assert_eq!(rt; text.as_slice(), MARKS.as_slice());
     assert!(rt; marks.delete(b"-m"));
     assert!(rt; !marks.delete(b"-m"));
-    marks.set(rt.alloc(), b"0x", Node([9; 20]))?;
+    marks.set(b"0x", Node([9; 20]))?;
     assert_eq!(rt; marks.get(b"0x"), Some(Node([9; 20])));
     assert_eq!(rt; marks.get(b"-m"), None);
     assert_eq!(rt; marks.len(), 2);
+    assert_eq!(rt; before.len(), 3);
     assert_eq!(rt;
-        marks.set(rt.alloc(), b"12", Node([9; 20])).err(),
+        marks.set(b"12", Node([9; 20])).err(),
         Some(MarkFault::Name(0))
     );
     Ok(())

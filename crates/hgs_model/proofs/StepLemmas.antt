@@ -14,7 +14,8 @@ use Rattle.hgs_index.proofs.RevisionLemmas.{length-nodes_from}
 use Rattle.hgs_model.specs.Repo.{Repo, Bookmark, Changeset, all_parents}
 use Rattle.hgs_model.specs.History.{history, changeset_nodes, first_of}
 use Rattle.hgs_model.specs.IsRepo.{IsRepo, IsPhase}
-use Rattle.hgs_model.specs.Names.{named, number_named, node_named, bookmark_named, last_of}
+use Rattle.hgs_index.specs.Hex.{node_at}
+use Rattle.hgs_model.specs.Names.{named, number_named, place_in, node_named, bookmark_named, last_of}
 use Rattle.hgs_model.specs.Step.{Next, Answer, or_unknown, guard, done_at, with_mark, without_mark, points_at, moved_phases, advanced, retracted, step_move, step_mark, step_unmark, ◌>>=◌}
 use Rattle.hgs_model.specs.declared.command.Refusal.{Refusal}
 use Rattle.hgs_model.specs.declared.command.Refusal.TheVariants.{NeedsForce, NothingChanged}
@@ -29,7 +30,11 @@ pub number-below : (count : ℕ) (name : List ℕ) (rev : ℕ) → number_named 
 number-below count name rev e = omega (arith, (position-Some _ (range_with_len 0 count) rev 0 e).0, length-range_with_len 0 count)
 
 pub node-below : (nodes : List (List ℕ)) (name : List ℕ) (rev : ℕ) → node_named nodes name ≡ Some rev → rev < length nodes
-node-below nodes name rev e = (position-Some _ nodes rev [] e).0
+node-below nodes name rev e = by (node_at name) e
+  where
+    by : (o : Option (List ℕ)) → place_in nodes o ≡ Some rev → rev < length nodes
+    by None h = none-some _ h
+    by (Some node) h = (position-Some _ nodes rev [] h).0
 
 pub mark-below : (marks : List Bookmark) (name : List ℕ) (n rev : ℕ) → AllByRecursion (λ (m : Bookmark). m.rev < n) marks → bookmark_named marks name ≡ Some rev → rev < n
 mark-below [] name n rev all e = none-some _ e
@@ -69,10 +74,10 @@ named-below r name rev is e = by (same name (codes "null")) (same name (codes ".
 
 -- ---- what an accepted command did
 
-ok-next : (d : Next) (x y : Next) → ◌≡◌ {A = Result Next Refusal} (Ok x) (Ok y) → x ≡ y
+pub ok-next : (d : Next) (x y : Next) → ◌≡◌ {A = Result Next Refusal} (Ok x) (Ok y) → x ≡ y
 ok-next d x y e = ap (elim [ Ok z ↦ z | Err w ↦ d ]) e
 
-err-next : {B : Type 0} (w : Refusal) (y : Next) → ◌≡◌ {A = Result Next Refusal} (Err w) (Ok y) → B
+pub err-next : {B : Type 0} (w : Refusal) (y : Next) → ◌≡◌ {A = Result Next Refusal} (Err w) (Ok y) → B
 err-next w y e = absurd (no e)
   where
     no : ◌≡◌ {A = Result Next Refusal} (Err w) (Ok y) → ⊥

@@ -1,3 +1,5 @@
+pub mod Held
+pub mod Commits
 pub mod History
 pub mod IsRepo
 pub mod Names

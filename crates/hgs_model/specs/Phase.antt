@@ -1,5 +1,6 @@
 -- Phases as numbers and as names.
-use Rattle.std.specs.Prelude.{ℕ, List, codes}
+use Rattle.std.specs.Prelude.{ℕ, List, Option, Some, None, codes, if◌then◌else◌}
+use Rattle.hgs_bytes.specs.Bytes.{same}
 use Rattle.hgs_model.specs.declared.phase.Phase.{Phase}
 use Rattle.hgs_model.specs.declared.phase.Phase.TheVariants.{Public, Draft, Secret}
 
@@ -12,6 +13,14 @@ abbrev pub phase_name : Phase → List ℕ
 phase_name Public = codes "public"
 phase_name Draft = codes "draft"
 phase_name Secret = codes "secret"
+
+-- the phase with this name
+abbrev pub phase_named : List ℕ → Option Phase
+phase_named name =
+    if same name (phase_name Public) then Some Public
+    else if same name (phase_name Draft) then Some Draft
+    else if same name (phase_name Secret) then Some Secret
+    else None
 
 -- the one with the greater number
 abbrev pub greater : Phase → Phase → Phase

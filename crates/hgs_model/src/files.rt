@@ -39,6 +39,20 @@ impl NewFiles {
         }
     }
 
+    /// These files. Takes no memory.
+    pub fn from_vec(items: Vec<NewFile>) -> Self
+        ensures { result ≡ items.items }
+    {
+        NewFiles { items }
+    }
+
+    /// The files as a vector again. Takes no memory.
+    pub fn into_vec(self) -> Vec<NewFile>
+        ensures { result.items ≡ self }
+    {
+        self.items
+    }
+
     pub fn as_slice(&self) -> &[NewFile]
         ensures { result.now ≡ self.now }
     {

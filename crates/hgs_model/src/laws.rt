@@ -1,8 +1,8 @@
 //! What the definitions of this crate imply. Each function is one law; none does anything.
 ghost use Rattle.std.specs.Prelude.{◌≡◌, ◌<◌, ◌≤◌, ◌^◌, ◌++◌, ◌∷◌, [], ℕ, List, Some, Ok, decimal, length, slice_index};
 ghost use Rattle.hgs_bytes.specs.Bytes.{IsPrefixOf};
-ghost use Rattle.hgs_index.specs.Ancestor.{IsAncestor};
-ghost use Rattle.hgs_index.specs.Revision.{Revision, ParentsBefore, nodes};
+ghost use Rattle.hgs_index.specs.Ancestor.{IsAncestor, IsParent, is_ancestor};
+ghost use Rattle.hgs_index.specs.Revision.{Revision, Parents, ParentsBefore, nodes};
 ghost use Rattle.hgs_model.specs.History.{history, parents_in};
 ghost use Rattle.hgs_model.specs.IsRepo.{IsRepo};
 ghost use Rattle.hgs_model.specs.Names.{named};
@@ -55,4 +55,10 @@ pub fn parents_stand_before()
 /// No changeset's phase is below an ancestor's.
 pub fn phases_rise()
     ensures { (r : Repo) (a b : ℕ) → IsRepo r → IsAncestor (all_parents r.changesets) a b → slice_index r.phases a ≤ slice_index r.phases b }
+{}
+
+/// Among the first revisions of a history ancestors are what they are in the whole, and a parent comes before its child.
+pub fn ancestors_of_a_front()
+    ensures front { (history more : List Parents) (a b : ℕ) → b < length history → is_ancestor (history ++ more) a b ≡ is_ancestor history a b }
+    ensures before { (history : List Parents) (child parent : ℕ) → ParentsBefore 0 history → IsParent history parent child → parent < child }
 {}

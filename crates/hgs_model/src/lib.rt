@@ -6,10 +6,14 @@
 #![tactic(auto)]
 
 pub mod ancestor;
+pub mod answers;
 pub mod command;
+pub mod commits;
 pub mod examples;
 pub mod files;
+pub mod history_laws;
 pub mod laws;
+pub mod names;
 pub mod phase;
 #[cfg(test)]
 mod tests;

@@ -1,6 +1,8 @@
 //! Phases.
 ghost use Rattle.std.specs.Prelude.{◌≡◌};
-ghost use Rattle.hgs_model.specs.Phase.{phase_name, phase_number, greater, lesser};
+ghost use Rattle.hgs_model.specs.Phase.{phase_name, phase_named, phase_number, greater, lesser};
+
+use hgs_bytes::parts::equal;
 
 /// How far a changeset has been shared, and whether its history may still change.
 ///
@@ -35,6 +37,21 @@ impl Phase {
             Phase::Public => b"public",
             Phase::Draft => b"draft",
             Phase::Secret => b"secret",
+        }
+    }
+
+    /// The phase with this name.
+    pub fn named(name: &[u8]) -> Option<Phase>
+        ensures { result ≡ phase_named name.now }
+    {
+        if equal(name, Phase::Public.name()) {
+            Some(Phase::Public)
+        } else if equal(name, Phase::Draft.name()) {
+            Some(Phase::Draft)
+        } else if equal(name, Phase::Secret.name()) {
+            Some(Phase::Secret)
+        } else {
+            None
         }
     }
 

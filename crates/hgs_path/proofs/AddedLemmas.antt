@@ -135,7 +135,7 @@ either-holds true true c h k = refl
 either-holds true false c h k = k
 either-holds false b c h k = cc
 
-name-listed : (path : List ℕ) (ext : Ext) → is_listed (listed_name path ext) ≡ true
+pub name-listed : (path : List ℕ) (ext : Ext) → is_listed (listed_name path ext) ≡ true
 name-listed path I = both-hold (begins_with (listed_name path I) (codes "data/")) (ends_in (listed_name path I) (codes ".i")) (ends_in (listed_name path I) (codes ".d")) (begins path I) (ends-with path I)
 name-listed path D = either-holds (begins_with (listed_name path D) (codes "data/")) (ends_in (listed_name path D) (codes ".i")) (ends_in (listed_name path D) (codes ".d")) (begins path D) (ends-with path D)
 

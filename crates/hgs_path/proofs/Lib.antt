@@ -1,10 +1,13 @@
 pub mod AddedLemmas
+pub mod ApartLemmas
 pub mod CheckLemmas
 pub mod ClashLemmas
 pub mod EnterLemmas
 pub mod FncacheLemmas
 pub mod LengthLemmas
+pub mod ListTextLemmas
 pub mod OwnersLemmas
 pub mod PartLemmas
+pub mod ReadNamesLemmas
 pub mod ReadableLemmas
 pub mod ShapeLemmas

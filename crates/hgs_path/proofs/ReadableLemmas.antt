@@ -382,7 +382,7 @@ ext-small : (ext : Ext) → Small (ext_text ext)
 ext-small I = (omega arith, (omega arith, tt))
 ext-small D = (omega arith, (omega arith, tt))
 
-listed-small : (path : List ℕ) (ext : Ext) → Small path → Small (listed_name path ext)
+pub listed-small : (path : List ℕ) (ext : Ext) → Small path → Small (listed_name path ext)
 listed-small path ext h =
     let front : Small (codes "data/") = (omega arith, (omega arith, (omega arith, (omega arith, (omega arith, tt))))) in
     front-small (components (whole_path path ext)) (components-raw (whole_path path ext) (small-append (codes "data/" ++ path) (ext_text ext) (small-append (codes "data/") path front h) (ext-small ext)))

@@ -1,5 +1,6 @@
 pub mod Check
 pub mod Fncache
+pub mod ListText
 pub mod ListedNames
 pub mod Owners
 pub mod StoreName

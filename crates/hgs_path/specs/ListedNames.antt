@@ -1,5 +1,5 @@
 -- The names in the list of the filelogs' files, and the files that have them.
-use Rattle.std.specs.Prelude.{ℕ, ◌+◌, ◌-◌, List, [], ◌∷◌, Bool, ◌&&◌, ◌||◌, Option, Some, None, Result, Ok, Err, codes, length, take, drop, if◌then◌else◌}
+use Rattle.std.specs.Prelude.{ℕ, ◌+◌, ◌-◌, List, [], ◌∷◌, ◌++◌, Bool, ◌&&◌, ◌||◌, Option, Some, None, Result, Ok, Err, codes, length, take, drop, if◌then◌else◌}
 use Rattle.hgs_bytes.specs.Bytes.{same, begins_with}
 use Rattle.hgs_bytes.specs.Path.{components}
 use Rattle.hgs_bytes.specs.Text.{lines_of}
@@ -7,7 +7,7 @@ use Rattle.hgs_path.specs.declared.name.Ext.{Ext}
 use Rattle.hgs_path.specs.declared.name.Ext.TheVariants.{I, D}
 use Rattle.hgs_path.specs.declared.fncache.FncacheFault.{FncacheFault}
 use Rattle.hgs_path.specs.declared.fncache.FncacheFault.TheVariants.{Line}
-use Rattle.hgs_path.specs.StoreName.{ends_in, joined, map_front, listed_name}
+use Rattle.hgs_path.specs.StoreName.{encoded_name, ends_in, joined, map_front, listed_name}
 
 -- ---- the text
 
@@ -29,6 +29,10 @@ abbrev pub names_of : List ℕ → Result (List (List ℕ)) FncacheFault
 names_of text = names_from 1 (lines_of text)
 
 -- ---- the file of a listed name
+
+-- the path of the file that a listed name names
+abbrev pub listed_file : List ℕ → List ℕ
+listed_file name = codes "store/" ++ encoded_name name (if ends_in name (codes ".i") then I else D)
 
 abbrev pub unmarked_directory : List ℕ → List ℕ
 unmarked_directory d = if ends_in d (codes ".hg") then take (length d - 3) d else d

@@ -38,6 +38,7 @@ impl From<AllocError> for FncacheFault {
 /// The files that `fncache` lists, by the paths of their filelogs. Repeated lines count once.
 #[derive(Debug, Drop)]
 pub struct Fncache {
+    alloc: Global,
     indexes: BTreeSet<Vec<u8>>,
     datas: BTreeSet<Vec<u8>>,
     /// The listed paths by their hashed names.
@@ -125,16 +126,18 @@ impl Fncache {
         ensures { listing result ≡ (λ path ext. false) }
     {
         Fncache {
+            alloc,
             indexes: BTreeSet::new(alloc),
             datas: BTreeSet::new(alloc),
             owners: Owners::new(alloc),
         }
     }
 
-    fn with_file(self, alloc: Global, path: Vec<u8>, ext: Ext) -> Result<Fncache, AllocError>
+    fn with_file(self, path: Vec<u8>, ext: Ext) -> Result<Fncache, AllocError>
         ensures { IfOk result (λ fncache. listing fncache ≡ with_file (listing self) path.items ext) }
     {
         let Fncache {
+            alloc,
             mut indexes,
             mut datas,
             mut owners,
@@ -145,17 +148,18 @@ impl Fncache {
             Ext::D => datas.insert(path)?,
         };
         Ok(Fncache {
+            alloc,
             indexes,
             datas,
             owners,
         })
     }
 
-    fn with_named(self, alloc: Global, name: &[u8]) -> Result<Fncache, AllocError>
+    fn with_named(self, name: &[u8]) -> Result<Fncache, AllocError>
         ensures { IfOk result (λ fncache. listing fncache ≡ with_named (listing self) (file_named name.now)) }
     {
-        match file_named(alloc, name)? {
-            Some((path, ext)) => self.with_file(alloc, path, ext),
+        match file_named(self.alloc, name)? {
+            Some((path, ext)) => self.with_file(path, ext),
             None => Ok(self),
         }
     }
@@ -175,7 +179,7 @@ impl Fncache {
             if !is_whole || !is_listed(name) {
                 return Err(FncacheFault::Line(number));
             }
-            fncache = fncache.with_named(alloc, name)?;
+            fncache = fncache.with_named(name)?;
             number += 1;
             rest = behind;
         }
@@ -197,25 +201,25 @@ impl Fncache {
     ///
     /// Beside the cost of the path's own two names this takes logarithmic time, and constant time for a short path: names
     /// that are not hashed differ.
-    pub fn clash(&self, alloc: Global, path: &[u8]) -> Result<Option<Vec<u8>>, AllocError>
+    pub fn clash(&self, path: &[u8]) -> Result<Option<Vec<u8>>, AllocError>
         ensures { IfOk result (λ found. IsClash (listing self.now) path.now (option_map (λ p. p.items) found)) }
     {
         if is_short(path) {
             return Ok(None);
         }
-        match self.clash_at(alloc, path, Ext::I)? {
+        match self.clash_at(path, Ext::I)? {
             Some(other) => Ok(Some(other)),
-            None => self.clash_at(alloc, path, Ext::D),
+            None => self.clash_at(path, Ext::D),
         }
     }
 
     /// Another listed path whose file of this kind has the same name.
-    fn clash_at(&self, alloc: Global, path: &[u8], ext: Ext) -> Result<Option<Vec<u8>>, AllocError>
+    fn clash_at(&self, path: &[u8], ext: Ext) -> Result<Option<Vec<u8>>, AllocError>
         ensures { IfOk result (λ found. IsClashAt (listing self.now) path.now ext (option_map (λ p. p.items) found)) }
     {
-        match hashed_store_name(alloc, path, ext)? {
+        match hashed_store_name(self.alloc, path, ext)? {
             Some(name) => match self.owners.other(&name, path) {
-                Some(other) => Ok(Some(Vec::from_slice(alloc, other)?)),
+                Some(other) => Ok(Some(Vec::from_slice(self.alloc, other)?)),
                 None => Ok(None),
             },
             None => Ok(None),
@@ -269,7 +273,7 @@ mod tests {
         let fncache = Fncache::read(rt.alloc(), &text)?;
         assert!(rt; fncache.contains(&upper, Ext::I));
         for path in [b"a.i/b".as_slice(), b"c", &upper, &lower] {
-            assert!(rt; fncache.clash(rt.alloc(), path)?.is_none());
+            assert!(rt; fncache.clash(path)?.is_none());
         }
         Ok(())
     }

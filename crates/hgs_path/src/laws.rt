@@ -1,13 +1,15 @@
 //! What the definitions of this crate imply. Each function is one law; none does anything.
-ghost use Rattle.std.specs.Prelude.{◌≡◌, ◌⊎◌, ◌∷◌, ◌++◌, true, Bool, List, [], ℕ, Ok, is_ok};
+ghost use Rattle.std.specs.Prelude.{◌≡◌, ◌⊎◌, ◌∷◌, ◌++◌, false, true, Bool, List, [], ℕ, Ok, codes, is_ok};
+ghost use Rattle.std.specs.List.{AllByRecursion};
 ghost use Rattle.hex.specs.Hex.{IsBytes};
+ghost use Rattle.hgs_bytes.specs.Bytes.{same};
 ghost use Rattle.hgs_bytes.specs.Text.{line};
 ghost use Rattle.hgs_index.specs.TrackedPath.{is_tracked};
 ghost use Rattle.sha1.specs.Sha1.{sha1};
 ghost use Rattle.hgs_path.specs.declared.name.Ext.{Ext};
 ghost use Rattle.hgs_path.specs.declared.name.Ext.TheVariants.{I, D};
 ghost use Rattle.hgs_path.specs.Fncache.{clashes, files_of, with_file};
-ghost use Rattle.hgs_path.specs.ListedNames.{names_of};
+ghost use Rattle.hgs_path.specs.ListedNames.{is_listed, listed_file, names_of};
 ghost use Rattle.hgs_path.specs.Check.{checked};
 ghost use Rattle.hgs_path.specs.StoreName.{is_plain, is_short, listed_name, store_name};
 
@@ -41,4 +43,19 @@ pub fn short_paths_have_plain_names()
 /// Two paths clash only where SHA-1 gives one digest of two names in the list, which differ.
 pub fn clashes_are_collisions()
     ensures { (p q : List ℕ) → IsBytes p → IsBytes q → clashes p q ≡ true → (sha1 (listed_name p I) ≡ sha1 (listed_name q I)) ⊎ (sha1 (listed_name p D) ≡ sha1 (listed_name q D)) }
+{}
+
+/// The path of each file of a filelog begins with `store/d`, and so does that of each name that can stand in the list; no
+/// index of a filelog is the data file of one.
+pub fn filelogs_have_their_own_names()
+    ensures file { (path : List ℕ) (ext : Ext) → (rest : List ℕ) × (store_name path ext ≡ codes "store/d" ++ rest) }
+    ensures listed { (name : List ℕ) → is_listed name ≡ true → (rest : List ℕ) × (listed_file name ≡ codes "store/d" ++ rest) }
+    ensures kinds { (path other : List ℕ) → same (store_name path I) (store_name other D) ≡ false }
+{}
+
+/// The name of a path's file can stand in the list, and names this file; each name that is read of a list is such a name.
+pub fn listed_names_name_files()
+    ensures name { (path : List ℕ) (ext : Ext) → is_listed (listed_name path ext) ≡ true }
+    ensures file { (path : List ℕ) (ext : Ext) → listed_file (listed_name path ext) ≡ store_name path ext }
+    ensures read { (text : List ℕ) (names : List (List ℕ)) → names_of text ≡ Ok names → AllByRecursion (λ name. is_listed name ≡ true) names }
 {}

@@ -3,6 +3,7 @@
 
 pub mod check;
 pub mod fncache;
+pub mod grammar;
 pub mod laws;
 pub mod name;
 mod owners;

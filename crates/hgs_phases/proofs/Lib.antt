@@ -1,5 +1,6 @@
 pub mod AdvanceLemmas
-pub mod LoadedLemmas
+pub mod AloneLemmas
+pub mod ModelLemmas
 pub mod PhaseLemmas
 pub mod PrintLemmas
 pub mod RetractLemmas

@@ -1,5 +1,5 @@
 -- No phase is below that of a parent.
-use Rattle.std.proofs.Common.{◌≡◌, ◌<◌, ◌≤◌, ℕ, zero, suc, ◌+◌, Bool, true, false, List, [], ◌∷◌, ◌++◌, length, map, Option, Some, None, refl, sym, ◌∙◌, ap, subst, inl, inr, length-append, arith}
+use Rattle.std.proofs.Common.{◌≡◌, ◌⊎◌, ◌<◌, ◌≤◌, ℕ, zero, suc, ◌+◌, Bool, true, false, List, [], ◌∷◌, ◌++◌, length, map, Option, Some, None, refl, sym, ◌∙◌, ap, subst, inl, inr, length-append, arith}
 use Rattle.std.specs.Prelude.{IfSome, slice_get, slice_index_or, if◌then◌else◌}
 use Rattle.std.specs.List.{range_with_len}
 use Rattle.hgs_index.specs.Ancestor.{IsParent, IsAncestor, itself, of_parent, is_ancestor}
@@ -12,9 +12,15 @@ use Rattle.hgs_phases.specs.Changelog.{IsChangelog, ArePhases}
 use Rattle.hgs_phases.specs.Moves.{advanced, advanced_at, retracted, retracted_at}
 use Rattle.hgs_model.specs.Phase.{phase_number, greater, lesser}
 use Rattle.hgs_phases.specs.Phases.{history_of, parent_phase, phase_by, phases_by, own_phase}
-use Rattle.hgs_phases.proofs.LoadedLemmas.{get-push}
-use Rattle.hgs_phases.proofs.PhaseLemmas.{phase_of_parent, phase_step, earlier, history-at, history-length}
+use Rattle.hgs_phases.proofs.PhaseLemmas.{some_is, phase_of_parent, phase_step, earlier, history-at, history-length}
 use Rattle.hgs_phases.proofs.WrittenLemmas.{parents_low, earlier-all}
+
+-- what stands on a list with one more
+get-push : {A : Type 0} (xs : List A) (y : A) (i : ℕ) (x : A) → slice_get (xs ++ y ∷ []) i ≡ Some x → (slice_get xs i ≡ Some x) ⊎ ((i ≡ length xs) × (y ≡ x))
+get-push [] y zero x e = inr (refl, some_is y x e)
+get-push [] y (suc i) x e = cc
+get-push (z ∷ xs) y zero x e = inl e
+get-push (z ∷ xs) y (suc i) x e = elim (get-push xs y i x e) [ inl b ↦ inl b | inr b ↦ inr (ap suc b.0, b.1) ]
 
 -- ---- who is an ancestor, in a changelog
 

@@ -3,19 +3,11 @@ use Rattle.std.specs.Prelude.{◌≡◌, ◌≤◌, ℕ, List, length, Some, sli
 use Rattle.hex.specs.Hex.{IsBytes}
 use Rattle.hgs_index.specs.Revision.{ParentsBefore}
 use Rattle.hgs_index.specs.declared.entry.Entry.{Entry}
-use Rattle.hgs_index.specs.Node.{IsNode}
-use Rattle.hgs_revlog.specs.Log.{place_of}
+pub use Rattle.hgs_revlog.specs.Loaded.{HaveNodes, HaveOwnNodes}
 use Rattle.hgs_model.specs.declared.phase.Phase.{Phase}
 use Rattle.hgs_model.specs.declared.phase.Phase.TheVariants.{Public}
 use Rattle.hgs_model.specs.Phase.{phase_number, greater}
 use Rattle.hgs_phases.specs.Phases.{history_of, parent_phase}
-
-abbrev pub HaveNodes : List Entry → Type 0
-HaveNodes entries = (rev : ℕ) (e : Entry) → slice_get entries rev ≡ Some e → IsNode e.node.0
-
--- no node stands twice: each is found where it stands
-abbrev pub HaveOwnNodes : List Entry → Type 0
-HaveOwnNodes entries = (rev : ℕ) (e : Entry) → slice_get entries rev ≡ Some e → place_of entries e.node.0 ≡ Some rev
 
 -- parents stand before their children, and no node stands twice
 pub record IsChangelog (entries : List Entry) : Type 0 where

@@ -14,7 +14,9 @@ ghost use Rattle.hgs_phases.specs.Printed.{written_roots};
 ghost use Rattle.hgs_phases.specs.Roots.{IsTextOf, read_roots, roots_text};
 ghost use Rattle.hgs_revlog.specs.declared.fault.Tail.{Tail};
 ghost use Rattle.hgs_revlog.specs.Load.{loaded, pushed};
-ghost use Rattle.hgs_revlog.specs.Log.{Log};
+ghost use Rattle.hgs_revlog.specs.Log.{Log, nodes_of};
+
+use hgs_revlog::laws::{loaded_entries, pushed_entries};
 
 /// In an index that loads, and with one more entry that is taken, parents stand before their children and no node stands
 /// twice; where the index is bytes, each node is 20 bytes.
@@ -24,7 +26,10 @@ pub fn loaded_changelog()
     ensures pushed_earlier { (log new : Log) (entry : List ℕ) → ParentsBefore 0 (history_of log.entries) → pushed log entry ≡ Ok new → ParentsBefore 0 (history_of new.entries) }
     ensures pushed_own { (log new : Log) (entry : List ℕ) → HaveOwnNodes log.entries → pushed log entry ≡ Ok new → HaveOwnNodes new.entries }
     ensures pushed_nodes { (log new : Log) (entry : List ℕ) → length entry ≡ 64 → IsBytes entry → HaveNodes log.entries → pushed log entry ≡ Ok new → HaveNodes new.entries }
-{}
+{
+    loaded_entries();
+    pushed_entries();
+}
 
 /// The roots that are written of phases are read again as themselves, and give the same phases.
 pub fn written_then_read()
@@ -35,6 +40,11 @@ pub fn written_then_read()
 /// A text is read as these roots exactly where it has a line for each, the last of which may lack its LF.
 pub fn read_texts()
     ensures { (roots : List Root) (text : List ℕ) → (read_roots text ≡ Ok roots ↔ IsTextOf roots text) }
+{}
+
+/// Roots give the same phases to any entries with the same nodes and the same parents.
+pub fn phases_of_nodes_and_parents()
+    ensures { (roots : List Root) (entries others : List Entry) → nodes_of entries ≡ nodes_of others → history_of entries ≡ history_of others → phases_by roots entries ≡ phases_by roots others }
 {}
 
 /// In a changelog no phase that roots give is below that of a parent; moves keep that, and so does a new changeset whose

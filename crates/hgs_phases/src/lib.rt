@@ -3,6 +3,7 @@
 
 pub mod fault;
 pub mod laws;
+pub mod moved;
 pub mod moves;
 pub mod phases;
 pub mod print;

@@ -107,6 +107,16 @@ impl Roots {
 }
 
 impl Phases {
+    /// The same phases once more.
+    pub fn copy(&self) -> Result<Phases, AllocError>
+        ensures { IfOk result (λ copy. copy ≡ self.now) }
+    {
+        Ok(Phases {
+            phases: self.phases.clone()?,
+            marks: self.marks.clone()?,
+        })
+    }
+
     /// How many changesets there are.
     pub fn len(&self) -> usize
         ensures { result ≡ length self.now }

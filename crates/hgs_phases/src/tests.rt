@@ -59,6 +59,7 @@ fn phases_of_new_changesets(rt: HostRuntime) -> Result<(), Fail> {
     phases.push(Phase::Draft)?;
     assert_eq!(rt; phases.len(), 1);
     assert_eq!(rt; phases.get(0).name(), b"draft".as_slice());
+    assert_eq!(rt; phases.copy()?.len(), 1);
     Ok(())
 }
 

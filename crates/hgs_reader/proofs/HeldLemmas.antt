@@ -24,7 +24,7 @@ use Rattle.hgs_revlog.specs.Held.{AreWithinLimits, EndsFirstAt, chunk_in, read_f
 use Rattle.hgs_revlog.specs.Log.{Log, with_entry, place_of}
 use Rattle.hgs_revlog.specs.Text.{text_of}
 use Rattle.hgs_revlog.proofs.ReadLemmas.{with_text_ok}
-use Rattle.hgs_revlog.proofs.TailHeldLemmas.{held-until}
+use Rattle.hgs_revlog.proofs.TailHeldLemmas.{front-until}
 use Rattle.hgs_revlog.proofs.TailLemmas.{refuse-until, until-refuse}
 use Rattle.hgs_reader.specs.declared.answer.ReadAnswer.{ReadAnswer}
 use Rattle.hgs_reader.specs.Asks.{Asks, answer, read, part_of, at_rest, then_asks}
@@ -312,11 +312,11 @@ read_length all (x ∷ entries) data_bytes first revisions texts =
     let w = with_text_ok x (text_of all first (chunk_in data_bytes x)) (read_from all data_bytes (suc first) entries) revisions texts in
     ap length w.4 ∙ ap suc (read_length all entries data_bytes (suc first) w.1 w.3)
 
-module _ (t : Tree) (index chunks : List ℕ) (revisions : List Revision) (last : Revision) (node : List ℕ) (held : BeginsWithRevisions (bytes_at t index) (bytes_at t chunks) revisions) (ends : EndsFirstAt node revisions) (limits : AreWithinLimits revisions (bytes_at t chunks)) (is_last : slice_get revisions (length revisions - 1) ≡ Some last) where
+module _ (t : Tree) (index chunks : List ℕ) (revisions : List Revision) (last : Revision) (node : List ℕ) (held : BeginsWithRevisions (bytes_at t index) (bytes_at t chunks) revisions) (ends : EndsFirstAt node revisions) (limits : AreWithinLimits revisions held.data_front) (is_last : slice_get revisions (length revisions - 1) ≡ Some last) where
   pub held-text : at_rest t (text_asks index chunks node) ≡ Ok last.text
   held-text =
       let named : Node = record { 0 = node } in
-      let h = held-until (bytes_at t index) (bytes_at t chunks) revisions named held ends limits in
+      let h = front-until (bytes_at t index) (bytes_at t chunks) revisions named held ends limits in
       let log = h.0 in
       let r = until-refuse (bytes_at t index) log named h.1 in
       let e = ending named (length (bytes_at t index) / 64) (record { inline = false; entries = [] }) log (bytes_at t index) h.1 in

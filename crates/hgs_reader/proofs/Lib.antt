@@ -5,7 +5,6 @@ pub mod FeedLemmas
 pub mod FindLemmas
 pub mod HeadLemmas
 pub mod HeldLemmas
-pub mod LoadedLemmas
 pub mod MachineLemmas
 pub mod NumberLemmas
 pub mod OpenedLemmas
@@ -14,3 +13,6 @@ pub mod RestLemmas
 pub mod StepLemmas
 pub mod TreeLemmas
 pub mod UntilLemmas
+pub mod ViewLemmas
+pub mod WholeLemmas
+pub mod EntryLemmas

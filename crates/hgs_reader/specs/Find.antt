@@ -45,7 +45,3 @@ text_at_asks index chunks log (Some rev) = chunk_asks chunks (slice_get log.entr
 -- the text with this node, of a revlog with this index and these chunks
 abbrev pub text_asks : List ℕ → List ℕ → List ℕ → Asks (Result (List ℕ) ReadAnswer)
 text_asks index chunks node = then_asks (log_until index node) (λ log. text_at_asks index chunks log (place_of log.entries node))
-
--- no entry tells of a text above the limit
-abbrev pub HasSmallTexts : List Entry → Type 0
-HasSmallTexts entries = AllByRecursion (λ (e : Entry). e.size ≤ most_text) entries

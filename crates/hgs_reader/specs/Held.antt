@@ -5,12 +5,12 @@ use Rattle.hgs_index.specs.Revision.{Revision}
 use Rattle.hgs_index.specs.Revlog.{BeginsWithRevisions}
 use Rattle.hgs_revlog.specs.Held.{AreWithinLimits, EndsFirstAt}
 
--- A revlog with this index and these chunks has this text with this node: its bytes begin with those that hold revisions, of which the last is the first with the node, whatever follows.
+-- A revlog with this index and these chunks has this text with this node: its bytes begin with those that hold revisions, of which the last is the first with the node, whatever follows; the limits are those of these bytes alone.
 pub record HasText (t : Tree) (index chunks node text : List ℕ) : Type 0 where
   pub revisions : List Revision
   pub last : Revision
   pub held : BeginsWithRevisions (bytes_at t index) (bytes_at t chunks) revisions
-  pub limits : AreWithinLimits revisions (bytes_at t chunks)
+  pub limits : AreWithinLimits revisions held.data_front
   pub ends : EndsFirstAt node revisions
   pub is_last : slice_get revisions (length revisions - 1) ≡ Some last
   pub text_is : last.text ≡ text

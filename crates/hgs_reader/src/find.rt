@@ -4,11 +4,12 @@ ghost use Rattle.hgs_bytes.specs.Answer.{Gives};
 ghost use Rattle.hgs_files.specs.Reads.{Grows};
 ghost use Rattle.hgs_revlog.specs.declared.fault.Tail.TheVariants.{Until};
 ghost use Rattle.hgs_revlog.specs.Load.{loaded, most_text};
+ghost use Rattle.hgs_revlog.specs.Loaded.{HaveSmallTexts};
 ghost use Rattle.hgs_revlog.specs.Log.{place_of};
 ghost use Rattle.hgs_revlog.specs.Text.{text_of};
 ghost use Rattle.hgs_reader.specs.Answer.{is_of_outside, HasFaultCause, NeverFaults};
 ghost use Rattle.hgs_reader.specs.Asks.{Answers};
-ghost use Rattle.hgs_reader.specs.Find.{has_node, is_last_of, bytes_until, log_until, text_answer, text_at_asks, text_asks, HasSmallTexts};
+ghost use Rattle.hgs_reader.specs.Find.{has_node, is_last_of, bytes_until, log_until, text_answer, text_at_asks, text_asks};
 ghost use Rattle.hgs_reader.specs.View.{most_pieces, log_answer};
 
 use crate::answer::ReadAnswer;
@@ -21,6 +22,7 @@ use hgs_files::files::Reads;
 use hgs_files::path::StorePath;
 use hgs_index::node::Node;
 use hgs_revlog::fault::{RevFault, Tail};
+use hgs_revlog::laws::loaded_entries;
 use hgs_revlog::revlog::Revlog;
 use std::alloc::Global;
 use std::marker::Model;
@@ -112,9 +114,10 @@ fn log_from(
     node: &Node,
 ) -> Result<Revlog, ReadAnswer>
     ensures log { Gives is_of_outside (λ log. log) result (log_answer index.now (loaded (Until (record { 0 = node.now.0 })) bytes.now)) }
-    ensures small { IfOk result (λ log. HasSmallTexts log.entries) }
+    ensures small { IfOk result (λ log. HaveSmallTexts log.entries) }
     ensures inner { NeverFaults result }
 {
+    loaded_entries();
     match Revlog::load(alloc, bytes, Tail::Until(*node)) {
         Ok(log) => Ok(log),
         Err(fault) => Err(of_revlog(alloc, index, fault)),
@@ -129,7 +132,7 @@ fn load_until<R: Reads>(
     node: &Node,
 ) -> Result<Revlog, ReadAnswer>
     ensures answer { Answers (λ log. log) (R.seen files.old) (R.start files.old) (R.seen files.new) (log_until index.now node.now.0) result }
-    ensures small { IfOk result (λ log. HasSmallTexts log.entries) }
+    ensures small { IfOk result (λ log. HaveSmallTexts log.entries) }
     ensures seen { Grows (R.seen files.old) (R.seen files.new) }
     ensures same_start { R.start files.new ≡ R.start files.old }
     ensures still { R.alone ≡ true → R.seen files.new ≡ R.seen files.old }
@@ -152,7 +155,7 @@ fn text_in(
     requires stands { rev < length log.now.entries }
     requires within { IfSome (slice_get log.now.entries rev) (λ e. length (unwrap_or chunk []) ≤ e.stored) }
     ensures text { Gives is_of_outside (λ text. text) result (text_answer index.now (text_of log.now.entries rev (unwrap_or chunk []))) }
-    ensures small { HasSmallTexts log.now.entries → IfOk result (λ text. length text ≤ most_text) }
+    ensures small { HaveSmallTexts log.now.entries → IfOk result (λ text. length text ≤ most_text) }
     ensures inner { NeverFaults result }
 {
     let chunk = chunk.unwrap_or(Bytes::new(alloc));
@@ -173,7 +176,7 @@ fn read_text<R: Reads>(
 ) -> Result<StoredText, ReadAnswer>
     requires { rev < length log.now.entries }
     ensures answer { Answers (λ text. text) (R.seen files.old) (R.start files.old) (R.seen files.new) (text_at_asks paths.now.index paths.now.chunks log.now (Some rev)) result }
-    ensures small { HasSmallTexts log.now.entries → IfOk result (λ text. length text ≤ most_text) }
+    ensures small { HaveSmallTexts log.now.entries → IfOk result (λ text. length text ≤ most_text) }
     ensures seen { Grows (R.seen files.old) (R.seen files.new) }
     ensures same_start { R.start files.new ≡ R.start files.old }
     ensures still { R.alone ≡ true → R.seen files.new ≡ R.seen files.old }
@@ -196,7 +199,7 @@ fn text_in_log<R: Reads>(
     node: &Node,
 ) -> Result<StoredText, ReadAnswer>
     ensures answer { Answers (λ text. text) (R.seen files.old) (R.start files.old) (R.seen files.new) (text_at_asks paths.now.index paths.now.chunks log.now (place_of log.now.entries node.now.0)) result }
-    ensures small { HasSmallTexts log.now.entries → IfOk result (λ text. length text ≤ most_text) }
+    ensures small { HaveSmallTexts log.now.entries → IfOk result (λ text. length text ≤ most_text) }
     ensures seen { Grows (R.seen files.old) (R.seen files.new) }
     ensures same_start { R.start files.new ≡ R.start files.old }
     ensures still { R.alone ≡ true → R.seen files.new ≡ R.seen files.old }

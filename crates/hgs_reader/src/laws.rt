@@ -1,23 +1,38 @@
 //! What the definitions of this crate imply. Each function is one law; none does anything.
-ghost use Rattle.std.specs.Prelude.{◌≡◌, ◌≤◌, ℕ, List, Ok, Err, Some, None, false, length};
+ghost use Rattle.std.specs.Prelude.{◌≡◌, ◌+◌, ◌*◌, ◌≤◌, ◌/◌, ℕ, suc, Bool, List, Ok, Err, Some, None, true, false, length, take, drop, slice_get};
 ghost use Rattle.hgs_bytes.specs.Bytes.{same};
-ghost use Rattle.hgs_files.specs.Tree.{Tree};
+ghost use Rattle.hgs_files.specs.Tree.{Tree, bytes_at};
 ghost use Rattle.hgs_index.specs.declared.kinds.Flag.{Flag};
-ghost use Rattle.hgs_index.specs.ChangeText.{Change};
+ghost use Rattle.hgs_index.specs.declared.entry.Entry.{Entry};
+ghost use Rattle.hgs_index.specs.declared.node.Node.{Node};
+ghost use Rattle.hgs_index.specs.ChangeText.{Change, read_change};
 ghost use Rattle.hgs_index.specs.FileText.{body_of};
 ghost use Rattle.hgs_index.specs.Manifest.{Row, AreRows, manifest_text};
 ghost use Rattle.hgs_index.specs.Node.{null_node};
+ghost use Rattle.hgs_index.specs.Revision.{Revision};
 ghost use Rattle.hgs_manifest.specs.Held.{found_in};
+ghost use Rattle.hgs_marks.specs.Bookmarks.{Mark};
 ghost use Rattle.hgs_path.specs.Check.{checked};
 ghost use Rattle.hgs_path.specs.StoreName.{store_name};
 ghost use Rattle.hgs_path.specs.declared.name.Ext.TheVariants.{I, D};
+ghost use Rattle.hgs_phases.specs.Phases.{phases_by};
+ghost use Rattle.hgs_phases.specs.declared.roots.Root.{Root};
+ghost use Rattle.hgs_revlog.specs.Held.{chunk_in, read_all};
+ghost use Rattle.hgs_revlog.specs.declared.fault.Tail.TheVariants.{Until};
+ghost use Rattle.hgs_revlog.specs.Load.{loaded, most_revisions};
+ghost use Rattle.hgs_revlog.specs.Log.{Log};
+ghost use Rattle.hgs_revlog.specs.Text.{text_of};
 ghost use Rattle.hgs_reader.specs.declared.answer.ReadAnswer.TheVariants.{UnknownPath};
 ghost use Rattle.hgs_reader.specs.Asks.{at_rest};
 ghost use Rattle.hgs_reader.specs.Contents.{manifest_index, manifest_data, most_files, most_file_text, tree_asks, files_text, files_asks, cat_asks};
-ghost use Rattle.hgs_reader.specs.Find.{text_asks};
+ghost use Rattle.hgs_reader.specs.Find.{has_node, text_asks};
 ghost use Rattle.hgs_reader.specs.Held.{HasText};
 ghost use Rattle.hgs_reader.specs.Line.{change_asks};
-ghost use Rattle.hgs_reader.specs.View.{View};
+ghost use Rattle.hgs_reader.specs.Marks.{Nodes, Working, bookmarks_answer, bookmarks_path, dirstate_answer, dirstate_path, roots_answer, roots_path, working_answer};
+ghost use Rattle.hgs_reader.specs.Open.{bookmarks_asks, dirstate_asks, log_asks, log_of, most_bookmarks_text, most_dirstate, most_requires, most_roots, open_asks, requires_asks, requires_path, roots_asks};
+ghost use Rattle.hgs_reader.specs.Refresh.{first_changed, refresh_asks};
+ghost use Rattle.hgs_reader.specs.Requirements.{requires_answer};
+ghost use Rattle.hgs_reader.specs.View.{View, changelog_data, changelog_index};
 
 /// Where a revlog has a text with a node, that is what is found, whatever a writer has appended behind it.
 pub fn text_of_node_held()
@@ -38,4 +53,50 @@ pub fn body_of_file_held()
     ensures body { (t : Tree) (view : View) (rev : ℕ) (rows : List Row) (path node text : List ℕ) (flag : Flag) → at_rest t (tree_asks view rev) ≡ Ok rows → checked path ≡ Ok tt → found_in path rows ≡ Some (node, flag) →
         HasText t (store_name path I) (store_name path D) node text → length (body_of text) ≤ most_file_text → at_rest t (cat_asks view rev path) ≡ Ok (body_of text) }
     ensures unknown { (t : Tree) (view : View) (rev : ℕ) (rows : List Row) (path : List ℕ) → at_rest t (tree_asks view rev) ≡ Ok rows → checked path ≡ Ok tt → found_in path rows ≡ None → at_rest t (cat_asks view rev path) ≡ Err UnknownPath }
+{}
+
+/// No row has the path, which may be any: it is unknown.
+pub fn paths_without_row()
+    ensures { (t : Tree) (view : View) (rev : ℕ) (rows : List Row) (path : List ℕ) → at_rest t (tree_asks view rev) ≡ Ok rows → found_in path rows ≡ None → at_rest t (cat_asks view rev path) ≡ Err UnknownPath }
+{}
+
+/// A file within its limit is read whole, and an index of no more entries than a revlog may have is read piece by piece to
+/// its end.
+pub fn files_are_read_whole()
+    ensures requires_file { (t : Tree) → length (bytes_at t requires_path) ≤ most_requires → at_rest t requires_asks ≡ requires_answer (t requires_path) }
+    ensures bookmarks { (t : Tree) → length (bytes_at t bookmarks_path) ≤ most_bookmarks_text → at_rest t bookmarks_asks ≡ bookmarks_answer (t bookmarks_path) }
+    ensures dirstate { (t : Tree) → length (bytes_at t dirstate_path) ≤ most_dirstate → at_rest t dirstate_asks ≡ dirstate_answer (t dirstate_path) }
+    ensures roots { (t : Tree) → length (bytes_at t roots_path) ≤ most_roots → at_rest t roots_asks ≡ roots_answer (t roots_path) }
+    ensures index { (t : Tree) → length (bytes_at t changelog_index) / 64 ≤ most_revisions → at_rest t log_asks ≡ log_of (bytes_at t changelog_index) }
+{}
+
+/// What is read of the files gives the view of a load, and where no old entry changed, that of a refresh; the changelog of a
+/// view is what was read of the index.
+pub fn parts_make_views()
+    ensures opened { (t : Tree) (marks : List Mark) (nodes : Nodes) (log : Log) (roots : List Root) (working : Working) → at_rest t requires_asks ≡ Ok tt → at_rest t bookmarks_asks ≡ Ok marks → at_rest t dirstate_asks ≡ Ok nodes → at_rest t log_asks ≡ Ok log → at_rest t roots_asks ≡ Ok roots →
+        working_answer log.entries nodes ≡ Ok working → at_rest t open_asks ≡ Ok (record { changelog = log; bookmarks = marks; working = working; phases = phases_by roots log.entries }) }
+    ensures refreshed { (t : Tree) (old : View) (marks : List Mark) (nodes : Nodes) (log : Log) (roots : List Root) (working : Working) → at_rest t bookmarks_asks ≡ Ok marks → at_rest t dirstate_asks ≡ Ok nodes → at_rest t log_asks ≡ Ok log → at_rest t roots_asks ≡ Ok roots →
+        working_answer log.entries nodes ≡ Ok working → first_changed 0 old.changelog.entries log.entries ≡ None → at_rest t (refresh_asks old) ≡ Ok (record { changelog = log; bookmarks = marks; working = working; phases = phases_by roots log.entries }) }
+    ensures log { (t : Tree) (view : View) → at_rest t open_asks ≡ Ok view → at_rest t log_asks ≡ Ok view.changelog }
+{}
+
+/// A changeset is what is read of the text in its chunk; where the texts of a view's changelog are read as revisions, each is
+/// what is read of its text.
+pub fn changesets_are_read()
+    ensures chunk { (t : Tree) (view : View) (rev : ℕ) (entry : Entry) (text : List ℕ) (change : Change) → slice_get view.changelog.entries rev ≡ Some entry → text_of view.changelog.entries rev (chunk_in (bytes_at t changelog_data) entry) ≡ Ok text → read_change text ≡ Ok change → at_rest t (change_asks view rev) ≡ Ok change }
+    ensures revision { (t : Tree) (view : View) (rev : ℕ) (revisions : List Revision) (r : Revision) (change : Change) → read_all view.changelog.entries (bytes_at t changelog_data) ≡ Ok revisions → slice_get revisions rev ≡ Some r → read_change r.text ≡ Ok change → at_rest t (change_asks view rev) ≡ Ok change }
+{}
+
+/// Whether a node is among the entries of bytes: where it is not among the first, it is where it is among the rest; what
+/// stands behind the entries does not matter; among more it is too; and an index that loads up to a node has it at its end.
+pub fn nodes_among_entries()
+    ensures behind { (node : List ℕ) (first rest all : ℕ) (bytes : List ℕ) (found : Bool) → all ≡ first + rest → has_node node first bytes ≡ false → has_node node rest (drop (64 * first) bytes) ≡ found → has_node node all bytes ≡ found }
+    ensures front { (node : List ℕ) (count size : ℕ) (bytes : List ℕ) → 64 * count ≤ size → has_node node count (take size bytes) ≡ has_node node count bytes }
+    ensures more { (node : List ℕ) (count more : ℕ) (bytes : List ℕ) → count ≤ more → has_node node count bytes ≡ true → has_node node more bytes ≡ true }
+    ensures last { (index : List ℕ) (log : Log) (node : Node) → loaded (Until node) index ≡ Ok log → (before : ℕ) × (has_node node.0 before index ≡ false) × (has_node node.0 (suc before) index ≡ true) × (64 * suc before ≤ length index) }
+{}
+
+/// Where the texts of all entries are read, each revision has an entry, whose chunk is its text.
+pub fn revisions_have_entries()
+    ensures { (entries : List Entry) (data_bytes : List ℕ) (revisions : List Revision) (rev : ℕ) (r : Revision) → read_all entries data_bytes ≡ Ok revisions → slice_get revisions rev ≡ Some r → (e : Entry) × (slice_get entries rev ≡ Some e) × (text_of entries rev (chunk_in data_bytes e) ≡ Ok r.text) }
 {}

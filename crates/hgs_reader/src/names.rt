@@ -1,14 +1,15 @@
 //! Names of revisions.
 ghost use Rattle.std.specs.Prelude.{◌≡◌, ◌<◌, ◌^◌, ◌&&◌, nat_lt, ℕ, length, decimal, Some, IfSome};
 ghost use Rattle.hgs_bytes.specs.Bytes.{same};
-ghost use Rattle.hgs_marks.specs.Bookmarks.{node_of};
 ghost use Rattle.hgs_model.specs.History.{first_of};
-ghost use Rattle.hgs_model.specs.Names.{last_of, number_named};
-ghost use Rattle.hgs_reader.specs.Names.{named_in, node_named, place_of_some};
+ghost use Rattle.hgs_model.specs.Names.{last_of, node_named, number_named};
+ghost use Rattle.hgs_revlog.specs.Log.{nodes_of};
+ghost use Rattle.hgs_reader.specs.Names.{mark_named, named_in};
 
 use hgs_bytes::parts::equal;
 use hgs_index::texts::node_from;
 use hgs_marks::bookmarks::Bookmarks;
+use hgs_revlog::laws::places_of_nodes;
 use hgs_revlog::revlog::Revlog;
 use itoa::Buffer;
 
@@ -51,8 +52,9 @@ fn number_named(name: &[u8], count: u32) -> Option<u32>
 
 // The revision whose node's digits the name is.
 fn node_named(log: &Revlog, name: &[u8]) -> Option<u32>
-    ensures { result ≡ node_named log.now.entries name.now }
+    ensures { result ≡ node_named (nodes_of log.now.entries) name.now }
 {
+    places_of_nodes();
     match node_from(name) {
         Some(node) => log.rev_of(&node),
         None => None,
@@ -68,7 +70,7 @@ fn last_of(count: u32) -> Option<u32>
 
 // The revision of a bookmark; none where its node is unknown.
 fn mark_named(log: &Revlog, bookmarks: &Bookmarks, name: &[u8]) -> Option<u32>
-    ensures { result ≡ place_of_some log.now.entries (node_of name.now bookmarks.now) }
+    ensures { result ≡ mark_named log.now.entries bookmarks.now name.now }
 {
     match bookmarks.get(name) {
         Some(node) => log.rev_of(&node),
@@ -78,7 +80,7 @@ fn mark_named(log: &Revlog, bookmarks: &Bookmarks, name: &[u8]) -> Option<u32>
 
 // The revision whose number, whose node's digits or whose bookmark the name is.
 fn plain_named(log: &Revlog, bookmarks: &Bookmarks, name: &[u8]) -> Option<u32>
-    ensures named { result ≡ first_of (number_named (length log.now.entries) name.now) (first_of (node_named log.now.entries name.now) (place_of_some log.now.entries (node_of name.now bookmarks.now))) }
+    ensures named { result ≡ first_of (number_named (length log.now.entries) name.now) (first_of (node_named (nodes_of log.now.entries) name.now) (mark_named log.now.entries bookmarks.now name.now)) }
     ensures below { IfSome result (λ rev. rev < length log.now.entries) }
 {
     if let Some(rev) = number_named(name, log.len()) {

@@ -1,6 +1,6 @@
 -- What is written of a new revision, appended, holds it last.
 use Rattle.std.proofs.Common.{◌≡◌, ℕ, ◌+◌, ◌^◌, ◌<◌, ◌≤◌, Bool, true, false, cond, ◌||◌, List, [], ◌∷◌, ◌++◌, length, Option, Some, None, Result, Ok, Err, refl, sym, ◌∙◌, ap, subst, arith}
-use Rattle.std.specs.Prelude.{◌==◌, nat_le, nat_lt, is_some, IfSome, IsSome, unwrap_or}
+use Rattle.std.specs.Prelude.{◌==◌, nat_le, nat_lt, is_some, IfSome, IsSome, IsOk, unwrap_or}
 use Rattle.hgs_bytes.specs.Bytes.{same}
 use Rattle.hgs_index.specs.declared.entry.Entry.{Entry}
 use Rattle.hgs_index.specs.declared.entry.Header.{Header}
@@ -62,17 +62,15 @@ record IsNew (log : Log) (r : Revision) (entry chunk : List ℕ) (node : Node) :
   few : length log.entries < most_revisions
   text : length r.text ≤ most_text
   data_end : stored_sum log.entries + length (chunk_of r.text) ≤ most_data
-  named : same null_node (next_entry log.entries r).node.0 ≡ false
   entry_is : entry ≡ entry_bytes (next_entry log.entries r) (new_header log)
   chunk_is : chunk ≡ chunk_of r.text
   node_is : node ≡ (next_entry log.entries r).node
 
-four : (a b c d : Bool) (w x y z : RevFault) (v g : Added) → cond a (Err w) (cond b (Err x) (cond c (Err y) (cond d (Err z) (Ok v)))) ≡ Ok g → (a ≡ false) × (b ≡ false) × (c ≡ false) × (d ≡ false) × (v ≡ g)
-four true b c d w x y z v g h = cc
-four false true c d w x y z v g h = cc
-four false false true d w x y z v g h = cc
-four false false false true w x y z v g h = cc
-four false false false false w x y z v g h = (refl, refl, refl, refl, is v g h)
+three : (a b c : Bool) (w x y : RevFault) (v g : Added) → cond a (Err w) (cond b (Err x) (cond c (Err y) (Ok v))) ≡ Ok g → (a ≡ false) × (b ≡ false) × (c ≡ false) × (v ≡ g)
+three true b c w x y v g h = cc
+three false true c w x y v g h = cc
+three false false true w x y v g h = cc
+three false false false w x y v g h = (refl, refl, refl, is v g h)
   where
     is : (v g : Added) → (let a : Result Added RevFault = Ok v in a) ≡ Ok g → v ≡ g
     is v g h = cc
@@ -85,9 +83,9 @@ few_is n h = grind arith
 
 new_is : (log : Log) (r : Revision) (entry chunk : List ℕ) (node : Node) → added_new log r ≡ Ok (New entry chunk node) → IsNew log r entry chunk node
 new_is log r entry chunk node h =
-    let s = four (nat_le most_revisions (length log.entries)) (nat_lt most_text (length r.text)) (nat_lt most_data (stored_sum log.entries + length (chunk_of r.text))) (same null_node (next_entry log.entries r).node.0) _ _ _ _ _ _ h in
-    let p = new_parts _ entry _ chunk _ node s.4 in
-    record { few = few_is (length log.entries) s.0; text = at_most most_text (length r.text) s.1; data_end = at_most most_data (stored_sum log.entries + length (chunk_of r.text)) s.2; named = s.3; entry_is = p.0; chunk_is = p.1; node_is = p.2 }
+    let s = three (nat_le most_revisions (length log.entries)) (nat_lt most_text (length r.text)) (nat_lt most_data (stored_sum log.entries + length (chunk_of r.text))) _ _ _ _ _ h in
+    let p = new_parts _ entry _ chunk _ node s.3 in
+    record { few = few_is (length log.entries) s.0; text = at_most most_text (length r.text) s.1; data_end = at_most most_data (stored_sum log.entries + length (chunk_of r.text)) s.2; entry_is = p.0; chunk_is = p.1; node_is = p.2 }
 
 found_not_new : (log : Log) (r : Revision) (rev : ℕ) (text : Result (List ℕ) RevFault) (entry chunk : List ℕ) (node : Node) → matched log r.text r.parents rev text ≡ Ok (New entry chunk node) → ⊥
 found_not_new log r rev (Err f) entry chunk node h = cc
@@ -132,9 +130,15 @@ first_header log h = subst (λ b. IsSome {T = Header} (cond b (Some (record { in
     some : IsSome {T = Header} (Some (record { inline = log.inline; generaldelta = false }))
     some = refl
 
+-- what is written of it, and its node
+pub new-named : (log : Log) (r : Revision) (standing : Option (List ℕ)) (entry chunk : List ℕ) (node : Node) → added log r standing ≡ Ok (New entry chunk node) → (chunk ≡ chunk_of r.text) × (node ≡ (next_entry log.entries r).node)
+new-named log r standing entry chunk node new =
+    let parts = new_is log r entry chunk node (new_fresh log r standing (place_of log.entries (next_entry log.entries r).node.0) entry chunk node new).1 in
+    (parts.chunk_is, parts.node_is)
+
 module _ (log : Log) (r : Revision) (standing : Option (List ℕ)) (entry chunk : List ℕ) (node : Node)
     (separate : log.inline ≡ false) (p1 : IfSome r.parents.0 (λ a. a < length log.entries)) (p2 : IfSome r.parents.1 (λ a. a < length log.entries)) (link : r.link < 2 ^ 31)
-    (new : added log r standing ≡ Ok (New entry chunk node)) where
+    (not_null : same null_node node.0 ≡ false) (new : added log r standing ≡ Ok (New entry chunk node)) where
   fresh : place_of log.entries (next_entry log.entries r).node.0 ≡ None
   fresh = (new_fresh log r standing (place_of log.entries (next_entry log.entries r).node.0) entry chunk node new).0
 
@@ -146,7 +150,7 @@ module _ (log : Log) (r : Revision) (standing : Option (List ℕ)) (entry chunk 
     offset = refl;
     first = not_above (length log.entries) r.parents.0 p1;
     second = not_above (length log.entries) r.parents.1 p2;
-    named = parts.named;
+    named = ap (λ n. same null_node n.0) (sym parts.node_is) ∙ not_null;
     fresh = fresh;
     text = parts.text;
     data_end = parts.data_end;
@@ -163,12 +167,21 @@ module _ (log : Log) (r : Revision) (standing : Option (List ℕ)) (entry chunk 
       let chunk = length-chunk_of r.text in
       next_fits log (next_entry log.entries r) refl (omega arith) refl (omega arith) (omega arith) (let n = length-nodes_of log.entries in omega (arith, n)) link p1 p2 (omega arith) (length-node_hash (parent_node (nodes_of log.entries) r.parents.0) (parent_node (nodes_of log.entries) r.parents.1) r.text)
 
-  -- the entry that is written is taken as the next one
+  -- the entry that is written is read as this one
+  pub new-entry : entry_behind log.entries entry ≡ Ok (next_entry log.entries r)
+  new-entry =
+      ap (entry_behind log.entries) parts.entry_is
+      ∙ (taken_again log.entries (next_entry log.entries r) (new_header log) parts.few new_faultless new_fits (header_separate log (length log.entries == 0) separate) (header_first log) (first_header log))
+
+  pub new-may-be-pushed : IsOk (entry_behind log.entries entry)
+  new-may-be-pushed = subst IsOk (sym new-entry) ok
+    where
+      ok : IsOk {T = Entry} {E = RevFault} (Ok (next_entry log.entries r))
+      ok = refl
+
+  -- so it is taken as the next one
   pub new-taken : pushed log entry ≡ Ok (with_entry log (next_entry log.entries r))
-  new-taken =
-      ap (pushed log) parts.entry_is
-      ∙ ap (λ x. after x (λ e. Ok (with_entry log e)))
-      (taken_again log.entries (next_entry log.entries r) (new_header log) parts.few new_faultless new_fits (header_separate log (length log.entries == 0) separate) (header_first log) (first_header log))
+  new-taken = ap (λ x. after x (λ e. Ok (with_entry log e))) new-entry
 
   -- behind bytes that hold the revisions of the log, what is written holds them and the new one last
   pub new-held : (index data_bytes : List ℕ) (revisions : List Revision) → Agrees index data_bytes log.entries revisions → Agrees (index ++ entry) (data_bytes ++ chunk) (with_entry log (next_entry log.entries r)).entries (revisions ++ r ∷ [])

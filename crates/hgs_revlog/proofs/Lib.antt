@@ -1,7 +1,9 @@
 pub mod AddLemmas
 pub mod AddedLemmas
+pub mod EntriesLemmas
 pub mod HeldLemmas
 pub mod LoadLemmas
+pub mod LoadedLemmas
 pub mod LogLemmas
 pub mod ReadLemmas
 pub mod SpanLemmas
@@ -9,3 +11,4 @@ pub mod StandingLemmas
 pub mod TailHeldLemmas
 pub mod TailLemmas
 pub mod TestLemmas
+pub mod PlaceFrontLemmas

@@ -127,7 +127,7 @@ checked_is before (Ok x) e h = by (fault_of before x) h
     by (Some f) h = cc
 
 -- an entry that is taken reads
-read_entry : (before : List Entry) (cell : List ℕ) (e : Entry) → entry_behind before cell ≡ Ok e → entry_at cell (length before) ≡ Ok e
+pub read_entry : (before : List Entry) (cell : List ℕ) (e : Entry) → entry_behind before cell ≡ Ok e → entry_at cell (length before) ≡ Ok e
 read_entry before cell e h = by (nat_le most_revisions (length before)) h
   where
     by : (b : Bool) → cond b (Err (faults.Limit Changesets)) (checked before (entry_at cell (length before))) ≡ Ok e → entry_at cell (length before) ≡ Ok e
@@ -170,7 +170,7 @@ load_more (suc n) log end bytes h =
     let r = load_more n (with_entry log s.0) end (drop 64 bytes) s.2 in
     (s.0 ∷ r.0, r.1 ∙ append_assoc log.entries (s.0 ∷ []) r.0)
 
-bytes_drop : (n : ℕ) (xs : List ℕ) → IsBytes xs → IsBytes (drop n xs)
+pub bytes_drop : (n : ℕ) (xs : List ℕ) → IsBytes xs → IsBytes (drop n xs)
 bytes_drop zero xs h = h
 bytes_drop (suc n) [] h = h
 bytes_drop (suc n) (x ∷ xs) h = bytes_drop n xs (λ i. h (suc i))

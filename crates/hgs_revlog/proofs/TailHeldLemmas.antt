@@ -13,7 +13,7 @@ use Rattle.hgs_index.proofs.RevlogLemmas.{length-held}
 use Rattle.hgs_revlog.specs.declared.add.Added.TheVariants.{Old}
 use Rattle.hgs_revlog.specs.declared.fault.RevFault.TheVariants.{Collision}
 use Rattle.hgs_revlog.specs.declared.fault.Tail.TheVariants.{Ignore, Refuse, Until}
-use Rattle.hgs_revlog.specs.Log.{Log, place_of}
+use Rattle.hgs_revlog.specs.Log.{Log, nodes_of, place_of}
 use Rattle.hgs_revlog.specs.Load.{loaded}
 use Rattle.hgs_revlog.specs.Text.{text_of}
 use Rattle.hgs_revlog.specs.Add.{added, added_at, matched, next_entry, parents_of}
@@ -39,23 +39,31 @@ ignored-held index data_bytes log revisions are load read =
     let len = length-take (64 * (length index / 64)) index in
     (b.0, b.1, omega (arith, whole, front, len))
 
+-- the limits of all the bytes are those of a front of them
+pub limits-front : (index data_bytes : List ℕ) (revisions : List Revision) (b : BeginsWithRevisions index data_bytes revisions) → AreWithinLimits revisions data_bytes → AreWithinLimits revisions b.data_front
+limits-front index data_bytes revisions b limits =
+    let d = ap length b.data_begins.1 in
+    record { few = limits.few; texts = limits.texts; data_end = (let room = limits.data_end in omega (arith, room, d, length-append b.data_front b.data_begins.0)) }
+
 -- what a front of the bytes gives
-front_loaded : (index data_bytes : List ℕ) (revisions : List Revision) (b : BeginsWithRevisions index data_bytes revisions) → AreWithinLimits revisions data_bytes
+front_loaded : (index data_bytes : List ℕ) (revisions : List Revision) (b : BeginsWithRevisions index data_bytes revisions) → AreWithinLimits revisions b.data_front
     → (log : Log) × (loaded Refuse b.index_front ≡ Ok log) × (read_all log.entries data_bytes ≡ Ok revisions) × Agrees b.index_front b.data_front log.entries revisions
 front_loaded index data_bytes revisions b limits =
-    let d = ap length b.data_begins.1 in
-    let front : AreWithinLimits revisions b.data_front = record { few = limits.few; texts = limits.texts; data_end = (let room = limits.data_end in omega (arith, room, d, length-append b.data_front b.data_begins.0)) } in
-    let h = held-loaded b.index_front b.data_front b.data_begins.0 revisions b.held front in
+    let h = held-loaded b.index_front b.data_front b.data_begins.0 revisions b.held limits in
     (h.0, h.1, ap (read_all h.0.entries) b.data_begins.1 ∙ h.2, h.3)
 
-pub held-ignored : (index data_bytes : List ℕ) (revisions : List Revision) → (begins : BeginsWithRevisions index data_bytes revisions) → length revisions ≡ length index / 64 → AreWithinLimits revisions data_bytes
+pub front-ignored : (index data_bytes : List ℕ) (revisions : List Revision) → (begins : BeginsWithRevisions index data_bytes revisions) → length revisions ≡ length index / 64 → AreWithinLimits revisions begins.data_front
     → (log : Log) × (loaded Ignore index ≡ Ok log) × (read_all log.entries data_bytes ≡ Ok revisions) × Agrees begins.index_front begins.data_front log.entries revisions
-held-ignored index data_bytes revisions b all limits =
+front-ignored index data_bytes revisions b all limits =
     let h = front_loaded index data_bytes revisions b limits in
     let len = length-held b.index_front b.data_front revisions b.held in
     let front : take (64 * (length index / 64)) index ≡ b.index_front =
     ap (take (64 * (length index / 64))) b.index_begins.1 ∙ first_of b.index_front b.index_begins.0 (64 * (length index / 64)) (omega (arith, len, all)) in
     (h.0, ignore-refuse index ∙ ap (loaded Refuse) front ∙ h.1, h.2, h.3)
+
+pub held-ignored : (index data_bytes : List ℕ) (revisions : List Revision) → (begins : BeginsWithRevisions index data_bytes revisions) → length revisions ≡ length index / 64 → AreWithinLimits revisions data_bytes
+    → (log : Log) × (loaded Ignore index ≡ Ok log) × (read_all log.entries data_bytes ≡ Ok revisions) × Agrees begins.index_front begins.data_front log.entries revisions
+held-ignored index data_bytes revisions b all limits = front-ignored index data_bytes revisions b all (limits-front index data_bytes revisions b limits)
 
 -- the first place in a list of values is that of what they come from
 pub position_map : {A B : Type 0} (f : A → B) (p : B → Bool) (xs : List A) → position p (map f xs) ≡ position (λ x. p (f x)) xs
@@ -69,6 +77,9 @@ position_map {A = A} f p xs = ap (λ n. cond (nat_lt n (length (map f xs))) (Som
     places [] = refl
     places (x ∷ xs) = ap (λ n. cond (not (p (f x))) (1 + n) 0) (places xs)
 
+pub place-among : (entries : List Entry) (node : List ℕ) → place_of entries node ≡ position (λ n. same n node) (nodes_of entries)
+place-among entries node = sym (position_map (λ (e : Entry). e.node.0) (λ n. same n node) entries)
+
 place-ends : (index data_bytes : List ℕ) (entries : List Entry) (revisions : List Revision) (node : List ℕ) → Agrees index data_bytes entries revisions → place_of entries node ≡ position (λ n. same n node) (nodes revisions)
 place-ends index data_bytes entries revisions node h = sym (position_map (λ (e : Entry). e.node.0) (λ n. same n node) entries) ∙ ap (position (λ n. same n node)) (nodes_of-agrees index data_bytes entries revisions h)
 
@@ -80,13 +91,17 @@ until-held index data_bytes log revisions node are load read =
     let len = length-agrees b.0.index_front b.0.data_front log.entries revisions b.1 in
     (b.0, b.1, sym (place-ends b.0.index_front b.0.data_front log.entries revisions node.0 b.1) ∙ u.1 ∙ ap (λ n. Some (n - 1)) len)
 
-pub held-until : (index data_bytes : List ℕ) (revisions : List Revision) (node : Node) → (begins : BeginsWithRevisions index data_bytes revisions) → EndsFirstAt node.0 revisions → AreWithinLimits revisions data_bytes
+pub front-until : (index data_bytes : List ℕ) (revisions : List Revision) (node : Node) → (begins : BeginsWithRevisions index data_bytes revisions) → EndsFirstAt node.0 revisions → AreWithinLimits revisions begins.data_front
     → (log : Log) × (loaded (Until node) index ≡ Ok log) × (read_all log.entries data_bytes ≡ Ok revisions) × Agrees begins.index_front begins.data_front log.entries revisions
-held-until index data_bytes revisions node b ends limits =
+front-until index data_bytes revisions node b ends limits =
     let h = front_loaded index data_bytes revisions b limits in
     let len = length-agrees b.index_front b.data_front h.0.entries revisions h.3 in
     let last = place-ends b.index_front b.data_front h.0.entries revisions node.0 h.3 ∙ ends ∙ ap (λ n. Some (n - 1)) (sym len) in
     (h.0, ap (loaded (Until node)) b.index_begins.1 ∙ refuse-until b.index_front b.index_begins.0 h.0 node h.1 last, h.2, h.3)
+
+pub held-until : (index data_bytes : List ℕ) (revisions : List Revision) (node : Node) → (begins : BeginsWithRevisions index data_bytes revisions) → EndsFirstAt node.0 revisions → AreWithinLimits revisions data_bytes
+    → (log : Log) × (loaded (Until node) index ≡ Ok log) × (read_all log.entries data_bytes ≡ Ok revisions) × Agrees begins.index_front begins.data_front log.entries revisions
+held-until index data_bytes revisions node b ends limits = front-until index data_bytes revisions node b ends (limits-front index data_bytes revisions b limits)
 
 -- ---- a revision that stands
 

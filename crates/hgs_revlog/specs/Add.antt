@@ -4,11 +4,10 @@ use Rattle.hgs_bytes.specs.Bytes.{same}
 use Rattle.hgs_index.specs.declared.entry.Entry.{Entry}
 use Rattle.hgs_index.specs.declared.kinds.Which.TheVariants.{Changesets, Text, Data}
 use Rattle.hgs_index.specs.Entry.{entry_bytes}
-use Rattle.hgs_index.specs.Node.{null_node}
 use Rattle.hgs_index.specs.Revision.{Revision, Parents, same_parents}
 use Rattle.hgs_index.specs.Revlog.{chunk_of, entry_after}
 use Rattle.hgs_revlog.specs.declared.fault.RevFault.{RevFault}
-use Rattle.hgs_revlog.specs.declared.fault.RevFault.TheVariants.{Collision, Limit, Twice}
+use Rattle.hgs_revlog.specs.declared.fault.RevFault.TheVariants.{Collision, Limit}
 use Rattle.hgs_revlog.specs.declared.add.Added.{Added}
 use Rattle.hgs_revlog.specs.declared.add.Added.TheVariants.{Old, New}
 use Rattle.hgs_revlog.specs.Log.{Log, new_header, place_of, stored_sum, nodes_of}
@@ -19,13 +18,13 @@ use Rattle.hgs_revlog.specs.Text.{text_of}
 abbrev pub next_entry : List Entry → Revision → Entry
 next_entry before r = entry_after (stored_sum before) (nodes_of before) (record { revision = r; chunk = chunk_of r.text })
 
--- what is written of a revision that does not stand, within the limits
+-- What is written of a revision that does not stand, within the limits. Whether its node is the null node is not tested:
+-- no text is known to have it.
 abbrev pub added_new : Log → Revision → Result Added RevFault
 added_new log r =
     if nat_le most_revisions (length log.entries) then Err (Limit Changesets)
     else if nat_lt most_text (length r.text) then Err (Limit Text)
     else if nat_lt most_data (stored_sum log.entries + length (chunk_of r.text)) then Err (Limit Data)
-    else if same null_node (next_entry log.entries r).node.0 then Err (Twice (length log.entries))
     else Ok (New (entry_bytes (next_entry log.entries r) (new_header log)) (chunk_of r.text) (next_entry log.entries r).node)
 
 abbrev pub parents_of : Option Entry → Parents

@@ -3,5 +3,6 @@ pub mod Fault
 pub mod Held
 pub mod Indexed
 pub mod Load
+pub mod Loaded
 pub mod Log
 pub mod Text

@@ -1,10 +1,11 @@
 //! One more revision.
-ghost use Rattle.std.specs.Prelude.{◌≡◌, ◌<◌, ◌^◌, ◌≤◌, length, slice_get, IfOk, IfSome};
+ghost use Rattle.std.specs.Prelude.{◌≡◌, ◌<◌, ◌^◌, ◌≤◌, false, length, slice_get, IfOk, IfSome};
 ghost use Rattle.std.specs.Option.{option_copied};
 ghost use Rattle.hgs_bytes.specs.Answer.{Gives};
 ghost use Rattle.hgs_index.specs.Revision.{same_parent, same_parents};
 ghost use Rattle.hgs_index.specs.Revlog.{chunk_of};
 ghost use Rattle.hgs_revlog.specs.Fault.{is_memory};
+ghost use Rattle.hgs_revlog.specs.Log.{place_of};
 ghost use Rattle.hgs_revlog.specs.Add.{added, added_new, matched, next_entry, parents_of, entry_with, IsChunkOf};
 ghost use Rattle.hgs_revlog.specs.Text.{text_of};
 
@@ -56,20 +57,28 @@ fn chunk_for(alloc: Global, text: &[u8]) -> Result<Bytes, AllocError>
 }
 
 impl Revlog {
+    /// The revision that has the node of a text with these parents, if there is one: `add` is given its chunk.
+    pub fn standing(&self, text: &[u8], p1: Option<u32>, p2: Option<u32>) -> Option<u32>
+        ensures place { result ≡ place_of self.now.entries (next_entry self.now.entries (record { text = text.now; parents = (p1, p2); link = 0 })).node.0 }
+        ensures stands { IfSome result (λ rev. rev < length self.now.entries) }
+    {
+        self.rev_of(&node_of(&self.parent_node(p1), &self.parent_node(p2), text))
+    }
+
     /// What a text with these parents and this link becomes as the next revision. Nothing changes.
     ///
     /// `standing` is the chunk of the revision that has the node already, given exactly where there is one. The node
-    /// is taken from the text and the parents; that no text has the null node is not known, so a text that has it is
-    /// refused as `Twice`, as `load` would refuse its entry.
+    /// is taken from the text and the parents. That it is not the null node is not tested: no text is known whose node
+    /// that is, and what the laws say of a new revision has it as a premise. An inline revlog takes no revision yet.
     pub fn add(
         &self,
-        alloc: Global,
         text: &[u8],
         p1: Option<u32>,
         p2: Option<u32>,
         link: u32,
         standing: Option<&[u8]>,
     ) -> Result<Added, RevFault>
+        requires separate { self.now.inline ≡ false }
         requires first { IfSome p1 (λ rev. rev < length self.now.entries) }
         requires second { IfSome p2 (λ rev. rev < length self.now.entries) }
         requires link { link < 2 ^ 31 }
@@ -78,7 +87,7 @@ impl Revlog {
     {
         let node = node_of(&self.parent_node(p1), &self.parent_node(p2), text);
         match self.rev_of(&node) {
-            None => self.added_new(alloc, text, p1, p2, link, node),
+            None => self.added_new(text, p1, p2, link, node),
             Some(rev) => self.matched(rev, standing.unwrap_or(&[]), text, p1, p2),
         }
     }
@@ -117,7 +126,6 @@ impl Revlog {
     // What is written of a revision whose node does not stand.
     fn added_new(
         &self,
-        alloc: Global,
         text: &[u8],
         p1: Option<u32>,
         p2: Option<u32>,
@@ -137,13 +145,10 @@ impl Revlog {
         if text.len() > MOST_TEXT as usize {
             return Err(RevFault::Limit(Which::Text));
         }
-        let chunk = chunk_for(alloc, text)?;
+        let chunk = chunk_for(self.allocator(), text)?;
         let offset = self.end();
         if offset + chunk.len() as u64 > MOST_DATA {
             return Err(RevFault::Limit(Which::Data));
-        }
-        if Node([0; 20]) == node {
-            return Err(RevFault::Twice(base));
         }
         let entry = Entry {
             offset,

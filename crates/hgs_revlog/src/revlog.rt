@@ -1,5 +1,5 @@
 //! A loaded index.
-ghost use Rattle.std.specs.Prelude.{◌≡◌, ◌<◌, ◌≤◌, not, [], length, slice_get, IfSome, IfErr, IsOk, OnOk, OnErr};
+ghost use Rattle.std.specs.Prelude.{◌≡◌, ◌<◌, ◌≤◌, not, [], length, slice_get, IfSome, IfOk, IfErr, IsOk, OnOk, OnErr};
 ghost use Rattle.std.specs.Option.{option_map};
 ghost use Rattle.std.specs.Result.{result_map_both};
 ghost use Rattle.hgs_bytes.specs.Answer.{Gives};
@@ -16,7 +16,7 @@ use crate::fault::{RevFault, Tail};
 use hgs_index::entry::{Entry, Header, decode};
 use hgs_index::kinds::{Span, Which};
 use hgs_index::node::{Node, node_of};
-use std::alloc::Global;
+use std::alloc::{AllocError, Global};
 use std::collections::BTreeMap;
 use std::marker::Model;
 
@@ -151,6 +151,23 @@ impl Revlog {
                 Err(RevFault::Memory)
             }
         }
+    }
+
+    /// The same revlog once more.
+    pub fn copy(&self) -> Result<Revlog, AllocError>
+        ensures { IfOk result (λ copy. copy ≡ self.now) }
+    {
+        Ok(Revlog {
+            inline: self.inline,
+            entries: self.entries.clone()?,
+            revs: self.revs.clone()?,
+            end: self.end,
+        })
+    }
+
+    // Where what is written of a revision takes its memory.
+    pub(crate) fn allocator(&self) -> Global {
+        *self.entries.allocator()
     }
 
     /// How many revisions there are.

@@ -1,4 +1,6 @@
 //! Entries and texts that Mercurial wrote, and what is refused of them.
+ghost use Rattle.std.specs.Prelude.{◌≡◌, false};
+
 use crate::add::Added;
 use crate::fault::{RevFault, Tail};
 use crate::revlog::Revlog;
@@ -146,21 +148,25 @@ fn reads_texts(rt: HostRuntime) -> Result<(), Fail> {
 }
 
 // Adds a text without parents, told the chunk that stands where its node is there.
-fn added(alloc: Global, log: &Revlog, text: &[u8], chunk: &[u8]) -> Result<Added, RevFault> {
+fn added(log: &Revlog, text: &[u8], chunk: &[u8]) -> Result<Added, RevFault>
+    requires { log.now.inline ≡ false }
+{
     let null = Node([0; 20]);
     let node = node_of(&null, &null, text);
     match log.rev_of(&node) {
-        None => log.add(alloc, text, None, None, 0, None),
+        None => log.add(text, None, None, 0, None),
         Some(rev) => {
             if chunk.len() > log.entry(rev).stored as usize {
                 return Err(RevFault::Missing);
             }
-            log.add(alloc, text, None, None, 0, Some(chunk))
+            log.add(text, None, None, 0, Some(chunk))
         }
     }
 }
 
-fn pushed(log: &mut Revlog, entry: &[u8; 64]) -> Result<(), RevFault> {
+fn pushed(log: &mut Revlog, entry: &[u8; 64]) -> Result<(), RevFault>
+    ensures { log.new.inline ≡ log.old.inline }
+{
     match log.next_entry(entry) {
         Ok(_) => log.push(entry),
         Err(fault) => Err(fault),
@@ -180,7 +186,7 @@ fn adds_then_finds(rt: HostRuntime) -> Result<(), Fail> {
         b"\0\0\0\x01\0\0\0\0\0\0\0\x03\0\0\0\x02\0\0\0\0\0\0\0\0\xff\xff\xff\xff\xff\xff\xff\xff",
     );
     want[32..52].copy_from_slice(&node);
-    match added(alloc, &log, b"a\n", b"") {
+    match added(&log, b"a\n", b"") {
         Ok(
             Added::New {
                 entry,
@@ -196,7 +202,7 @@ fn adds_then_finds(rt: HostRuntime) -> Result<(), Fail> {
     }
     assert_eq!(rt; log.len(), 1);
     assert_eq!(rt; log.rev_of(&Node(node)), Some(0));
-    match added(alloc, &log, b"a\n", b"ua\n") {
+    match added(&log, b"a\n", b"ua\n") {
         Ok(Added::Old(rev)) => assert_eq!(rt; rev, 0),
         _ => assert!(rt; false, "not found"),
     }

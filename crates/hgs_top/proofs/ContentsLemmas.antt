@@ -18,7 +18,7 @@ use Rattle.hgs_top.specs.declared.stopped.Said.{Said}
 use Rattle.hgs_top.specs.declared.stopped.Stopped.{Stopped}
 use Rattle.hgs_top.specs.declared.stopped.Stopped.TheVariants.{Refused, Unwritten}
 use Rattle.hgs_top.specs.Outcome.{Outcome, Reply, Subject, told, unknown_revision, refused, text_outcome, contents_asks, contents_of_rev, contents_of_load, contents_reply}
-use Rattle.hgs_top.specs.Run.{OfTree, IsFrontWritten, IsReplied, IsUnwritten}
+use Rattle.hgs_top.specs.Run.{OfTree, IsFrontWritten, IsCut, IsReplied, IsUnwritten}
 use Rattle.hgs_top.proofs.LogLemmas.{nothing_written}
 
 of_told : (seen : Option (List Op)) (start : Tree) (P : Tree → Type 0) → ((l : List Op) → seen ≡ Some l → P (after_all l start)) → OfTree seen start P
@@ -96,6 +96,6 @@ module _ (seen0 seen1 seen2 : Option (List Op)) (start0 start1 : Tree) (view : V
       pub written_contents : IsWritten first last new → OfTree seen0 start0 (λ t. IsReplied (contents_reply name subject t) first last (Ok Whole))
       written_contents w = replied (Ok Whole) (λ text e. let P : List ℕ → Type 0 = λ x. IsWritten first last x in (refl, subst P e w))
 
-      pub cut_contents : (s : Stopped) → IsUnwritten s × IsFrontWritten first last new → OfTree seen0 start0 (λ t. IsReplied (contents_reply name subject t) first last (Err s))
+      pub cut_contents : (s : Stopped) → IsUnwritten s × IsCut first last new → OfTree seen0 start0 (λ t. IsReplied (contents_reply name subject t) first last (Err s))
       cut_contents (Refused e) w = absurd w.0
-      cut_contents (Unwritten f) w = replied (Err (Unwritten f)) (λ text e. let P : List ℕ → Type 0 = λ x. IsFrontWritten first last x in subst P e w.1)
+      cut_contents (Unwritten f) w = replied (Err (Unwritten f)) (λ text e. let P : List ℕ → Type 0 = λ x. IsCut first last x in subst P e w.1)

@@ -17,15 +17,16 @@ use Rattle.hgs_index.specs.Revision.{Revision, nodes}
 use Rattle.hgs_index.proofs.RevisionLemmas.{length-nodes_from}
 use Rattle.hgs_revlog.specs.declared.fault.RevFault.{RevFault}
 use Rattle.hgs_revlog.specs.Held.{AreWithinLimits, chunk_in, revision_of, with_text, read_from, read_all}
+use Rattle.hgs_revlog.specs.declared.fault.Tail.{Tail}
 use Rattle.hgs_revlog.specs.declared.fault.Tail.TheVariants.{Ignore, Refuse}
-use Rattle.hgs_revlog.specs.Load.{loaded, load_from, most_revisions}
-use Rattle.hgs_revlog.specs.Log.{Log, nodes_of, with_entry}
+use Rattle.hgs_revlog.specs.Load.{loaded, most_revisions}
+use Rattle.hgs_revlog.specs.Loaded.{AreEntries}
+use Rattle.hgs_revlog.specs.Log.{Log, nodes_of}
 use Rattle.hgs_revlog.specs.Text.{text_of}
 use Rattle.hgs_revlog.proofs.HeldLemmas.{nodes_of-agrees}
 use Rattle.hgs_revlog.proofs.ReadLemmas.{with_text_ok, slice_get_seam}
 use Rattle.hgs_revlog.proofs.TailHeldLemmas.{held-ignored, ignored-held}
-use Rattle.hgs_revlog.proofs.TailLemmas.{ignore-refuse, refuse_step, refuse_none, load_length}
-use Rattle.hgs_revlog.proofs.LoadLemmas.{taken_entry}
+use Rattle.hgs_revlog.proofs.TailLemmas.{ignore-refuse, load_length}
 use Rattle.hgs_reader.specs.declared.answer.ReadAnswer.{ReadAnswer}
 use Rattle.hgs_reader.specs.Asks.{Asks, answer, part_of, at_rest}
 use Rattle.hgs_reader.specs.Line.{field, parent_text, change_fields, line_asks, line_at, line_text, line_of_entry, line_of_change, chunk_asks, change_of_chunk, change_of_text}
@@ -258,21 +259,13 @@ history_of t view before (e ∷ entries) is lines =
     add_one : (n : ℕ) → n + 1 ≡ suc n
     add_one n = omega arith
 
-load_few : (n : ℕ) (log end : Log) (bytes : List ℕ) → load_from Refuse n log bytes ≡ Ok end → length log.entries ≤ most_revisions → length end.entries ≤ most_revisions
-load_few zero log end bytes h few = subst (λ (l : Log). length l.entries ≤ most_revisions) (refuse_none log end bytes h).0 few
-load_few (suc n) log end bytes h few =
-    let s = refuse_step n log end bytes h in
-    let room = (taken_entry log.entries (take 64 bytes) s.0 s.1).0 in
-    let size = length-append log.entries (s.0 ∷ []) in
-    load_few n (with_entry log s.0) end (drop 64 bytes) s.2 (omega (arith, room, size))
-
 -- an index that loads has no more entries than a revlog may have
-few_entries : (index : List ℕ) (log : Log) → loaded Ignore index ≡ Ok log → length index / 64 ≤ most_revisions
-few_entries index log h =
+few_entries : (index : List ℕ) (log : Log) → AreEntries log.entries → loaded Ignore index ≡ Ok log → length index / 64 ≤ most_revisions
+few_entries index log are h =
     let whole = take (64 * (length index / 64)) index in
     let load : loaded Refuse whole ≡ Ok log = sym (ignore-refuse index) ∙ h in
     let count = load_length (length whole / 64) (record { inline = false; entries = [] }) log whole load in
-    let few = load_few (length whole / 64) (record { inline = false; entries = [] }) log whole load (omega arith) in
+    let few = are.few in
     let size = length-take (64 * (length index / 64)) index in
     omega (arith, count, few, size)
 
@@ -283,8 +276,8 @@ log_in : (r : Result Log RevFault) (log : Log) → log_answer changelog_index r 
 log_in (Err f) log h = cc
 log_in (Ok x) log h = cc
 
-pub log-history : (t : Tree) → IsBytes (bytes_at t changelog_index) → (log_outcome t).refusal ≡ None → (history : List Changeset) × HoldsHistory t history × ((log_outcome t).text ≡ history_text history)
-log-history t are none = by (at_rest t open_asks) refl none
+pub log-history : ((tail : Tail) (index : List ℕ) (log : Log) → loaded tail index ≡ Ok log → AreEntries log.entries) → (t : Tree) → IsBytes (bytes_at t changelog_index) → (log_outcome t).refusal ≡ None → (history : List Changeset) × HoldsHistory t history × ((log_outcome t).text ≡ history_text history)
+log-history entries t are none = by (at_rest t open_asks) refl none
   where
     by : (r : Result View ReadAnswer) → at_rest t open_asks ≡ r → (log_of_view t r).refusal ≡ None → (history : List Changeset) × HoldsHistory t history × ((log_of_view t r).text ≡ history_text history)
     by (Err e) is h = cc
@@ -292,7 +285,7 @@ log-history t are none = by (at_rest t open_asks) refl none
         let index = bytes_at t changelog_index in
         let data_bytes = bytes_at t changelog_data in
         let front_load : loaded Ignore (front_of index) ≡ Ok view.changelog = log_in (loaded Ignore (front_of index)) view.changelog (sym (pieces_read t) ∙ opened_log t view is) in
-        let all : front_of index ≡ index = whole_front index (few_entries (front_of index) view.changelog front_load) in
+        let all : front_of index ≡ index = whole_front index (few_entries (front_of index) view.changelog (entries Ignore (front_of index) view.changelog front_load) front_load) in
         let load : loaded Ignore index ≡ Ok view.changelog = ap (loaded Ignore) (sym all) ∙ front_load in
         let told = history_of t view [] view.changelog.entries refl (lines_ok (λ rev. at_rest t (line_asks view rev)) (length view.changelog.entries) h) in
         let held = ignored-held index data_bytes view.changelog (revisions_of told.0) are load told.1 in

@@ -5,4 +5,6 @@ pub mod HistoryLemmas
 pub mod ListingLemmas
 pub mod LogLemmas
 pub mod OpenLemmas
+pub mod ReplyLemmas
+pub mod RepositoryLemmas
 pub mod Written

@@ -13,12 +13,12 @@ use Rattle.hgs_top.specs.declared.stopped.Stopped.{Stopped}
 use Rattle.hgs_top.specs.declared.stopped.Stopped.TheVariants.{Refused}
 use Rattle.hgs_top.specs.Outcome.{Outcome, listing_text, listing_of_view, listing_of_load, listing_outcome}
 use Rattle.hgs_top.specs.declared.listing.Listing.{Listing}
-use Rattle.hgs_top.specs.Run.{OfTree, IsTold, IsFrontWritten, IsUnwritten}
+use Rattle.hgs_top.specs.Run.{OfTree, IsTold, IsCut, IsUnwritten}
 use Rattle.hgs_top.proofs.LogLemmas.{nothing_written, last_told, of_all}
 
 -- all lines of the opened view were written, or a front of them
 pub listing_told : (listing : Listing) (seen0 seen1 : Option (List Op)) (start : Tree) (view : View) (old new : Option (List ℕ)) (lines : List ℕ) (r : Result Unit Stopped) → seen1 ≡ seen0 → Answers (λ (s : View). s) seen0 start seen1 open_asks (Ok view) → lines ≡ listing_text listing view
-    → OnOk r (IsWritten old new lines) → IfErr r (λ e. IsUnwritten e × IsFrontWritten old new lines) → OfTree seen0 start (λ t. IsTold (listing_outcome listing t) old new r)
+    → OnOk r (IsWritten old new lines) → IfErr r (λ e. IsUnwritten e × IsCut old new lines) → OfTree seen0 start (λ t. IsTold (listing_outcome listing t) old new r)
 listing_told listing None seen1 start view old new lines r s a is ok err = tt
 listing_told listing (Some l) seen1 start view old new lines r s a is ok err =
     let found : at_rest (after_all l start) open_asks ≡ Ok view = answers_at_rest (λ (v : View). v) (Some l) seen1 l start open_asks view refl s a in

@@ -17,8 +17,8 @@ use Rattle.hgs_reader.proofs.RestLemmas.{answers_at_rest, refused_at_rest, adds_
 use Rattle.hgs_top.specs.declared.stopped.Stopped.{Stopped}
 use Rattle.hgs_top.specs.declared.stopped.Stopped.TheVariants.{Refused, Unwritten}
 use Rattle.hgs_top.specs.Outcome.{Outcome, refused, line_then, lines_down, lines_of_view, log_of_view, log_outcome}
-use Rattle.hgs_top.specs.Run.{OfTree, IsTold, IsFrontWritten, IsGathered, IsUnwritten, StopsAt}
-use Rattle.hgs_top.proofs.Written.{adds_on, front_on}
+use Rattle.hgs_top.specs.Run.{OfTree, IsTold, IsFrontWritten, IsCut, IsGathered, IsUnwritten, StopsAt}
+use Rattle.hgs_top.proofs.Written.{adds_on, cut_on, nothing}
 
 -- of the view's lines so many are left; those before were written or gathered
 pub record IsHalfWay (t : Tree) (view : View) (left : ℕ) (old new : Option (List ℕ)) (gathered : List ℕ) : Type 0 where
@@ -28,8 +28,7 @@ pub record IsHalfWay (t : Tree) (view : View) (left : ℕ) (old new : Option (Li
   pub refusal : (lines_down (λ rev. at_rest t (line_asks view rev)) left).refusal ≡ (lines_of_view t view).refusal
 
 pub nothing_written : (o : Option (List ℕ)) → IsWritten o o []
-nothing_written None = refl
-nothing_written (Some l) = ap (λ x. Some x) (sym (append-nil l))
+nothing_written o = nothing o
 
 -- nothing was written, and all lines are left
 pub at_first : (t : Tree) (view : View) (left : ℕ) (o : Option (List ℕ)) (gathered : List ℕ) → left ≡ length view.changelog.entries → gathered ≡ [] → IsHalfWay t view left o o gathered
@@ -79,12 +78,12 @@ half_refused t view left old mid g0 g1 e pos h g line =
 
 -- the sink took a front of what was gathered
 pub half_unwritten : (t : Tree) (view : View) (left : ℕ) (old mid new : Option (List ℕ)) (g0 g1 text : List ℕ) → 0 < left → IsHalfWay t view left old mid g0 → at_rest t (line_asks view (left - 1)) ≡ Ok text → g1 ≡ g0 ++ text →
-    IsFrontWritten mid new g1 → IsFrontWritten old new (lines_of_view t view).text
+    IsCut mid new g1 → IsCut old new (lines_of_view t view).text
 half_unwritten t view left old mid new g0 g1 text pos h line g f =
     let lines : ℕ → Result (List ℕ) ReadAnswer = λ rev. at_rest t (line_asks view rev) in
     let rest = (lines_down lines (left - 1)).text in
     let next : lines_down lines left ≡ line_then (Ok text) (lines_down lines (left - 1)) = next_line lines left pos ∙ ap (λ r. line_then r (lines_down lines (left - 1))) line in
-    front_on old mid new h.done g1 rest (lines_of_view t view).text h.written f
+    cut_on old mid new h.done g1 rest (lines_of_view t view).text h.written f
     (ap (λ l. h.done ++ (l ++ rest)) g ∙ ap (λ l. h.done ++ l) (append_assoc g0 text rest) ∙ sym (append_assoc h.done g0 (text ++ rest)) ∙ ap (λ (o : Outcome). h.done ++ g0 ++ o.text) (sym next) ∙ h.text)
 
 -- ---- where the log is told
@@ -120,11 +119,11 @@ module _ (seen0 seen1 seen2 : Option (List Op)) (start0 start1 : Tree) (view vie
           half_on (after_all l start0) view left old mid new g0 g1 g2 k.0 pos h k.2 k.1 w
 
   pub unwritten_told : (new : Option (List ℕ)) (u : Unit) → OfTree seen0 start0 (λ t. IsHalfWay t view left old mid g0) → AddsAnswer seen1 start1 seen2 (line_asks view1 (left - 1)) g0 g1 (Ok u) →
-      IsFrontWritten mid new g1 → OfTree seen0 start0 (λ t. IsFrontWritten old new (lines_of_view t view).text)
+      IsCut mid new g1 → OfTree seen0 start0 (λ t. IsCut old new (lines_of_view t view).text)
   unwritten_told new u h a w = unwritten_by seen0 refl h (here (Ok u) a)
     where
       unwritten_by : (seen : Option (List Op)) → seen ≡ seen0 → OfTree seen start0 (λ t. IsHalfWay t view left old mid g0) → AddsAnswer seen0 start0 seen2 (line_asks view (left - 1)) g0 g1 (Ok u) →
-          OfTree seen start0 (λ t. IsFrontWritten old new (lines_of_view t view).text)
+          OfTree seen start0 (λ t. IsCut old new (lines_of_view t view).text)
       unwritten_by None q h b = tt
       unwritten_by (Some l) q h b =
           let k = adds_at_rest seen0 seen2 l start0 (line_asks view (left - 1)) g0 g1 u (sym q) (s2 ∙ s1) b in
@@ -167,10 +166,10 @@ unopened says (Some l) seen1 start e o same s a =
         (ap (λ (q : Outcome). q.refusal) is, subst P (sym (ap (λ (q : Outcome). q.text) is)) (nothing_written o))
 
 -- the last of the lines were written, or a front of them
-pub last_told : (o : Outcome) (old mid new : Option (List ℕ)) (g : List ℕ) (u : Unit) (r : Result Unit Stopped) → IsGathered o old mid g (Ok u) → OnOk r (IsWritten mid new g) → IfErr r (λ e. IsUnwritten e × IsFrontWritten mid new g) → IsTold o old new r
+pub last_told : (o : Outcome) (old mid new : Option (List ℕ)) (g : List ℕ) (u : Unit) (r : Result Unit Stopped) → IsGathered o old mid g (Ok u) → OnOk r (IsWritten mid new g) → IfErr r (λ e. IsUnwritten e × IsCut mid new g) → IsTold o old new r
 last_told o old mid new g u (Ok x) h a b = (h.3, adds_on old mid new h.0 g o.text h.1 a h.2)
 last_told o old mid new g u (Err (Refused e)) h a b = absurd b.0
-last_told o old mid new g u (Err (Unwritten f)) h a b = front_on old mid new h.0 g [] o.text h.1 b.1 (ap (λ l. h.0 ++ l) (append-nil g) ∙ h.2)
+last_told o old mid new g u (Err (Unwritten f)) h a b = cut_on old mid new h.0 g [] o.text h.1 b.1 (ap (λ l. h.0 ++ l) (append-nil g) ∙ h.2)
 
 front_of_whole : (x y z : List ℕ) → x ++ y ≡ z → take (length x) z ≡ x
 front_of_whole x y z e = ap (take (length x)) (sym e) ∙ take_at x y (length x) refl
@@ -186,4 +185,4 @@ before_told o old mid new g e (Ok x) h a b = cc
 before_told o old mid new g e (Err (Refused f)) h a b =
     let P : ReadAnswer → Type 0 = λ q. IsTold o old new (Err (Refused q)) in
     subst P (sym a.0) (before_by (is_of_outside e) o old mid new g h.0 h.2 e h.1 h.3 h.4 a.1)
-before_told o old mid new g e (Err (Unwritten f)) h a b = front_on old mid new h.0 g h.2 o.text h.1 a (sym (append_assoc h.0 g h.2) ∙ h.3)
+before_told o old mid new g e (Err (Unwritten f)) h a b = cut_on old mid new h.0 g h.2 o.text h.1 a (sym (append_assoc h.0 g h.2) ∙ h.3)

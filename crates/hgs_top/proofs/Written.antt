@@ -1,8 +1,8 @@
 -- One write after another.
-use Rattle.std.proofs.Common.{◌≡◌, ℕ, ◌+◌, List, ◌++◌, length, take, drop, min, Option, Some, None, Result, Ok, Err, OnErr, refl, sym, ◌∙◌, ap, subst, arith, append_assoc}
+use Rattle.std.proofs.Common.{◌≡◌, ℕ, ◌+◌, List, ◌++◌, length, take, drop, min, Option, Some, None, Result, Ok, Err, OnErr, refl, sym, ◌∙◌, ap, subst, arith, append_assoc, append-nil, [], ◌<◌, length-append}
 use Rattle.std.proofs.lemmas.List.{drop-take, take-take, take-append-drop, take_at, drop_at, take-append-le, take_min}
 use Rattle.hgs_files.specs.Streams.{IsWritten}
-use Rattle.hgs_top.specs.Run.{IsFrontWritten}
+use Rattle.hgs_top.specs.Run.{IsFrontWritten, IsCut}
 
 take-add : (n k : ℕ) (xs : List ℕ) → take n xs ++ take k (drop n xs) ≡ take (n + k) xs
 take-add n k xs =
@@ -34,3 +34,22 @@ front_of x y z n =
 pub front_on : (a b c : Option (List ℕ)) (x y z whole : List ℕ) → IsWritten a b x → IsFrontWritten b c y → x ++ (y ++ z) ≡ whole → IsFrontWritten a c whole
 front_on a b c x y z whole e f g =
     (length x + min f.0 (length y), adds_on a b c x (take f.0 y) (take (length x + min f.0 (length y)) whole) e f.1 (sym (front_of x y z f.0) ∙ ap (take (length x + min f.0 (length y))) g))
+
+-- what was cut is cut in the whole
+pub cut_on : (a b c : Option (List ℕ)) (x y z whole : List ℕ) → IsWritten a b x → IsCut b c y → x ++ (y ++ z) ≡ whole → IsCut a c whole
+cut_on a b c x y z whole e f g =
+    let n = length x + min f.0 (length y) in
+    let all = ap length (sym g) ∙ length-append x (y ++ z) in
+    let rest = length-append y z in
+    let few = f.1 in (
+      n,
+      omega (arith, few, all, rest),
+      adds_on a b c x (take f.0 y) (take n whole) e f.2 (sym (front_of x y z f.0) ∙ ap (take n) g),
+    )
+
+pub nothing : (o : Option (List ℕ)) → IsWritten o o []
+nothing None = refl
+nothing (Some l) = ap (λ x. Some x) (sym (append-nil l))
+
+pub cut_more : (a c : Option (List ℕ)) (y z : List ℕ) → IsCut a c y → IsCut a c (y ++ z)
+cut_more a c y z f = cut_on a a c [] y z (y ++ z) (nothing a) f refl

@@ -3,7 +3,9 @@ use Rattle.std.specs.Prelude.{ℕ, ◌+◌, ◌-◌, Bool, true, false, ◌&&◌
 use Rattle.std.specs.String.{string_bytes}
 use Rattle.hgs_bytes.specs.Bytes.{same, begins_with}
 use Rattle.hgs_top.specs.declared.words.Command.{Command}
-use Rattle.hgs_top.specs.declared.words.Command.TheVariants.{Log, Heads, Bookmarks, Parents, Files, Cat, Phase}
+use Rattle.hgs_top.specs.declared.pages.Page.{Page}
+use Rattle.hgs_top.specs.declared.pages.Page.TheVariants.{Help, Version}
+use Rattle.hgs_top.specs.declared.words.Command.TheVariants.{Shown, Log, Heads, Bookmarks, Parents, Files, Cat, Phase}
 use Rattle.hgs_top.specs.declared.words.Rest.{Rest}
 
 abbrev pub with_operand : List ℕ → Result (List (List ℕ)) ℕ → Result (List (List ℕ)) ℕ
@@ -22,6 +24,7 @@ operands ended needed place (word ∷ words) =
 
 -- what a command asks for; revisions by their names
 pub data Question : Type 0 where
+  ask_page : Page → Question
   ask_log : Question
   ask_heads : Question
   ask_bookmarks : Question
@@ -31,6 +34,7 @@ pub data Question : Type 0 where
   ask_phase : List ℕ → Question
 
 abbrev pub question_of : Command → Question
+question_of (Shown page) = ask_page page
 question_of Log = ask_log
 question_of Heads = ask_heads
 question_of Bookmarks = ask_bookmarks
@@ -72,10 +76,19 @@ alone_else (Some question) about words = asked_with (λ w. question) (operands f
 abbrev pub question_named : List ℕ → List (List ℕ) → Result Question ℕ
 question_named name words = alone_else (alone_named name) (about_named name words) words
 
+-- the pages, which are shown where they are asked for by the first and only word
+abbrev pub page_named : List ℕ → Option Page
+page_named name = if same name (codes "--help") then Some Help else if same name (codes "--version") then Some Version else None
+
+abbrev pub page_else : Option Page → List (List ℕ) → Result Question ℕ → Result Question ℕ
+page_else None words question = question
+page_else (Some page) [] question = Ok (ask_page page)
+page_else (Some page) (word ∷ words) question = Err 1
+
 -- the question that the words are, or the place of the first word that doesn't fit
 abbrev pub question_of_words : List (List ℕ) → Result Question ℕ
 question_of_words [] = Err 0
-question_of_words (name ∷ words) = question_named name words
+question_of_words (name ∷ words) = page_else (page_named name) words (question_named name words)
 
 -- ---- the words that are not read yet
 

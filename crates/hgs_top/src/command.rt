@@ -6,12 +6,12 @@ ghost use Rattle.hgs_files.specs.Streams.{IsWritten};
 ghost use Rattle.hgs_files.specs.declared.streams.IoFault.TheVariants.{Failed};
 ghost use Rattle.hgs_reader.specs.declared.answer.ReadAnswer.TheVariants.{Fault};
 ghost use Rattle.hgs_reader.specs.Answer.{refusal_line, status_of};
-ghost use Rattle.hgs_top.specs.Run.{IsOneOf, OfTree, IsReplied, Replied, SaysBadWord, Concludes, bad_word_line, reply_to, EndsLine, status_of_sink};
+ghost use Rattle.hgs_top.specs.Run.{IsOneOf, OfReply, IsReplied, Replied, SaysBadWord, Concludes, bad_word_line, EndsLine, status_of_sink};
 ghost use Rattle.hgs_top.specs.Words.{question_of};
 
 use crate::contents::{About, write_contents};
 use crate::listing::{Listing, write_listing};
-use crate::log::write_log;
+use crate::log::{write_last, write_log};
 use crate::output::write_all;
 use crate::stopped::{Said, Stopped};
 use crate::words::Command;
@@ -116,7 +116,7 @@ fn answer<R: Reads, K: Sink>(
     files: &mut R,
     out: &mut K,
 ) -> Result<Said, Stopped>
-    ensures told { R.alone ≡ true → OfTree (R.seen files.old) (R.start files.old) (λ t. IsReplied (reply_to (question_of command.entry) t) (K.written out.old) (K.written out.new) result) }
+    ensures told { R.alone ≡ true → OfReply (question_of command.entry) (R.seen files.old) (R.start files.old) (λ reply. IsReplied reply (K.written out.old) (K.written out.new) result) }
     ensures same_start { R.start files.new ≡ R.start files.old }
     ensures still { R.alone ≡ true → R.seen files.new ≡ R.seen files.old }
     ensures fault { result ≡ Err (Stopped.Refused Fault) → Rose (R.faults files.old) (R.faults files.new) }
@@ -125,6 +125,7 @@ fn answer<R: Reads, K: Sink>(
     ensures failed { result ≡ Err (Stopped.Unwritten Failed) → Rose (K.faults out.old) (K.faults out.new) }
 {
     match command {
+        Command::Shown(page) => whole(write_last(out, page.text())),
         Command::Log => whole(write_log(alloc, files, out)),
         Command::Heads => whole(write_listing(alloc, files, Listing::Heads, out)),
         Command::Bookmarks => whole(write_listing(alloc, files, Listing::Bookmarks, out)),
@@ -142,7 +143,7 @@ pub fn run_command<F: Files, K: Sink>(
     files: &mut F,
     out: &mut K,
 ) -> u8
-    ensures says { OfTree (F.log files.old) (F.start files.old) (λ t. Replied (reply_to (question_of command.entry) t) result (K.written out.old) (K.written out.new)) }
+    ensures says { OfReply (question_of command.entry) (F.log files.old) (F.start files.old) (λ reply. Replied (Rose (F.faults files.old) (F.faults files.new)) reply result (K.written out.old) (K.written out.new)) }
     ensures fault { result ≡ 16 → Rose (F.faults files.old) (F.faults files.new) }
     ensures sink { result ≡ 19 → Rose (K.faults out.old) (K.faults out.new) }
     ensures log { F.log files.new ≡ F.log files.old }

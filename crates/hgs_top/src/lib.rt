@@ -11,6 +11,7 @@ pub mod log;
 #[cfg(test)]
 mod marks_tests;
 pub mod output;
+pub mod pages;
 #[cfg(test)]
 mod refresh_tests;
 pub mod run;

@@ -5,7 +5,7 @@ ghost use Rattle.hgs_files.specs.Reads.{Grows, Rose};
 ghost use Rattle.hgs_files.specs.declared.streams.IoFault.TheVariants.{Failed};
 ghost use Rattle.hgs_reader.specs.declared.answer.ReadAnswer.TheVariants.{Fault};
 ghost use Rattle.hgs_top.specs.Outcome.{log_outcome, lines_of_view};
-ghost use Rattle.hgs_top.specs.Run.{OfTree, IsTold, IsFrontWritten, IsGathered, IsUnwritten, StopsAt};
+ghost use Rattle.hgs_top.specs.Run.{OfTree, IsTold, IsCut, IsGathered, IsUnwritten, StopsAt};
 
 use crate::output::write_all;
 use crate::stopped::Stopped;
@@ -21,7 +21,7 @@ const LARGE: usize = 65_536;
 // Writes what was gathered, once there is much of it.
 fn write_large<K: Sink>(out: &mut K, gathered: &mut Vec<u8>) -> Result<(), IoFault>
     ensures ok { OnOk result ((done : List ℕ) × IsWritten (K.written out.old) (K.written out.new) done × (done ++ gathered.new.items ≡ gathered.old.items)) }
-    ensures err { OnErr result (IsFrontWritten (K.written out.old) (K.written out.new) gathered.old.items) }
+    ensures err { OnErr result (IsCut (K.written out.old) (K.written out.new) gathered.old.items) }
     ensures later { K.faults out.old ≤ K.faults out.new }
     ensures failed { IsErrOf result Failed → Rose (K.faults out.old) (K.faults out.new) }
 {
@@ -72,7 +72,7 @@ fn gather_lines<R: Reads, K: Sink>(
 // Writes what was gathered up to the end.
 pub(crate) fn write_last<K: Sink>(out: &mut K, gathered: &[u8]) -> Result<(), Stopped>
     ensures ok { OnOk result (IsWritten (K.written out.old) (K.written out.new) gathered.now) }
-    ensures err { IfErr result (λ e. IsUnwritten e × IsFrontWritten (K.written out.old) (K.written out.new) gathered.now) }
+    ensures err { IfErr result (λ e. IsUnwritten e × IsCut (K.written out.old) (K.written out.new) gathered.now) }
     ensures later { K.faults out.old ≤ K.faults out.new }
     ensures failed { result ≡ Err (Stopped.Unwritten Failed) → Rose (K.faults out.old) (K.faults out.new) }
 {

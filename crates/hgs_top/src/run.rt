@@ -3,10 +3,12 @@ ghost use Rattle.std.specs.Prelude.{◌≡◌, Err, map, ℕ, [], ◌∷◌};
 ghost use Rattle.std.specs.String.{string_bytes};
 ghost use Rattle.hgs_files.specs.Reads.{Rose};
 ghost use Rattle.hgs_files.specs.Yard.{IfWhole};
+ghost use Rattle.hgs_top.specs.Repository.{SaysOfRepository};
 ghost use Rattle.hgs_top.specs.Run.{Says, IsOneOf};
 ghost use Rattle.hgs_top.specs.Words.{question_of_words};
 
 use crate::command::{refuse_words, run_command};
+use crate::laws::replies_of_repository;
 use crate::words::command_from;
 use hgs_files::files::Files;
 use hgs_files::streams::{Sink, Source};
@@ -22,7 +24,8 @@ pub struct Ran<Y> {
 
 // Does what the words ask for, over files at rest, and gives the status.
 fn run_words<F: Files, K: Sink>(alloc: Global, words: &[String], files: &mut F, out: &mut K) -> u8
-    ensures says { Says (question_of_words (map string_bytes words.now)) (F.log files.old) (F.start files.old) result (K.written out.old) (K.written out.new) }
+    ensures repository { SaysOfRepository (Rose (F.faults files.old) (F.faults files.new)) (question_of_words (map string_bytes words.now)) (F.log files.old) (F.start files.old) result (K.written out.old) (K.written out.new) }
+    ensures says { Says (Rose (F.faults files.old) (F.faults files.new)) (question_of_words (map string_bytes words.now)) (F.log files.old) (F.start files.old) result (K.written out.old) (K.written out.new) }
     ensures statuses { IsOneOf (0 ∷ 12 ∷ 15 ∷ 16 ∷ 19 ∷ 20 ∷ 23 ∷ 24 ∷ 27 ∷ 28 ∷ 30 ∷ []) result }
     ensures words { result ≡ 28 → (place : ℕ) × (question_of_words (map string_bytes words.now) ≡ Err place) }
     ensures fault { result ≡ 16 → Rose (F.faults files.old) (F.faults files.new) }
@@ -30,6 +33,7 @@ fn run_words<F: Files, K: Sink>(alloc: Global, words: &[String], files: &mut F, 
     ensures log { F.log files.new ≡ F.log files.old }
     ensures same_start { F.start files.new ≡ F.start files.old }
 {
+    replies_of_repository();
     match command_from(words) {
         Ok(command) => run_command(alloc, command, files, out),
         Err(place) => refuse_words(alloc, place, out),
@@ -47,7 +51,8 @@ pub fn run<T, Y: Yard, S: Source, K: Sink>(
     input: &mut S,
     out: &mut K,
 ) -> Ran<Y>
-    ensures says { Says (question_of_words (map string_bytes words.now)) (Y.A.log (Y.files yard)) (Y.A.start (Y.files yard)) result.status (K.written out.old) (K.written out.new) }
+    ensures repository { SaysOfRepository (IfWhole result.left (λ y. Rose (Y.A.faults (Y.files yard)) (Y.A.faults (Y.files y)))) (question_of_words (map string_bytes words.now)) (Y.A.log (Y.files yard)) (Y.A.start (Y.files yard)) result.status (K.written out.old) (K.written out.new) }
+    ensures says { Says (IfWhole result.left (λ y. Rose (Y.A.faults (Y.files yard)) (Y.A.faults (Y.files y)))) (question_of_words (map string_bytes words.now)) (Y.A.log (Y.files yard)) (Y.A.start (Y.files yard)) result.status (K.written out.old) (K.written out.new) }
     ensures statuses { IsOneOf (0 ∷ 12 ∷ 15 ∷ 16 ∷ 19 ∷ 20 ∷ 23 ∷ 24 ∷ 27 ∷ 28 ∷ 30 ∷ []) result.status }
     ensures words { result.status ≡ 28 → (place : ℕ) × (question_of_words (map string_bytes words.now) ≡ Err place) }
     ensures fault { result.status ≡ 16 → IfWhole result.left (λ y. Rose (Y.A.faults (Y.files yard)) (Y.A.faults (Y.files y))) }

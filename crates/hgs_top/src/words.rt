@@ -4,13 +4,15 @@ ghost use Rattle.std.specs.Option.{option_map};
 ghost use Rattle.std.specs.Result.{result_map_both};
 ghost use Rattle.std.specs.String.{string_bytes};
 ghost use Rattle.hgs_bytes.specs.Bytes.{same, begins_with};
-ghost use Rattle.hgs_top.specs.Words.{with_operand, operands_in, operand, asked_with, ends_here, ask_files, ask_cat, ask_phase, question_of, question_named, alone_named, about_named, question_of_words};
+ghost use Rattle.hgs_top.specs.Words.{with_operand, operands_in, operand, asked_with, ends_here, ask_files, ask_cat, ask_phase, question_of, question_named, alone_named, about_named, page_named, page_else, question_of_words};
 
+use crate::pages::Page;
 use hgs_bytes::parts::{equal, starts};
 
 /// What the words ask for. Revisions are given by their names.
 #[derive(Clone, Copy)]
 pub enum Command<'a> {
+    Shown(Page),
     Log,
     Heads,
     Bookmarks,
@@ -230,12 +232,30 @@ fn command_named<'a>(name: &String, words: &'a [String]) -> Result<Command<'a>, 
     }
 }
 
+// The page with this name.
+fn page_named(name: &String) -> Option<Page>
+    ensures { result ≡ page_named (string_bytes name.now) }
+{
+    let name = name.as_bytes();
+    if equal(name, b"--help") {
+        return Some(Page::Help);
+    }
+    if equal(name, b"--version") {
+        return Some(Page::Version);
+    }
+    None
+}
+
 /// The command that the words are, or the place, from 0, of the first word that doesn't fit, the count of words where one is missing.
 pub fn command_from(words: &[String]) -> Result<Command<'_>, usize>
     ensures { result_map_both question_of (λ place. place) result ≡ question_of_words (map string_bytes words.now) }
 {
     match words {
         [] => Err(0),
-        [name, rest @ ..] => command_named(name, rest),
+        [name, rest @ ..] => match page_named(name) {
+            None => command_named(name, rest),
+            Some(page) if rest.is_empty() => Ok(Command::Shown(page)),
+            Some(_) => Err(1),
+        },
     }
 }

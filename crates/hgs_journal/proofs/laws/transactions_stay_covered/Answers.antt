@@ -1,8 +1,11 @@
-use Rattle.hgs_journal.proofs.UndoStops.{covers-append, covers-rename}
+use Rattle.hgs_journal.proofs.Steps.{append-kept, done-kept, free-kept, locks-kept, rename-kept}
 use Rattle.hgs_journal.proofs.laws.transactions_stay_covered.Goals as goal
 
 pub returns : goal.returns
 returns c = record {
-  appends = λ strays t q journal backups path bytes own covers reads named. covers-append strays own t q covers journal backups path bytes reads named;
-  renames = λ strays t q journal backups plain file own covers reads one placed unnamed. covers-rename strays own t q covers journal backups plain file reads one placed unnamed;
+  appends = λ strays t q journal backups path bytes own leads named. append-kept strays own q journal backups t path bytes named leads;
+  renames = λ strays t q journal backups plain file own leads one placed unnamed. rename-kept strays own q journal backups t plain file one placed unnamed leads;
+  parts = λ strays t q journal backups ops done left own leads allowed is_done. done-kept strays own q journal backups ops done left t is_done allowed leads;
+  locks = λ strays t u q journal backups leads others. locks-kept strays t u q journal backups others leads;
+  free = λ strays t u q journal backups leads still. free-kept strays t u q journal backups still leads;
 }

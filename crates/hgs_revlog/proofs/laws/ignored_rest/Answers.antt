@@ -1,5 +1,5 @@
 use Rattle.hgs_revlog.proofs.TailLemmas.{ignore-refuse}
-use Rattle.hgs_revlog.proofs.TailHeldLemmas.{ignored-held, held-ignored}
+use Rattle.hgs_revlog.proofs.TailHeldLemmas.{ignored-held, front-ignored}
 use Rattle.hgs_revlog.proofs.laws.ignored_rest.Goals as goal
 
 pub returns-clause-front : goal.returns-clause-front
@@ -9,4 +9,4 @@ pub returns-clause-holds : goal.returns-clause-holds
 returns-clause-holds c = ignored-held
 
 pub returns-clause-loads : goal.returns-clause-loads
-returns-clause-loads c = held-ignored
+returns-clause-loads c = front-ignored

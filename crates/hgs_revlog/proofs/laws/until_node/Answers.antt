@@ -1,12 +1,12 @@
 use Rattle.hgs_revlog.proofs.TailLemmas.{ignore-until, until-fault}
-use Rattle.hgs_revlog.proofs.TailHeldLemmas.{until-held, held-until}
+use Rattle.hgs_revlog.proofs.TailHeldLemmas.{until-held, front-until}
 use Rattle.hgs_revlog.proofs.laws.until_node.Goals as goal
 
 pub returns-clause-holds : goal.returns-clause-holds
 returns-clause-holds c = until-held
 
 pub returns-clause-loads : goal.returns-clause-loads
-returns-clause-loads c = held-until
+returns-clause-loads c = front-until
 
 pub returns-clause-missing : goal.returns-clause-missing
 returns-clause-missing c = ignore-until

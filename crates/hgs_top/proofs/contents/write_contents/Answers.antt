@@ -1,7 +1,7 @@
 use Rattle.std.proofs.Common.{List, ℕ, subst}
 use Rattle.hgs_files.specs.Streams.{IsWritten}
 use Rattle.hgs_top.specs.Outcome.{subject_of}
-use Rattle.hgs_top.specs.Run.{IsFrontWritten, IsUnwritten}
+use Rattle.hgs_top.specs.Run.{IsCut, IsUnwritten}
 use Rattle.hgs_top.proofs.ContentsLemmas.{unopened_reply, no_name, refused_contents, written_contents, cut_contents}
 use Rattle.hgs_top.proofs.contents.write_contents.Goals as goal
 
@@ -36,7 +36,7 @@ returns-clause-told g c = λ alone.
     let e = c.in-Ok.ensures in
     let a = c.in-Ok-add_contents.ensures in
     let s = c.in-Err-write_last.stopped in
-    let F : List ℕ → Type 0 = λ b. IsUnwritten s × IsFrontWritten (g.K.Sink.written c.args.out.now) (g.K.Sink.written c.write_last.new.out) b in
+    let F : List ℕ → Type 0 = λ b. IsUnwritten s × IsCut (g.K.Sink.written c.args.out.now) (g.K.Sink.written c.write_last.new.out) b in
     cut_contents (g.R.Reads.seen c.args.files.now) (g.R.Reads.seen c.open.new.files) (g.R.Reads.seen c.add_contents.new.files) (g.R.Reads.start c.args.files.now) (g.R.Reads.start c.open.new.files) c.in-Ok.session c.args.name.now (subject_of c.args.about)
     (e.still alone) e.same_start e.answer c.in-Some.rev c.in-Some.ensures.named c.new-text.result.items c.add_contents.new.into.items (a.still alone) c.in-Ok-add_contents.field-0 (g.K.Sink.written c.args.out.now) (g.K.Sink.written c.write_last.new.out)
     a.answer c.new-text.ensures.items s (subst F c.deref.ensures.value c.in-Err-write_last.ensures.err)

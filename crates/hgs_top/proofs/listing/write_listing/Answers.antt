@@ -2,7 +2,7 @@ use Rattle.std.proofs.Common.{List, ℕ, OnOk, ◌++◌, ◌∙◌, ap, refl, su
 use Rattle.std.specs.Prelude.{IfErr}
 use Rattle.hgs_files.specs.Streams.{IsWritten}
 use Rattle.hgs_top.specs.Outcome.{listing_text, listing_of_load}
-use Rattle.hgs_top.specs.Run.{IsFrontWritten, IsUnwritten}
+use Rattle.hgs_top.specs.Run.{IsCut, IsUnwritten}
 use Rattle.hgs_top.proofs.LogLemmas.{unopened}
 use Rattle.hgs_top.proofs.ListingLemmas.{listing_told, listing_lost}
 use Rattle.hgs_top.proofs.listing.write_listing.Goals as goal
@@ -18,7 +18,7 @@ returns-in-Ok-add_listing-clause-told g c = λ alone.
     let old = g.K.Sink.written c.args.out.now in
     let new = g.K.Sink.written c.write_last.new.out in
     let W : List ℕ → Type 0 = λ b. OnOk c.write_last.result (IsWritten old new b) in
-    let F : List ℕ → Type 0 = λ b. IfErr c.write_last.result (λ s. IsUnwritten s × IsFrontWritten old new b) in
+    let F : List ℕ → Type 0 = λ b. IfErr c.write_last.result (λ s. IsUnwritten s × IsCut old new b) in
     listing_told c.args.listing (g.R.Reads.seen c.args.files.now) (g.R.Reads.seen c.open.new.files) (g.R.Reads.start c.args.files.now) c.in-Ok.session old new c.add_listing.new.into.items c.write_last.result (e.still alone) e.answer
     (c.in-Ok-add_listing.ensures.ok ∙ ap (λ l. l ++ listing_text c.args.listing c.in-Ok.session) c.new-lines.ensures.items)
     (subst W c.deref.ensures.value c.write_last.ensures.ok) (subst F c.deref.ensures.value c.write_last.ensures.err)

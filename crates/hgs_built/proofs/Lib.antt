@@ -1,0 +1,12 @@
+pub mod Basics
+pub mod Below
+pub mod PathLemmas
+pub mod RevlogLemmas
+pub mod ListLemmas
+pub mod MarkLemmas
+pub mod PhaseLemmas
+pub mod ParentLemmas
+pub mod WholeLemmas
+pub mod SampleLemmas
+pub mod LimitLemmas
+pub mod MergedLemmas

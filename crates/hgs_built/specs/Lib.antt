@@ -1,0 +1,4 @@
+pub mod Built
+pub mod CanBeStored
+pub mod Limits
+pub mod Samples

@@ -1,0 +1,4 @@
+pub mod Below
+pub mod RunLemmas
+pub mod CourseLemmas
+pub mod CallLemmas

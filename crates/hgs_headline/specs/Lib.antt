@@ -1,0 +1,2 @@
+pub mod WritersLog
+pub mod AddsCommitted

@@ -1,0 +1,81 @@
+-- A record and the end of the input in one, and what is looked at of an input.
+use Rattle.std.proofs.Common.{◌≡◌, ℕ, zero, suc, ◌+◌, ◌-◌, ◌≤◌, List, [], ◌∷◌, ◌++◌, length, take, Result, Ok, Err, refl, sym, ◌∙◌, ap, arith}
+use Rattle.std.specs.Prelude.{codes}
+use Rattle.std.proofs.lemmas.List.{take_all, take-append-le, length-take}
+use Rattle.hgs_model.specs.declared.command.NewChange.{NewChange}
+use Rattle.hgs_model.specs.declared.files.NewFile.{NewFile}
+use Rattle.hgs_input.specs.declared.fault.InputFault.{InputFault}
+use Rattle.hgs_input.specs.Record.{most_input}
+use Rattle.hgs_input.specs.Read.{Rest, Reading, ◌>>=◌, required, word_of, Head, head_from, description_from, files_from, nothing_behind, change_with, record_from, looked_at, start_of, read_record}
+
+-- the last line, and nothing behind it
+abbrev pub end_from : Rest → Result Unit InputFault
+end_from r = required (word_of (codes "end")) r >>= λ e. nothing_behind e.1
+
+abbrev pub change_from : Rest → Result NewChange InputFault
+change_from r = do
+  head ← head_from r
+  description ← description_from head.1
+  files ← files_from (length description.1.bytes) [] description.1
+  end ← end_from files.1
+  Ok (change_with head.0 description.0 files.0)
+
+bind_assoc : {A B C : Type 0} (x : Result A InputFault) (f : A → Result B InputFault) (g : B → Result C InputFault) → ((x >>= f) >>= g) ≡ (x >>= λ a. f a >>= g)
+bind_assoc (Ok a) f g = refl
+bind_assoc (Err e) f g = refl
+
+abbrev alone : NewChange × Rest → Result NewChange InputFault
+alone p = nothing_behind p.1 >>= λ _. Ok p.0
+
+-- the last line, with what stands before it
+last_is : (c : NewChange) (r : Rest) → ((required (word_of (codes "end")) r >>= λ e. Ok (c, e.1)) >>= alone) ≡ (end_from r >>= λ _. Ok c)
+last_is c r =
+    bind_assoc (required (word_of (codes "end")) r) (λ e. Ok (c, e.1)) alone
+    ∙ sym (bind_assoc (required (word_of (codes "end")) r) (λ e. nothing_behind e.1) (λ _. Ok c))
+
+-- what is read behind the files, behind the description, and behind the head
+abbrev behind_files : Head → List ℕ → List NewFile × Rest → Reading NewChange
+behind_files head description files = required (word_of (codes "end")) files.1 >>= λ e. Ok (change_with head description files.0, e.1)
+
+abbrev behind_text : Head → List ℕ × Rest → Reading NewChange
+behind_text head description = files_from (length description.1.bytes) [] description.1 >>= behind_files head description.0
+
+abbrev behind_head : Head × Rest → Reading NewChange
+behind_head head = description_from head.1 >>= behind_text head.0
+
+pub change-is : (r : Rest) → (record_from r >>= alone) ≡ change_from r
+change-is r =
+    bind_assoc (head_from r) behind_head alone
+    ∙ (λ i. head_from r >>= λ head.
+    (bind_assoc (description_from head.1) (behind_text head.0) alone
+    ∙ (λ j. description_from head.1 >>= λ description.
+    (bind_assoc (files_from (length description.1.bytes) [] description.1) (behind_files head.0 description.0) alone
+    ∙ (λ k. files_from (length description.1.bytes) [] description.1 >>= λ files. last_is (change_with head.0 description.0 files.0) files.1 k)) j)) i)
+
+-- ---- what is looked at
+
+pub looked-whole : (bytes : List ℕ) → length bytes ≤ most_input + 1 → looked_at bytes ≡ bytes
+looked-whole bytes h = take_all (most_input + 1) bytes h
+
+pub looked-length : (bytes : List ℕ) → length (looked_at bytes) ≤ most_input → length bytes ≤ most_input
+looked-length bytes h = let size = length-take (most_input + 1) bytes in omega (arith, h, size)
+
+take_past : (n : ℕ) (xs ys : List ℕ) → length xs ≤ n → take n (xs ++ ys) ≡ xs ++ take (n - length xs) ys
+take_past n [] ys h = let z : n ≡ n - 0 = omega arith in ap (λ m. take m ys) z
+take_past zero (x ∷ xs) ys h = absurd (omega (arith, h))
+take_past (suc n) (x ∷ xs) ys h = let z : n - length xs ≡ suc n - suc (length xs) = omega arith in ap (λ l. x ∷ l) (take_past n xs ys (omega (arith, h)) ∙ ap (λ m. xs ++ take m ys) z)
+
+-- a front that is all looked at, and some of what goes on
+pub looked-on : (front more : List ℕ) → length front ≤ most_input + 1 → looked_at (front ++ more) ≡ front ++ take (most_input + 1 - length front) more
+looked-on front more h = take_past (most_input + 1) front more h
+
+-- what stands behind the first byte past the limit is not looked at
+pub looked-front : (front more : List ℕ) → most_input + 1 ≤ length front → looked_at (front ++ more) ≡ looked_at front
+looked-front front more h = take-append-le (most_input + 1) front more h
+
+pub read-looked : (bytes : List ℕ) → read_record bytes ≡ change_from (start_of bytes)
+read-looked bytes = change-is (start_of bytes)
+
+-- an input is read as what is looked at of it
+pub read-all : (bytes all : List ℕ) → looked_at bytes ≡ all → read_record bytes ≡ change_from (record { whole = length all; bytes = all })
+read-all bytes all e = read-looked bytes ∙ ap (λ b. change_from (record { whole = length b; bytes = b })) e

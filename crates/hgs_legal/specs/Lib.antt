@@ -1,0 +1,5 @@
+pub mod LegalLog
+pub mod Pieces
+pub mod Numbers
+pub mod Recovers
+pub mod Samples

@@ -1,0 +1,5 @@
+use Rattle.hgs_marks.proofs.MarkText.{marks_back}
+use Rattle.hgs_marks.proofs.laws.bookmark_lines_written_then_read.Goals as goal
+
+pub returns : goal.returns
+returns c = marks_back 0

@@ -1,0 +1,190 @@
+-- The transaction of each command: where it leads, and what a stop in it leaves.
+use Rattle.std.proofs.Common.{◌≡◌, ◌⊎◌, ℕ, List, [], ◌∷◌, ◌++◌, Bool, true, false, refl, inl, inr, append_assoc, sym, ◌∙◌, ap, subst}
+use Rattle.std.specs.Prelude.{Ok, is_some}
+use Rattle.std.specs.List.{AllByRecursion, list_all}
+use Rattle.hgs_files.specs.declared.op.Op.{Op}
+use Rattle.hgs_files.specs.declared.op.Op.TheVariants.{Append, Create, Remove}
+use Rattle.hgs_files.specs.Log.{IsDone}
+use Rattle.hgs_files.specs.Tree.{Tree, after_all, apply}
+use Rattle.hgs_files.proofs.TreeLemmas.{after_all-append}
+use Rattle.hgs_journal.specs.Covers.{Covers, Restores, is_loose}
+use Rattle.hgs_journal.specs.Names.{journal_path}
+use Rattle.hgs_model.proofs.ListLemmas.{all-join}
+use Rattle.hgs_model.specs.declared.command.Command.{Command}
+use Rattle.hgs_model.specs.declared.command.Command.TheVariants.{Commit, Move, Mark, Unmark}
+use Rattle.hgs_model.specs.declared.command.NewChange.{NewChange}
+use Rattle.hgs_model.specs.Repo.{Repo}
+use Rattle.hgs_model.specs.Step.{Answer, step}
+use Rattle.hgs_model.specs.Valid.{IsValid}
+use Rattle.hgs_stands.specs.Open.{IsOpen}
+use Rattle.hgs_stands.specs.Places.{changelog_index}
+use Rattle.hgs_stands.specs.Stands.{IsClean, Stands}
+use Rattle.hgs_ops.specs.Growth.{growth, new_changelog_entry}
+use Rattle.hgs_ops.specs.Operations.{changes_before, operations, publishing, removals, renames_after, strays, transaction_of}
+use Rattle.hgs_ops.specs.Replaced.{Replacement, new_bookmarks, new_dirstate, new_rename, new_roots, replacements, roots_with, roots_change, roots_of}
+use Rattle.hgs_ops.specs.Stops.{IsBetween}
+use Rattle.hgs_ops.specs.Unhindered.{CanBeJournalled, IsReady}
+use Rattle.hgs_ops.proofs.Below.{Below}
+use Rattle.hgs_ops.proofs.CommitLemmas.{commit-leads, growth-quiet}
+use Rattle.hgs_ops.proofs.CommitTree.{is_quiet, files_of, first_of, second_of}
+use Rattle.hgs_ops.proofs.GoodLemmas.{files-ones, files-once, first-good, growth-good, publish-good, second-good, second-none}
+use Rattle.hgs_ops.proofs.JournalLemmas.{IsGood, lines-good, prep-loose}
+use Rattle.hgs_ops.proofs.OneLemmas.{mark-leads, move-leads, unmark-leads}
+use Rattle.hgs_ops.proofs.Plan.{IsPlan, before-stands, changes-lead-back, changes-open, created-open, early-back, front-covers, may-stop, removed-stands, undo-back, undo-may-stop, undone-clean}
+use Rattle.hgs_ops.proofs.Plan.{undo-early as plan-early}
+use Rattle.hgs_ops.proofs.Touch.{or-both, touched, touched-append, touches, within}
+
+-- the operations of a transaction of any command lead to the next repository
+pub transaction-leads : (t : Tree) (r next : Repo) (command : Command) (who : List ℕ) (answer : Answer) → Stands t r → IsValid command → step r command ≡ Ok (next, answer) → IsReady t r command next → IsClean (after_all (operations (transaction_of t r command who next)) t) next
+transaction-leads t r next (Commit n) who answer s valid e ready = commit-leads t r next n who answer s valid e ready.0
+transaction-leads t r next (Move rev phase force) who answer s valid e ready = move-leads t r next rev phase force who answer s e
+transaction-leads t r next (Mark name rev) who answer s valid e ready = mark-leads t r next name rev who answer s valid e
+transaction-leads t r next (Unmark name) who answer s valid e ready = unmark-leads t r next name who answer s e
+
+-- ---- a commit
+
+abbrev commit_files : Repo → NewChange → Repo → List Replacement
+commit_files r n next = files_of (roots_change r next) (is_some n.bookmark) (roots_of next) (new_dirstate next).text (new_bookmarks next).text
+
+abbrev commit_changes : Tree → Repo → Repo → List Op
+commit_changes t r next = growth t r next ++ first_of (roots_change r next) (roots_of next)
+
+abbrev commit_publish : Tree → Repo → Repo → Op
+commit_publish t r next = Append changelog_index (new_changelog_entry t r next)
+
+abbrev commit_renames : NewChange → Repo → List Op
+commit_renames n next = second_of (is_some n.bookmark) (new_dirstate next).text (new_bookmarks next).text
+
+changes-good : (t : Tree) (r next : Repo) (n : NewChange) → CanBeJournalled t r (Commit n) next → AllByRecursion (IsGood (commit_files r n next)) (commit_changes t r next)
+changes-good t r next n can =
+    all-join (IsGood (commit_files r n next)) (growth t r next) (first_of (roots_change r next) (roots_of next)) (growth-good (commit_files r n next) t r next can.paths)
+    (first-good (roots_change r next) (is_some n.bookmark) (roots_of next) (new_dirstate next).text (new_bookmarks next).text)
+
+commit-plan : (t : Tree) (r next : Repo) (n : NewChange) → CanBeJournalled t r (Commit n) next → IsPlan t (commit_files r n next) (commit_changes t r next) (commit_publish t r next) (commit_renames n next)
+commit-plan t r next n can = record {
+  ones = files-ones (roots_change r next) (is_some n.bookmark) (roots_of next) (new_dirstate next).text (new_bookmarks next).text;
+  once = files-once (roots_change r next) (is_some n.bookmark) (roots_of next) (new_dirstate next).text (new_bookmarks next).text;
+  good = all-join (IsGood (commit_files r n next)) (commit_changes t r next) (commit_publish t r next ∷ commit_renames n next) (changes-good t r next n can)
+      (publish-good, second-good (roots_change r next) (is_some n.bookmark) (roots_of next) (new_dirstate next).text (new_bookmarks next).text);
+  none = second-none t (is_some n.bookmark) (new_dirstate next).text (new_bookmarks next).text;
+  spelled = lines-good t (commit_files r n next) (commit_changes t r next ++ commit_publish t r next ∷ []) can.sizes
+      (all-join (IsGood (commit_files r n next)) (commit_changes t r next) (commit_publish t r next ∷ []) (changes-good t r next n can) (publish-good, tt));
+}
+
+-- ---- each command
+
+pub plan-of : (t : Tree) (r next : Repo) (command : Command) → IsReady t r command next → IsPlan t (replacements r command next) (changes_before t r command next) (publishing t r command next) (renames_after command next)
+plan-of t r next (Commit n) ready = commit-plan t r next n ready.1
+plan-of t r next (Move rev phase force) ready = record { ones = (refl, tt); once = refl; good = ((new_roots next, refl, refl, refl, refl), tt); none = refl; spelled = tt }
+plan-of t r next (Mark name rev) ready = record { ones = (refl, tt); once = refl; good = ((new_bookmarks next, refl, refl, refl, refl), tt); none = refl; spelled = tt }
+plan-of t r next (Unmark name) ready = record { ones = (refl, tt); once = refl; good = ((new_bookmarks next, refl, refl, refl, refl), tt); none = refl; spelled = tt }
+
+pub text-of : {a b : List ℕ} → Create journal_path a ≡ Create journal_path b → a ≡ b
+text-of e = cc
+
+module _ (below : Below) (t : Tree) (r next : Repo) (command : Command) (who : List ℕ) (s : Stands t r) (ready : IsReady t r command next) where
+  abbrev plan : IsPlan t (replacements r command next) (changes_before t r command next) (publishing t r command next) (renames_after command next)
+  plan = plan-of t r next command ready
+
+  abbrev files : List Replacement
+  files = replacements r command next
+
+  abbrev changes : List Op
+  changes = changes_before t r command next
+
+  abbrev publish : Op
+  publish = publishing t r command next
+
+  abbrev renames : List Op
+  renames = renames_after command next
+
+  -- the tree before the journal, and that with the whole journal
+  abbrev laid : Tree
+  laid = after_all (transaction_of t r command who next).before t
+
+  abbrev opened : Tree
+  opened = apply (transaction_of t r command who next).journal laid
+
+  abbrev behind_it : List Op
+  behind_it = (transaction_of t r command who next).changes ++ (transaction_of t r command who next).publish ∷ (transaction_of t r command who next).renames
+
+  pub before : (done left : List Op) → IsDone (transaction_of t r command who next).before done left → Stands (after_all done t) r
+  before done left h = before-stands below t who files changes publish renames plan r s done left h
+
+  -- a journal that was begun makes the tree open
+  pub created : (done left : List Op) → IsDone ((transaction_of t r command who next).journal ∷ []) done left → (done ≡ []) ⊎ IsOpen strays (after_all done laid) r
+  created done left h = created-open below t who files changes publish renames plan r s done left h
+
+  -- it stays open until the journal goes
+  pub stays-open : (done left : List Op) → IsDone behind_it done left → IsOpen strays (after_all done opened) r
+  stays-open done left h = changes-open below t who files changes publish renames plan r s done left h
+
+  -- the operations that undo it lead back, and with the removals to a clean tree
+  pub undo-leads : (done left : List Op) → IsDone behind_it done left → IsClean (after_all ((transaction_of t r command who next).undo ++ removals) (after_all done opened)) r
+  undo-leads done left h = undone-clean below t who files changes publish renames plan r s done left h
+
+  -- wherever undoing is stopped the tree is still open, or stands
+  pub undo-stops : (done left : List Op) → IsDone behind_it done left → (undone rest : List Op) → IsDone (transaction_of t r command who next).undo undone rest → IsOpen strays (after_all undone (after_all done opened)) r ⊎ ((rest ≡ []) × Stands (after_all undone (after_all done opened)) r)
+  undo-stops done left h undone rest k = undo-may-stop below t who files changes publish renames plan r s done left h undone rest k
+
+  -- ---- the tree before the transaction is the one that is led back to
+
+  pub created-covers : (front back : List ℕ) → (transaction_of t r command who next).journal ≡ Create journal_path (front ++ back) → Covers strays (apply (Create journal_path front) laid) t
+  created-covers front back e = front-covers below t who files changes publish renames plan r s front back (text-of e)
+
+  pub kept-covers : (done left : List Op) → IsDone behind_it done left → Covers strays (after_all done opened) t
+  kept-covers done left h = (changes-lead-back below t who files changes publish renames plan r s done left h).covers
+
+  pub undone-covers : (done left : List Op) → IsDone behind_it done left → (undone rest : List Op) → IsDone (transaction_of t r command who next).undo undone rest → Covers strays (after_all undone (after_all done opened)) t ⊎ ((rest ≡ []) × Restores strays (after_all undone (after_all done opened)) t)
+  undone-covers done left h undone rest k = elim (undo-back below t who files changes publish renames plan r s done left h undone rest k) [ inl lead ↦ inl lead.covers | inr ends ↦ inr ends ]
+
+  pub early-covers : (front back : List ℕ) → (transaction_of t r command who next).journal ≡ Create journal_path (front ++ back) → (undone rest : List Op) → IsDone (transaction_of t r command who next).undo undone rest → ((p : Tree) × Covers strays (after_all undone (apply (Create journal_path front) laid)) p × Restores strays p t) ⊎ ((rest ≡ []) × Restores strays (after_all undone (apply (Create journal_path front) laid)) t)
+  early-covers front back e undone rest k = early-back below t who files changes publish renames plan r s front back (text-of e) undone rest k
+
+  -- the writer's undo list may begin while its journal is being made
+  pub undo-early : (front back : List ℕ) → (transaction_of t r command who next).journal ≡ Create journal_path (front ++ back) → (undone rest : List Op) → IsDone (transaction_of t r command who next).undo undone rest → IsOpen strays (after_all undone (apply (Create journal_path front) laid)) r ⊎ ((rest ≡ []) × Stands (after_all undone (apply (Create journal_path front) laid)) r)
+  undo-early front back e undone rest k = plan-early below t who files changes publish renames plan r s front back (text-of e) undone rest k
+
+  module _ (answer : Answer) (valid : IsValid command) (accepted : step r command ≡ Ok (next, answer)) where
+    -- the whole, grouped as a plan has it
+    grouped : operations (transaction_of t r command who next) ≡ (transaction_of t r command who next).before ++ ((transaction_of t r command who next).journal ∷ changes) ++ (publish ∷ renames) ++ (Remove journal_path ∷ removals)
+    grouped = refl
+
+    leads : Stands (after_all (operations (transaction_of t r command who next)) t) next
+    leads = (transaction-leads t r next command who answer s valid accepted ready).stands
+
+    -- wherever it is stopped
+    pub stopped : (done left : List Op) → IsDone (operations (transaction_of t r command who next)) done left → IsBetween (after_all done t) r next
+    stopped done left h = may-stop below t who files changes publish renames plan r s next leads done left h
+
+    -- behind the removal of the journal the tree stands for the next repository
+    pub removed : (done left : List Op) → IsDone removals done left → Stands (after_all done (apply (Remove journal_path) (after_all behind_it opened))) next
+    removed done left h = removed-stands below t who files changes publish renames plan r s next leads done left h
+
+-- before the journal only locks and strays are written
+pub before-loose : (t : Tree) (r next : Repo) (command : Command) (who : List ℕ) → list_all (within (is_loose strays)) (transaction_of t r command who next).before ≡ true
+before-loose t r next (Commit n) who = prep-loose t who (commit_files r n next) (files-ones (roots_change r next) (is_some n.bookmark) (roots_of next) (new_dirstate next).text (new_bookmarks next).text) (files-once (roots_change r next) (is_some n.bookmark) (roots_of next) (new_dirstate next).text (new_bookmarks next).text)
+before-loose t r next (Move rev phase force) who = prep-loose t who (new_roots next ∷ []) (refl, tt) refl
+before-loose t r next (Mark name rev) who = prep-loose t who (new_bookmarks next ∷ []) (refl, tt) refl
+before-loose t r next (Unmark name) who = prep-loose t who (new_bookmarks next ∷ []) (refl, tt) refl
+
+roots-quiet : (b : Bool) (roots q : List ℕ) → touched q (new_rename (roots_with roots) ∷ []) ≡ false → touched q (first_of b roots) ≡ false
+roots-quiet true roots q e = e
+roots-quiet false roots q e = refl
+
+-- a commit comes to the dirstate and the bookmarks behind its publishing operation alone
+pub commit-quiet : (t : Tree) (r next : Repo) (n : NewChange) (who q : List ℕ) → is_quiet q ≡ true → touched q (new_rename (new_roots next) ∷ []) ≡ false → touches q (commit_publish t r next) ≡ false
+    → touched q ((transaction_of t r (Commit n) who next).changes ++ (transaction_of t r (Commit n) who next).publish ∷ []) ≡ false
+commit-quiet t r next n who q quiet a b =
+    touched-append q (commit_changes t r next) (commit_publish t r next ∷ []) (touched-append q (growth t r next) (first_of (roots_change r next) (roots_of next)) (growth-quiet t r next q quiet) (roots-quiet (roots_change r next) (roots_of next) q a)) (or-both _ _ b refl)
+
+-- where the operations behind the publishing one are done the tree stands for the next repository
+pub settled-stands : (below : Below) (t : Tree) (r next : Repo) (command : Command) (who : List ℕ) (s : Stands t r) (ready : IsReady t r command next) (answer : Answer) → IsValid command → step r command ≡ Ok (next, answer)
+    → Stands (after_all ((transaction_of t r command who next).renames ++ Remove journal_path ∷ []) (after_all ((transaction_of t r command who next).changes ++ (transaction_of t r command who next).publish ∷ []) (apply (transaction_of t r command who next).journal (after_all (transaction_of t r command who next).before t)))) next
+settled-stands below t r next command who s ready answer valid accepted =
+    let x = transaction_of t r command who next in
+    let opened : Tree = apply x.journal (after_all x.before t) in
+    let all_done : after_all (x.changes ++ x.publish ∷ x.renames) opened ≡ after_all x.renames (after_all (x.changes ++ x.publish ∷ []) opened) =
+    sym (ap (λ l. after_all l opened) (append_assoc x.changes (x.publish ∷ []) x.renames)) ∙ after_all-append (x.changes ++ x.publish ∷ []) x.renames opened in
+    subst (λ (v : Tree). Stands v next) (ap (apply (Remove journal_path)) all_done ∙ sym (after_all-append x.renames (Remove journal_path ∷ []) (after_all (x.changes ++ x.publish ∷ []) opened)))
+    (removed below t r next command who s ready answer valid accepted [] removals refl)

@@ -1,0 +1,5 @@
+use Rattle.hgs_ops.proofs.ShowLemmas.{entry-length}
+use Rattle.hgs_ops.proofs.laws.published_by_the_last_byte.Goals as goal
+
+pub returns : goal.returns
+returns c = entry-length

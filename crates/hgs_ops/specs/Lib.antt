@@ -1,0 +1,7 @@
+pub mod Growth
+pub mod Replaced
+pub mod Operations
+pub mod Unhindered
+pub mod Stops
+pub mod Samples
+pub mod Shown

@@ -1,0 +1,29 @@
+//! The laws tried on a first commit. Each function is one example; none does anything.
+ghost use Rattle.std.specs.Prelude.{◌≡◌, [], ℕ, List, Ok};
+ghost use Rattle.hgs_files.specs.Tree.{after_all};
+ghost use Rattle.hgs_model.specs.Repo.{empty_repo};
+ghost use Rattle.hgs_model.specs.Step.{answer_at, step};
+ghost use Rattle.hgs_model.specs.Valid.{IsValid};
+ghost use Rattle.hgs_model.specs.declared.command.Command.TheVariants.{Commit};
+ghost use Rattle.hgs_stands.specs.Stands.{IsClean, Stands};
+ghost use Rattle.hgs_ops.specs.Operations.{operations, transaction_of};
+ghost use Rattle.hgs_ops.specs.Samples.{after_delete, after_publish, after_set, bare, delete_here, first_change, one_draft, one_marked, one_public, one_unmarked, publish_here, set_here};
+ghost use Rattle.hgs_ops.specs.Unhindered.{IsReady};
+
+/// In a store with nothing in it all that the laws ask of a commit is met, and the commit leads to the repository with one
+/// changeset.
+pub fn first_commit()
+    ensures stands { Stands bare empty_repo }
+    ensures valid { IsValid (Commit first_change) }
+    ensures accepted { step empty_repo (Commit first_change) ≡ Ok (one_draft, answer_at one_draft 0) }
+    ensures ready { IsReady bare empty_repo (Commit first_change) one_draft }
+    ensures leads { (who : List ℕ) → IsClean (after_all (operations (transaction_of bare empty_repo (Commit first_change) who one_draft)) bare) one_draft }
+{}
+
+/// On the tree that it leaves a bookmark is set, the changeset is published, and the bookmark is deleted: each command is
+/// accepted, and each tree stands for the next repository.
+pub fn commands_on_it()
+    ensures valid { IsValid set_here × IsValid publish_here × IsValid delete_here }
+    ensures accepted { (step one_draft set_here ≡ Ok (one_marked, answer_at one_marked 0)) × (step one_marked publish_here ≡ Ok (one_public, answer_at one_public 0)) × (step one_public delete_here ≡ Ok (one_unmarked, answer_at one_unmarked 0)) }
+    ensures leads { (who : List ℕ) → IsClean (after_set who) one_marked × IsClean (after_publish who) one_public × IsClean (after_delete who) one_unmarked }
+{}

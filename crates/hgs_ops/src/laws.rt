@@ -1,0 +1,168 @@
+//! What the definitions of this crate imply. Each function is one law; none does anything.
+ghost use Rattle.std.specs.Prelude.{◌≡◌, ◌⊎◌, ◌++◌, ◌∷◌, [], Bool, List, length, ℕ, Ok, false, true, if◌then◌else◌};
+ghost use Rattle.hgs_bytes.specs.Bytes.{IsPrefixOf, among, same};
+ghost use Rattle.hgs_files.specs.declared.op.Op.{Op};
+ghost use Rattle.hgs_files.specs.Log.{IsDone};
+ghost use Rattle.hgs_files.specs.Tree.{Tree, after_all, apply, bytes_at};
+ghost use Rattle.hgs_journal.specs.Covers.{Covers, HasOwnStrays, Restores, is_loose, journal_paths, no_repeat};
+ghost use Rattle.hgs_journal.specs.Names.{journal_path};
+ghost use Rattle.hgs_model.specs.declared.command.Command.{Command};
+ghost use Rattle.hgs_model.specs.IsRepo.{IsRepo};
+ghost use Rattle.hgs_model.specs.Repo.{Repo};
+ghost use Rattle.hgs_model.specs.Step.{Answer, step};
+ghost use Rattle.hgs_model.specs.Valid.{IsNewChange, IsValid};
+ghost use Rattle.hgs_model.specs.declared.command.Command.TheVariants.{Commit, Mark, Move, Unmark};
+ghost use Rattle.hgs_model.specs.declared.command.NewChange.{NewChange};
+ghost use Rattle.hgs_model.specs.declared.phase.Phase.{Phase};
+ghost use Rattle.hgs_stands.specs.Open.{IsOpen};
+ghost use Rattle.hgs_stands.specs.Places.{bookmarks_path, dirstate_path, roots_path};
+ghost use Rattle.hgs_stands.specs.Same.{AreStrays};
+ghost use Rattle.hgs_stands.specs.Shows.{Shows};
+ghost use Rattle.hgs_stands.specs.Stands.{IsClean, Stands};
+ghost use Rattle.hgs_ops.specs.Growth.{new_changelog_entry};
+ghost use Rattle.hgs_ops.specs.Operations.{journal_of, operations, removals, strays, transaction_of};
+ghost use Rattle.hgs_ops.specs.Shown.{lacks_bookmarks, lacks_dirstate};
+ghost use Rattle.hgs_ops.specs.Stops.{IsBetween};
+ghost use Rattle.hgs_ops.specs.Unhindered.{IsReady, IsUnhindered};
+
+use hgs_journal::laws::{
+    journals_begin, transactions_stay_covered, undo_leads_back as journal_undo_leads_back,
+    undo_may_stop,
+};
+use hgs_stands::laws::{open_trees_lead_back, other_files_do_not_matter};
+
+/// What a transaction may leave behind is no file that a repository stands on, and all that undoing needs is of it. Nor does
+/// it matter to what a tree shows.
+pub fn strays_are_apart()
+    ensures own { HasOwnStrays strays }
+    ensures strays { AreStrays strays }
+    ensures shown { (t u : Tree) (marked worked r : Repo) → ((path : List ℕ) → is_loose strays path ≡ false → u path ≡ t path) → Shows t marked worked r → Shows u marked worked r }
+{}
+
+/// An accepted command keeps the changesets that there are; a commit adds one behind them.
+pub fn steps_go_on()
+    ensures { (r next : Repo) (command : Command) (answer : Answer) → IsRepo r → IsValid command → step r command ≡ Ok (next, answer) → IsPrefixOf r.changesets next.changesets }
+{}
+
+/// From a tree that stands for a repository, the operations of a bookmark command that is accepted lead to a tree that
+/// stands for the next repository, without locks.
+pub fn bookmark_commands_lead()
+    ensures set { (t : Tree) (r next : Repo) (mark rev who : List ℕ) (answer : Answer) → Stands t r → IsValid (Mark mark rev) → step r (Mark mark rev) ≡ Ok (next, answer) → IsClean (after_all (operations (transaction_of t r (Mark mark rev) who next)) t) next }
+    ensures deleted { (t : Tree) (r next : Repo) (mark who : List ℕ) (answer : Answer) → Stands t r → step r (Unmark mark) ≡ Ok (next, answer) → IsClean (after_all (operations (transaction_of t r (Unmark mark) who next)) t) next }
+{}
+
+/// So do those of a phase command.
+pub fn phase_commands_lead()
+    ensures { (t : Tree) (r next : Repo) (rev : List ℕ) (phase : Phase) (force : Bool) (who : List ℕ) (answer : Answer) → Stands t r → step r (Move rev phase force) ≡ Ok (next, answer) → IsClean (after_all (operations (transaction_of t r (Move rev phase force) who next)) t) next }
+{}
+
+/// So do those of a commit, with and without new filelogs, where nothing is in its way.
+pub fn commits_lead()
+    ensures { (t : Tree) (r next : Repo) (n : NewChange) (who : List ℕ) (answer : Answer) → Stands t r → IsNewChange n → step r (Commit n) ≡ Ok (next, answer) → IsUnhindered t r next → IsClean (after_all (operations (transaction_of t r (Commit n) who next)) t) next }
+{}
+
+/// From a tree that stands for a repository, the operations of any command that is accepted, where nothing is in its way,
+/// lead to a tree that stands for the next repository, without locks.
+pub fn transactions_lead()
+    ensures { (t : Tree) (r next : Repo) (command : Command) (who : List ℕ) (answer : Answer) → Stands t r → IsValid command → step r command ≡ Ok (next, answer) → IsReady t r command next → IsClean (after_all (operations (transaction_of t r command who next)) t) next }
+{}
+
+/// The journal of a transaction names each file once.
+pub fn journals_name_once()
+    ensures { (t : Tree) (r next : Repo) (command : Command) → IsReady t r command next → no_repeat (journal_paths (journal_of t r command next)) ≡ true }
+{}
+
+/// Whatever part of the operations before the journal is done, the tree stands for the repository. From the first byte of
+/// the journal on, through every part of the changes, the publishing operation and the renames, it is open for it. Behind
+/// the journal's removal it stands for the next one.
+pub fn transactions_stay_open()
+    ensures before { (t : Tree) (r next : Repo) (command : Command) (who : List ℕ) → Stands t r → IsReady t r command next → (done left : List Op) → IsDone (transaction_of t r command who next).before done left → Stands (after_all done t) r }
+    ensures created { (t : Tree) (r next : Repo) (command : Command) (who : List ℕ) → Stands t r → IsReady t r command next → (done left : List Op) → IsDone ((transaction_of t r command who next).journal ∷ []) done left → (done ≡ []) ⊎ IsOpen strays (after_all done (after_all (transaction_of t r command who next).before t)) r }
+    ensures kept { (t : Tree) (r next : Repo) (command : Command) (who : List ℕ) → Stands t r → IsReady t r command next → (done left : List Op) → IsDone ((transaction_of t r command who next).changes ++ (transaction_of t r command who next).publish ∷ (transaction_of t r command who next).renames) done left → IsOpen strays (after_all done (apply (transaction_of t r command who next).journal (after_all (transaction_of t r command who next).before t))) r }
+    ensures removed { (t : Tree) (r next : Repo) (command : Command) (who : List ℕ) (answer : Answer) → Stands t r → IsValid command → step r command ≡ Ok (next, answer) → IsReady t r command next → (done left : List Op) → IsDone removals done left → Stands (after_all done (apply (Op.Remove journal_path) (after_all ((transaction_of t r command who next).changes ++ (transaction_of t r command who next).publish ∷ (transaction_of t r command who next).renames) (apply (transaction_of t r command who next).journal (after_all (transaction_of t r command who next).before t))))) next }
+{
+    journals_begin();
+    transactions_stay_covered();
+    journal_undo_leads_back();
+    undo_may_stop();
+    other_files_do_not_matter();
+    open_trees_lead_back();
+}
+
+/// So wherever a transaction is stopped, and in whatever parts its operations are done, the tree stands for the repository
+/// before or is open for it, or it stands for the next one.
+pub fn transactions_may_stop()
+    ensures { (t : Tree) (r next : Repo) (command : Command) (who : List ℕ) (answer : Answer) → Stands t r → IsValid command → step r command ≡ Ok (next, answer) → IsReady t r command next → (done left : List Op) → IsDone (operations (transaction_of t r command who next)) done left → IsBetween (after_all done t) r next }
+{
+    journals_begin();
+    transactions_stay_covered();
+    journal_undo_leads_back();
+    undo_may_stop();
+    other_files_do_not_matter();
+    open_trees_lead_back();
+}
+
+/// And from wherever a writer breaks off, behind any part of the changes, its own list of undoing and the removals lead back
+/// to a tree that stands for the repository before, without locks. Wherever that list is stopped the tree is still open for
+/// it, or all of it is done and the tree stands for it. The list may also begin while the journal is being made.
+pub fn undo_leads_back()
+    ensures leads { (t : Tree) (r next : Repo) (command : Command) (who : List ℕ) → Stands t r → IsReady t r command next → (done left : List Op) → IsDone ((transaction_of t r command who next).changes ++ (transaction_of t r command who next).publish ∷ (transaction_of t r command who next).renames) done left → IsClean (after_all ((transaction_of t r command who next).undo ++ removals) (after_all done (apply (transaction_of t r command who next).journal (after_all (transaction_of t r command who next).before t)))) r }
+    ensures stops { (t : Tree) (r next : Repo) (command : Command) (who : List ℕ) → Stands t r → IsReady t r command next → (done left : List Op) → IsDone ((transaction_of t r command who next).changes ++ (transaction_of t r command who next).publish ∷ (transaction_of t r command who next).renames) done left → (undone rest : List Op) → IsDone (transaction_of t r command who next).undo undone rest → IsOpen strays (after_all undone (after_all done (apply (transaction_of t r command who next).journal (after_all (transaction_of t r command who next).before t)))) r ⊎ ((rest ≡ []) × Stands (after_all undone (after_all done (apply (transaction_of t r command who next).journal (after_all (transaction_of t r command who next).before t)))) r) }
+    ensures early { (t : Tree) (r next : Repo) (command : Command) (who : List ℕ) → Stands t r → IsReady t r command next → (front back : List ℕ) → (transaction_of t r command who next).journal ≡ Op.Create journal_path (front ++ back) → (undone rest : List Op) → IsDone (transaction_of t r command who next).undo undone rest → IsOpen strays (after_all undone (apply (Op.Create journal_path front) (after_all (transaction_of t r command who next).before t))) r ⊎ ((rest ≡ []) × Stands (after_all undone (apply (Op.Create journal_path front) (after_all (transaction_of t r command who next).before t))) r) }
+{
+    journals_begin();
+    transactions_stay_covered();
+    journal_undo_leads_back();
+    undo_may_stop();
+    other_files_do_not_matter();
+    open_trees_lead_back();
+}
+
+/// What readers see of a transaction: as long as something is left to do up to the publishing operation, and that with its
+/// last byte, the tree shows the repository before, in whatever parts the operations are done. So it does while it is undone.
+/// From the publishing operation to the journal's removal it shows the next one, but for the bookmarks and the working
+/// parents whose renames are still to do: these are of the one before.
+pub fn transactions_show()
+    ensures created { (t : Tree) (r next : Repo) (command : Command) (who : List ℕ) → Stands t r → IsReady t r command next → (front back : List ℕ) → (transaction_of t r command who next).journal ≡ Op.Create journal_path (front ++ back) → Shows (apply (Op.Create journal_path front) (after_all (transaction_of t r command who next).before t)) r r r }
+    ensures working { (t : Tree) (r next : Repo) (command : Command) (who : List ℕ) (answer : Answer) → Stands t r → IsValid command → step r command ≡ Ok (next, answer) → IsReady t r command next → (done : List Op) (op : Op) (left : List Op) → IsDone ((transaction_of t r command who next).changes ++ (transaction_of t r command who next).publish ∷ []) done (op ∷ left) → Shows (after_all done (apply (transaction_of t r command who next).journal (after_all (transaction_of t r command who next).before t))) r r r }
+    ensures undone { (t : Tree) (r next : Repo) (command : Command) (who : List ℕ) (answer : Answer) → Stands t r → IsValid command → step r command ≡ Ok (next, answer) → IsReady t r command next → (done : List Op) (op : Op) (left : List Op) → IsDone ((transaction_of t r command who next).changes ++ (transaction_of t r command who next).publish ∷ []) done (op ∷ left) → (undone rest : List Op) → IsDone (transaction_of t r command who next).undo undone rest → Shows (after_all undone (after_all done (apply (transaction_of t r command who next).journal (after_all (transaction_of t r command who next).before t)))) r r r }
+    ensures early { (t : Tree) (r next : Repo) (command : Command) (who : List ℕ) → Stands t r → IsReady t r command next → (front back : List ℕ) → (transaction_of t r command who next).journal ≡ Op.Create journal_path (front ++ back) → (undone rest : List Op) → IsDone (transaction_of t r command who next).undo undone rest → Shows (after_all undone (apply (Op.Create journal_path front) (after_all (transaction_of t r command who next).before t))) r r r }
+    ensures settled { (t : Tree) (r next : Repo) (command : Command) (who : List ℕ) (answer : Answer) → Stands t r → IsValid command → step r command ≡ Ok (next, answer) → IsReady t r command next → (done : List Op) (op : Op) (left : List Op) → IsDone ((transaction_of t r command who next).renames ++ Op.Remove journal_path ∷ []) done (op ∷ left) → Shows (after_all done (after_all ((transaction_of t r command who next).changes ++ (transaction_of t r command who next).publish ∷ []) (apply (transaction_of t r command who next).journal (after_all (transaction_of t r command who next).before t)))) (if lacks_bookmarks (op ∷ left) then r else next) (if lacks_dirstate (op ∷ left) then r else next) next }
+{
+    journals_begin();
+    transactions_stay_covered();
+    journal_undo_leads_back();
+    undo_may_stop();
+    other_files_do_not_matter();
+    open_trees_lead_back();
+}
+
+/// A commit is published by the last of 64 bytes: those of the changelog's new entry.
+pub fn published_by_the_last_byte()
+    ensures { (t : Tree) (r next : Repo) (n : NewChange) (answer : Answer) → Stands t r → IsNewChange n → step r (Commit n) ≡ Ok (next, answer) → IsReady t r (Commit n) next → length (new_changelog_entry t r next) ≡ 64 }
+{}
+
+/// While its journal stands, also in part, a transaction's tree leads back to the very tree from which it began, and undoing
+/// leads there, locks, strays and empty files aside.
+pub fn transactions_cover_their_start()
+    ensures created { (t : Tree) (r next : Repo) (command : Command) (who : List ℕ) → Stands t r → IsReady t r command next → (front back : List ℕ) → (transaction_of t r command who next).journal ≡ Op.Create journal_path (front ++ back) → Covers strays (apply (Op.Create journal_path front) (after_all (transaction_of t r command who next).before t)) t }
+    ensures kept { (t : Tree) (r next : Repo) (command : Command) (who : List ℕ) → Stands t r → IsReady t r command next → (done left : List Op) → IsDone ((transaction_of t r command who next).changes ++ (transaction_of t r command who next).publish ∷ (transaction_of t r command who next).renames) done left → Covers strays (after_all done (apply (transaction_of t r command who next).journal (after_all (transaction_of t r command who next).before t))) t }
+    ensures undone { (t : Tree) (r next : Repo) (command : Command) (who : List ℕ) → Stands t r → IsReady t r command next → (done left : List Op) → IsDone ((transaction_of t r command who next).changes ++ (transaction_of t r command who next).publish ∷ (transaction_of t r command who next).renames) done left → (undone rest : List Op) → IsDone (transaction_of t r command who next).undo undone rest → Covers strays (after_all undone (after_all done (apply (transaction_of t r command who next).journal (after_all (transaction_of t r command who next).before t)))) t ⊎ ((rest ≡ []) × Restores strays (after_all undone (after_all done (apply (transaction_of t r command who next).journal (after_all (transaction_of t r command who next).before t)))) t) }
+    ensures early { (t : Tree) (r next : Repo) (command : Command) (who : List ℕ) → Stands t r → IsReady t r command next → (front back : List ℕ) → (transaction_of t r command who next).journal ≡ Op.Create journal_path (front ++ back) → (undone rest : List Op) → IsDone (transaction_of t r command who next).undo undone rest → ((p : Tree) × Covers strays (after_all undone (apply (Op.Create journal_path front) (after_all (transaction_of t r command who next).before t))) p × Restores strays p t) ⊎ ((rest ≡ []) × Restores strays (after_all undone (apply (Op.Create journal_path front) (after_all (transaction_of t r command who next).before t))) t) }
+{
+    journals_begin();
+    transactions_stay_covered();
+    journal_undo_leads_back();
+    undo_may_stop();
+    other_files_do_not_matter();
+    open_trees_lead_back();
+}
+
+/// Files that a transaction does not replace only grow. A tree that leads back to another has at the front of each of them
+/// what that one has there. Before the journal nothing but locks and strays is written, and behind the publishing operation
+/// nothing but these, the journal and the files that are replaced.
+pub fn files_only_grow()
+    ensures covered { (u q : Tree) (path : List ℕ) → Covers strays u q → is_loose strays path ≡ false → same path journal_path ≡ false → among path (roots_path ∷ dirstate_path ∷ bookmarks_path ∷ []) ≡ false → IsPrefixOf (bytes_at q path) (bytes_at u path) }
+    ensures before { (t u : Tree) (r next : Repo) (command : Command) (who : List ℕ) (done left : List Op) (path : List ℕ) → IsDone (transaction_of t r command who next).before done left → is_loose strays path ≡ false → after_all done u path ≡ u path }
+    ensures behind { (t u : Tree) (r next : Repo) (command : Command) (who : List ℕ) (done left : List Op) (path : List ℕ) → IsDone ((transaction_of t r command who next).renames ++ Op.Remove journal_path ∷ []) done left → is_loose strays path ≡ false → same path journal_path ≡ false → among path (roots_path ∷ dirstate_path ∷ bookmarks_path ∷ []) ≡ false → after_all done u path ≡ u path }
+{}

@@ -1,0 +1,5 @@
+use Rattle.hgs_reader.proofs.EntryLemmas.{entry-there}
+use Rattle.hgs_reader.proofs.laws.revisions_have_entries.Goals as goal
+
+pub returns : goal.returns
+returns c = entry-there

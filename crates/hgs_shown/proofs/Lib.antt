@@ -1,0 +1,9 @@
+pub mod AnswerLemmas
+pub mod Basics
+pub mod ContentLemmas
+pub mod NameLemmas
+pub mod OpenLemmas
+pub mod PieceLemmas
+pub mod PlaceLemmas
+pub mod SmallLemmas
+pub mod TextLemmas

@@ -1,0 +1,5 @@
+pub mod Answers
+pub mod Below
+pub mod Found
+pub mod Limits
+pub mod Shown

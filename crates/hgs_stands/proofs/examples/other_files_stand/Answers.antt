@@ -1,0 +1,17 @@
+use Rattle.hgs_stands.proofs.NearLemmas.{listed-stands, tracked-stands}
+use Rattle.hgs_stands.proofs.Below.{SampleLaws}
+use Rattle.hgs_stands.proofs.examples.other_files_stand.Goals as goal
+
+pub returns : goal.returns
+returns c = record { tracked = tracked-stands laws; listed = listed-stands laws }
+  where
+    laws : SampleLaws
+    laws = record {
+      chunk = c.chunk_then_text.ensures;
+      begins = c.lists_begin.ensures.held;
+      more = c.lists_begin.ensures.more;
+      node_back = c.nodes_written_then_read.ensures.back;
+      node = c.nodes_name_revisions.ensures.node;
+      roots = c.read_texts.ensures;
+      lines = c.bookmark_lines_written_then_read.ensures;
+    }

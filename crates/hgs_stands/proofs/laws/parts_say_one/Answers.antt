@@ -1,0 +1,28 @@
+use Rattle.hgs_stands.proofs.SameLemmas.{changesets-same, phases-same, bookmarks-same, working-parents-same}
+use Rattle.hgs_stands.proofs.Below.{HistoryLaws, TextLaws}
+use Rattle.hgs_stands.proofs.laws.parts_say_one.Goals as goal
+
+pub returns : goal.returns
+returns c = record { changesets = changesets-same texts histories; phases = phases-same; bookmarks = bookmarks-same texts histories; working = working-parents-same texts histories }
+  where
+    texts : TextLaws
+    texts = record {
+      once = c.held_once.ensures;
+      begins = c.lists_begin.ensures.held;
+      index_length = c.held_index_length.ensures;
+      counted = c.nodes_are_counted.ensures;
+      among_known = c.nodes_have_places.ensures.among;
+      one_place = c.nodes_have_places.ensures.one;
+      change = c.change_prints_then_reads.ensures;
+      rows = c.manifest_prints_then_reads.ensures;
+    }
+
+    histories : HistoryLaws
+    histories = record {
+      held = c.changesets_are_held.ensures.each;
+      count = c.changesets_are_held.ensures.count;
+      there = c.revisions_stay.ensures.there;
+      one = c.nodes_name_revisions.ensures.one;
+      used = c.used_paths_have_revisions.ensures.files;
+      parents = c.changelog_is_whole.ensures.parents;
+    }

@@ -1,0 +1,28 @@
+use Rattle.hgs_stands.proofs.ShowsLemmas.{holds-begins, shows-itself}
+use Rattle.hgs_stands.proofs.Below.{HistoryLaws, TextLaws}
+use Rattle.hgs_stands.proofs.laws.standing_trees_show.Goals as goal
+
+pub returns : goal.returns
+returns c = record { revlogs = holds-begins texts histories; whole = shows-itself texts histories }
+  where
+    texts : TextLaws
+    texts = record {
+      once = c.held_once.ensures;
+      begins = c.lists_begin.ensures.held;
+      index_length = c.held_index_length.ensures;
+      counted = c.nodes_are_counted.ensures;
+      among_known = c.nodes_have_places.ensures.among;
+      one_place = c.nodes_have_places.ensures.one;
+      change = c.change_prints_then_reads.ensures;
+      rows = c.manifest_prints_then_reads.ensures;
+    }
+
+    histories : HistoryLaws
+    histories = record {
+      held = c.changesets_are_held.ensures.each;
+      count = c.changesets_are_held.ensures.count;
+      there = c.revisions_stay.ensures.there;
+      one = c.nodes_name_revisions.ensures.one;
+      used = c.used_paths_have_revisions.ensures.files;
+      parents = c.changelog_is_whole.ensures.parents;
+    }

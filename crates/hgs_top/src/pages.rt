@@ -1,0 +1,29 @@
+//! What the program says of itself.
+ghost use Rattle.std.specs.Prelude.{◌≡◌};
+ghost use Rattle.hgs_top.specs.Pages.{page_text};
+
+const HELP: &[u8; 1225] =
+    b"usage: hg_store COMMAND\n\nAnswers questions about the Mercurial repository whose .hg stands in the current folder.\n\n  log            a line for each changeset, newest first\n  heads          number and node of each changeset without a child\n  files REV      node, flag and path of each file of a changeset\n  cat REV PATH   the body of one of these files\n  bookmarks      name, number and node of each bookmark\n  parents        number and node of each working parent\n  phase REV      public, draft or secret\n  --help         this page\n  --version      the program, and the kit that it is proved with\n\nREV is . for the first working parent, tip, a number, 40 hex digits of a node, or a bookmark.\nBehind a word -- a word may begin with -.\n\nExit statuses:\n   0  the question was answered\n  12  no changeset has the name\n  15  a file does not hold what it should\n  16  the system failed a read\n  19  the system failed a write, or the reader of the output has gone\n  20  a limit is passed\n  23  the changeset has no such file\n  24  there is no repository here\n  27  the repository requires a word that is not of the profile, or lacks one\n  28  the words do not fit\n  30  there was no memory\n\nMore: man hg_store, and docs/ANSWERS.md.\n";
+
+const VERSION: &[u8; 64] = b"hg_store 0.1, proved with rattle-kit-13f logic dac8208d650f15bf\n";
+
+/// A text that needs no repository.
+#[derive(Clone, Copy, Debug, PartialEq, Eq)]
+pub enum Page {
+    /// The commands, the statuses, and where to read more.
+    Help,
+    /// The program, and the kit that it is proved with.
+    Version,
+}
+
+impl Page {
+    /// The text, which ends in LF.
+    pub fn text(self) -> &'static [u8]
+        ensures { result.now ≡ page_text self }
+    {
+        match self {
+            Page::Help => HELP,
+            Page::Version => VERSION,
+        }
+    }
+}

@@ -1,0 +1,5 @@
+pub mod OwnedLoops
+pub mod GatherLemmas
+pub mod PlanLemmas
+pub mod TransactionLemmas
+pub mod StoreLemmas

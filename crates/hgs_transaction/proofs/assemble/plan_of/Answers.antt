@@ -1,0 +1,40 @@
+use Rattle.std.proofs.Common.{◌≡◌, ◌+◌, ◌∷◌, ◌++◌, length, ap, ◌∙◌, arith, length-append}
+use Rattle.hgs_files.specs.declared.op.Op.TheVariants.{Remove}
+use Rattle.hgs_journal.specs.Names.{journal_path}
+use Rattle.hgs_ops.specs.Operations.{removals}
+use Rattle.hgs_transaction.specs.Gathered.{prepared}
+use Rattle.hgs_transaction.proofs.PlanLemmas.{ready, ready-most, undone-same}
+use Rattle.hgs_transaction.proofs.assemble.plan_of.Goals as goal
+
+pub overflow_add-publish : goal.overflow_add-publish
+overflow_add-publish c =
+    let most = ready-most c.args.gathered c.add_journal.new.ops.items (ready c.args.gathered c.new-ops.result.items c.add_backups.new.ops.items c.extend.new.ops.items c.add_list.new.ops.items c.add_journal.new.ops.items c.as_slice.result.now c.from_vec-backup_lines.result c.from_vec-journal_lines.result c.new-ops.ensures.items c.as_slice.ensures c.from_vec-backup_lines.ensures c.from_vec-journal_lines.ensures c.in_ok-add_backups.ensures c.in_ok-extend.ensures c.in_ok-add_list.ensures c.in_ok-add_journal.ensures) in
+    let len = c.len.ensures in
+    omega arith
+
+pub overflow_cast-publish : goal.overflow_cast-publish
+overflow_cast-publish c =
+    let most = ready-most c.args.gathered c.add_journal.new.ops.items (ready c.args.gathered c.new-ops.result.items c.add_backups.new.ops.items c.extend.new.ops.items c.add_list.new.ops.items c.add_journal.new.ops.items c.as_slice.result.now c.from_vec-backup_lines.result c.from_vec-journal_lines.result c.new-ops.ensures.items c.as_slice.ensures c.from_vec-backup_lines.ensures c.from_vec-journal_lines.ensures c.in_ok-add_backups.ensures c.in_ok-extend.ensures c.in_ok-add_list.ensures c.in_ok-add_journal.ensures) in
+    let len = c.len.ensures in
+    omega arith
+
+pub overflow_cast-commit : goal.overflow_cast-commit
+overflow_cast-commit c =
+    let most = ready-most c.args.gathered c.add_journal.new.ops.items (ready c.args.gathered c.new-ops.result.items c.add_backups.new.ops.items c.extend.new.ops.items c.add_list.new.ops.items c.add_journal.new.ops.items c.as_slice.result.now c.from_vec-backup_lines.result c.from_vec-journal_lines.result c.new-ops.ensures.items c.as_slice.ensures c.from_vec-backup_lines.ensures c.from_vec-journal_lines.ensures c.in_ok-add_backups.ensures c.in_ok-extend.ensures c.in_ok-add_list.ensures c.in_ok-add_journal.ensures) in
+    let whole = ap (λ o. length o) c.in_ok-extend-2.ensures in
+    let both = length-append c.add_journal.new.ops.items c.args.gathered.ops.items in
+    let len = c.len-commit.ensures in
+    omega arith
+
+pub returns : goal.returns
+returns c =
+    let done : c.add_journal.new.ops.items ≡ prepared c.args.gathered = ready c.args.gathered c.new-ops.result.items c.add_backups.new.ops.items c.extend.new.ops.items c.add_list.new.ops.items c.add_journal.new.ops.items c.as_slice.result.now c.from_vec-backup_lines.result c.from_vec-journal_lines.result c.new-ops.ensures.items c.as_slice.ensures c.from_vec-backup_lines.ensures c.from_vec-journal_lines.ensures c.in_ok-add_backups.ensures c.in_ok-extend.ensures c.in_ok-add_list.ensures c.in_ok-add_journal.ensures in
+    let all : c.extend-2.new.ops.items ≡ prepared c.args.gathered ++ c.args.gathered.ops.items = c.in_ok-extend-2.ensures ∙ ap (λ o. o ++ c.args.gathered.ops.items) done in
+    let len : c.len.result ≡ length c.add_journal.new.ops.items = omega arith in
+    let len-all : c.len-commit.result ≡ length c.extend-2.new.ops.items = omega arith in
+    record {
+      ops = c.in_ok-add_removals.ensures ∙ ap (λ o. o ++ Remove journal_path ∷ removals) all;
+      undo = c.in_ok-undo.ensures ∙ undone-same c.from_vec-journal_lines.result c.args.gathered.journal.items c.from_vec-backup_lines.result c.args.gathered.backups.items c.deref.result.now c.args.gathered.kept.items c.from_vec-journal_lines.ensures c.from_vec-backup_lines.ensures c.deref.ensures.value;
+      publish = ap (λ n. n + c.args.published) (len ∙ ap (λ o. length o) done);
+      commit = len-all ∙ ap (λ o. length o) all;
+    }

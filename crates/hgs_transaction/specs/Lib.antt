@@ -1,0 +1,4 @@
+pub mod Parts
+pub mod Assembled
+pub mod Gathered
+pub mod OfTransaction

@@ -1,0 +1,15 @@
+pub mod Basics
+pub mod Below
+pub mod MomentLemmas
+pub mod PhaseLemmas
+pub mod LoadLemmas
+pub mod RefreshLemmas
+pub mod OnlyLemmas
+pub mod TextLemmas
+pub mod ContentLemmas
+pub mod SeenLemmas
+pub mod CourseLemmas
+pub mod AppendLemmas
+pub mod AlikeLemmas
+pub mod GrowLemmas
+pub mod PublicLemmas

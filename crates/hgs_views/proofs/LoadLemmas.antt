@@ -1,0 +1,330 @@
+-- A load whose reads stand at different moments.
+use Rattle.std.proofs.Common.{◌≡◌, ℕ, ◌+◌, ◌-◌, ◌*◌, ◌/◌, ◌<◌, ◌≤◌, List, [], ◌++◌, length, take, map, Result, Ok, refl, sym, ◌∙◌, ap, subst, arith, append-nil, length-append}
+use Rattle.std.proofs.Math.Nat.{lt-mul-div-succ}
+use Rattle.std.proofs.Math.Seq.{take-append-add, take-append_seam}
+use Rattle.std.proofs.lemmas.List.{take_all}
+use Rattle.hgs_bytes.specs.Bytes.{IsPrefixOf}
+use Rattle.hgs_files.specs.declared.op.Op.{Op}
+use Rattle.hgs_files.specs.Tree.{bytes_at}
+use Rattle.hgs_index.specs.Revlog.{BeginsWithRevisions}
+use Rattle.hgs_marks.specs.Bookmarks.{Mark}
+use Rattle.hgs_model.specs.History.{history, changeset_nodes}
+use Rattle.hgs_model.specs.Phase.{phase_number}
+use Rattle.hgs_phases.specs.declared.roots.Root.{Root}
+use Rattle.hgs_phases.specs.Phases.{phases_by}
+use Rattle.hgs_revlog.specs.declared.fault.Tail.TheVariants.{Ignore, Refuse}
+use Rattle.hgs_revlog.specs.Held.{Agrees, AreWithinLimits, read_all}
+use Rattle.hgs_revlog.specs.Load.{loaded}
+use Rattle.hgs_revlog.specs.Log.{Log}
+use Rattle.hgs_reader.specs.declared.answer.ReadAnswer.{ReadAnswer}
+use Rattle.hgs_reader.specs.Asks.{Asks, answer, then_asks, MayAnswer}
+use Rattle.hgs_reader.specs.Marks.{Nodes, bookmarks_answer, dirstate_answer, roots_answer, working_answer}
+use Rattle.hgs_reader.specs.Open.{requires_path, most_requires, most_bookmarks_text, most_dirstate, most_roots, bookmarks_asks, dirstate_asks, log_asks, roots_asks, log_of, view_with, view_of, open_asks}
+use Rattle.hgs_reader.specs.Requirements.{requires_answer}
+use Rattle.hgs_reader.specs.View.{View, log_answer, most_pieces, piece_length}
+use Rattle.hgs_stands.specs.Places.{bookmarks_path, dirstate_path, roots_path, changelog_index, changelog_data}
+use Rattle.hgs_stands.specs.Stands.{changeset_entries, mark_of}
+use Rattle.hgs_shown.specs.Shown.{working_nodes}
+use Rattle.hgs_views.specs.Course.{Course, IsBetween, IsCourse, OpensAlong, tree_after}
+use Rattle.hgs_views.specs.Moments.{WholeStays}
+use Rattle.hgs_views.specs.Seen.{Numbers, IsViewAt, AreReadBetween, AreInOrder, IsLoadedBetween}
+use Rattle.hgs_views.proofs.Basics.{prefix-refl, prefix-trans}
+use Rattle.hgs_views.proofs.MomentLemmas.{between-later, whole-then, pieces-end}
+use Rattle.hgs_views.proofs.Below.{LoadLaws}
+
+-- ---- fronts
+
+pub front-of-longer : (a b c : List ℕ) → IsPrefixOf a c → IsPrefixOf b c → length a ≤ length b → IsPrefixOf a b
+front-of-longer a b c p q le =
+    let sum : length b ≡ length a + (length b - length a) = omega (arith, le) in
+    (take (length b - length a) p.0, sym (take-append_seam b q.0) ∙ ap (take (length b)) (sym q.1 ∙ p.1) ∙ ap (λ n. take n (a ++ p.0)) sum ∙ take-append-add a p.0 (length b - length a))
+
+few-bytes : (n : ℕ) → n / 64 ≤ 1000000 → n < most_pieces * piece_length
+few-bytes n h = let e : n < 64 * (n / 64 + 1) = lt-mul-div-succ n (omega arith) in omega (arith, e, h)
+
+-- ---- the index of a repository's files
+
+-- the index of this number's files loads as these entries
+pub record LoadsAt (x : Course) (c : ℕ) (log : Log) : Type 0 where
+  pub loads : loaded Ignore (bytes_at (x.store c) changelog_index) ≡ Ok log
+  pub texts : read_all log.entries (bytes_at (x.store c) changelog_data) ≡ Ok (history (x.repo c).changesets).changelog
+  pub entries : Agrees (bytes_at (x.store c) changelog_index) (bytes_at (x.store c) changelog_data) log.entries (history (x.repo c).changesets).changelog
+
+module _ (x : Course) (first last : List Op) (is : IsCourse x first last) where
+  pub below : (log : List Op) → IsBetween first last log → x.published log ≤ x.published last
+  below log at = (is.rises log last at (record { begins = at.ends; ends = prefix-refl last })).published
+
+module _ (law : LoadLaws) (x : Course) (first last : List Op) (is : IsCourse x first last) where
+  index_of : ℕ → List ℕ
+  index_of c = bytes_at (x.store c) changelog_index
+
+  -- the files of the list's own number have an entry for each whole entry that stands
+  pub entries-whole : (log : List Op) → IsBetween first last log → length (bytes_at (x.store (x.published log)) changelog_index) ≡ 64 * (length (bytes_at (tree_after x log) changelog_index) / 64)
+  entries-whole log at =
+      let c = x.published log in
+      let size = law.size (bytes_at (x.store c) changelog_index) (bytes_at (x.store c) changelog_data) (history (x.repo c).changesets).changelog (is.holds c (below x first last is log at)).changelog in
+      let count = law.count (x.repo c) (is.repository c (below x first last is log at)) in
+      let whole = (is.shows log at).revlogs.whole in
+      size ∙ ap (λ n. 64 * n) (count ∙ whole)
+
+  pub whole-stays : WholeStays x.start changelog_index first last
+  whole-stays log more front k at later size f =
+      let c = x.published log in
+      let store = bytes_at (x.store c) changelog_index in
+      let kept = (is.stays log c at (omega arith)).changelog in
+      let len = ap length f.1 in
+      let both = length-append front f.0 in
+      let all = entries-whole log at in
+      let short : length front ≤ length store = omega (arith, size, len, both, all) in
+      prefix-trans front store (bytes_at (tree_after x more) changelog_index) (front-of-longer front store (bytes_at (tree_after x log) changelog_index) f kept short)
+      (is.stays more c (between-later first last log more at later) (is.rises log more at later).published).changelog
+
+  -- what the index loads as
+  pub loads-as : (log : List Op) → IsBetween first last log → loaded Ignore (bytes_at (tree_after x log) changelog_index) ≡ loaded Ignore (bytes_at (x.store (x.published log)) changelog_index)
+  loads-as log at =
+      let store = bytes_at (x.store (x.published log)) changelog_index in
+      let index = bytes_at (tree_after x log) changelog_index in
+      let kept = (is.stays log (x.published log) at (omega arith)).changelog in
+      let all = entries-whole log at in
+      let front : take (64 * (length index / 64)) index ≡ store = ap (λ n. take n index) (sym all) ∙ ap (take (length store)) kept.1 ∙ take-append_seam store kept.0 in
+      let whole : take (64 * (length store / 64)) store ≡ store = take_all (64 * (length store / 64)) store (omega (arith, all)) in
+      law.whole index ∙ ap (loaded Refuse) (front ∙ sym whole) ∙ sym (law.whole store)
+
+  module _ (opens : OpensAlong x first last) where
+    pub room : (log : List Op) → IsBetween first last log → length (bytes_at (tree_after x log) changelog_index) < most_pieces * piece_length
+    room log at =
+        let c = x.published log in
+        let count = law.count (x.repo c) (is.repository c (below x first last is log at)) in
+        let whole = (is.shows log at).revlogs.whole in
+        let few = (opens log at).changelog.few in
+        few-bytes (length (bytes_at (tree_after x log) changelog_index)) (omega (arith, few, count, whole))
+
+    pub loads-at : (log : List Op) → IsBetween first last log → (found : Log) × LoadsAt x (x.published log) found
+    loads-at log at =
+        let c = x.published log in
+        let store = bytes_at (x.store c) changelog_index in
+        let chunks = bytes_at (x.store c) changelog_data in
+        let revisions = (history (x.repo c).changesets).changelog in
+        let held = (is.holds c (below x first last is log at)).changelog in
+        let size = law.size store chunks revisions held in
+        let within = (opens log at).changelog in
+        let kept = (is.stays log c at (omega arith)).changelog_chunks in
+        let longer = ap length kept.1 in
+        let both = length-append chunks kept.0 in
+        let limits : AreWithinLimits revisions chunks = record { few = within.few; texts = within.texts; data_end = (let room = within.data_end in omega (arith, room, longer, both)) } in
+        let begins : BeginsWithRevisions store chunks revisions = record { index_front = store; data_front = chunks; held = held; index_begins = ([], sym (append-nil store)); data_begins = ([], sym (append-nil chunks)) } in
+        let h = law.loads store chunks revisions begins (omega (arith, size)) limits in
+        (h.0, record { loads = h.1; texts = h.2; entries = h.3 })
+
+    -- ---- the reads
+
+    -- what was read between these lists, of these numbers
+    pub record HasRead (from : List Op) (v : Numbers) (marks : List Mark) (nodes : Nodes) (log : Log) (roots : List Root) : Type 0 where
+      pub reads : AreReadBetween x from last v
+      pub marks_are : marks ≡ map (mark_of (changeset_nodes (x.repo v.marked).changesets)) (x.repo v.marked).bookmarks
+      pub nodes_are : nodes ≡ working_nodes (x.repo v.worked)
+      pub log_is : LoadsAt x v.read log
+      pub roots_give : map phase_number (phases_by roots (changeset_entries (x.repo v.rooted).changesets)) ≡ (x.repo v.rooted).phases
+
+    -- what is asked behind `requires`
+    abbrev pub asked : (List Mark → Nodes → Log → List Root → Result View ReadAnswer) → Asks (Result View ReadAnswer)
+    asked finish = then_asks bookmarks_asks (λ marks. then_asks dirstate_asks (λ nodes. then_asks log_asks (λ log. then_asks roots_asks (λ roots. answer (finish marks nodes log roots)))))
+
+    -- the reads and their answer
+    pub record Answered (finish : List Mark → Nodes → Log → List Root → Result View ReadAnswer) (from : List Op) (y : Result View ReadAnswer) : Type 0 where
+      pub v : Numbers
+      pub marks : List Mark
+      pub nodes : Nodes
+      pub log : Log
+      pub roots : List Root
+      pub has : HasRead from v marks nodes log roots
+      pub answer_is : y ≡ finish marks nodes log roots
+
+    marks-step : (more : List Mark → Asks (Result View ReadAnswer)) (from : List Op) (y : Result View ReadAnswer) → IsBetween first last from → MayAnswer x.start from (then_asks bookmarks_asks more) last y
+        → (log : List Op) × IsBetween from last log × (marks : List Mark) × (marks ≡ map (mark_of (changeset_nodes (x.repo (x.marked log)).changesets)) (x.repo (x.marked log)).bookmarks) × MayAnswer x.start log (more marks) last y
+    marks-step more from y at m =
+        let a = whole-then x.start bookmarks_path most_bookmarks_text bookmarks_answer more from last y m in
+        let now = between-later first last from a.0 at a.1 in
+        let marks = map (mark_of (changeset_nodes (x.repo (x.marked a.0)).changesets)) (x.repo (x.marked a.0)).bookmarks in
+        (a.0, a.1, marks, refl, a.2 marks (law.bookmarks (tree_after x a.0) (x.repo (x.marked a.0)) (x.repo (x.worked a.0)) (x.repo (x.published a.0)) (is.shows a.0 now) (opens a.0 now)))
+
+    nodes-step : (more : Nodes → Asks (Result View ReadAnswer)) (from : List Op) (y : Result View ReadAnswer) → IsBetween first last from → MayAnswer x.start from (then_asks dirstate_asks more) last y
+        → (log : List Op) × IsBetween from last log × (nodes : Nodes) × (nodes ≡ working_nodes (x.repo (x.worked log))) × MayAnswer x.start log (more nodes) last y
+    nodes-step more from y at m =
+        let a = whole-then x.start dirstate_path most_dirstate dirstate_answer more from last y m in
+        let now = between-later first last from a.0 at a.1 in
+        let nodes = working_nodes (x.repo (x.worked a.0)) in
+        (a.0, a.1, nodes, refl, a.2 nodes (law.dirstate (tree_after x a.0) (x.repo (x.marked a.0)) (x.repo (x.worked a.0)) (x.repo (x.published a.0)) (is.shows a.0 now) (opens a.0 now)))
+
+    log-step : (more : Log → Asks (Result View ReadAnswer)) (from : List Op) (y : Result View ReadAnswer) → IsBetween first last from → MayAnswer x.start from (then_asks log_asks more) last y
+        → (log : List Op) × IsBetween from last log × (found : Log) × LoadsAt x (x.published log) found × MayAnswer x.start log (more found) last y
+    log-step more from y at m =
+        let a = pieces-end x.start changelog_index first last y (λ index. answer (log_of index)) more whole-stays room most_pieces 0 [] from at refl refl (bytes_at (tree_after x from) changelog_index, refl) m in
+        let now = between-later first last from a.0 at a.1 in
+        let found = loads-at a.0 now in
+        (a.0, a.1, found.0, found.1, given a.0 found.0 (loads-as a.0 now ∙ found.1.loads) a.2)
+      where
+        given : (log : List Op) (found : Log) → loaded Ignore (bytes_at (tree_after x log) changelog_index) ≡ Ok found → MayAnswer x.start log (then_asks (answer (log_of (bytes_at (tree_after x log) changelog_index))) more) last y → MayAnswer x.start log (more found) last y
+        given log found e m = subst (λ q. MayAnswer x.start log (then_asks (answer q) more) last y) (ap (log_answer changelog_index) e) m
+
+    roots-step : (more : List Root → Asks (Result View ReadAnswer)) (from : List Op) (y : Result View ReadAnswer) → IsBetween first last from → MayAnswer x.start from (then_asks roots_asks more) last y
+        → (log : List Op) × IsBetween from last log × (roots : List Root) × (map phase_number (phases_by roots (changeset_entries (x.repo (x.published log)).changesets)) ≡ (x.repo (x.published log)).phases) × MayAnswer x.start log (more roots) last y
+    roots-step more from y at m =
+        let a = whole-then x.start roots_path most_roots roots_answer more from last y m in
+        let now = between-later first last from a.0 at a.1 in
+        let shows = is.shows a.0 now in
+        (a.0, a.1, shows.phases.roots, shows.phases.phases, a.2 shows.phases.roots (law.roots (tree_after x a.0) (x.repo (x.marked a.0)) (x.repo (x.worked a.0)) (x.repo (x.published a.0)) shows (opens a.0 now)))
+
+    assembled : (finish : List Mark → Nodes → Log → List Root → Result View ReadAnswer) (from a b c d : List Op) (y : Result View ReadAnswer) (marks : List Mark) (nodes : Nodes) (log : Log) (roots : List Root)
+        → IsBetween from last a → IsBetween a last b → IsBetween b last c → IsBetween c last d
+        → marks ≡ map (mark_of (changeset_nodes (x.repo (x.marked a)).changesets)) (x.repo (x.marked a)).bookmarks → nodes ≡ working_nodes (x.repo (x.worked b)) → LoadsAt x (x.published c) log
+        → map phase_number (phases_by roots (changeset_entries (x.repo (x.published d)).changesets)) ≡ (x.repo (x.published d)).phases → y ≡ finish marks nodes log roots → Answered finish from y
+    assembled finish from a b c d y marks nodes log roots fa ab bc cd marks_are nodes_are log_is roots_give answer_is = record {
+      v = record { marked = x.marked a; worked = x.worked b; read = x.published c; rooted = x.published d };
+      marks = marks;
+      nodes = nodes;
+      log = log;
+      roots = roots;
+      has = record {
+        reads = record {
+          bookmarks = a;
+          dirstate = b;
+          changelog = c;
+          roots = d;
+          from_first = fa.begins;
+          then_dirstate = ab.begins;
+          then_changelog = bc.begins;
+          then_roots = cd.begins;
+          to_last = cd.ends;
+          marked = refl;
+          worked = refl;
+          read = refl;
+          rooted = refl;
+        };
+        marks_are = marks_are;
+        nodes_are = nodes_are;
+        log_is = log_is;
+        roots_give = roots_give;
+      };
+      answer_is = answer_is;
+    }
+
+    pub answered : (finish : List Mark → Nodes → Log → List Root → Result View ReadAnswer) (from : List Op) (y : Result View ReadAnswer) → IsBetween first last from → MayAnswer x.start from (asked finish) last y → Answered finish from y
+    answered finish from y at m = one (marks-step (λ marks. then_asks dirstate_asks (λ nodes. then_asks log_asks (λ log. then_asks roots_asks (λ roots. answer (finish marks nodes log roots))))) from y at m)
+      where
+        four : (a b c : List Op) (marks : List Mark) (nodes : Nodes) (log : Log) → IsBetween from last a → IsBetween a last b → IsBetween b last c → IsBetween first last c
+            → marks ≡ map (mark_of (changeset_nodes (x.repo (x.marked a)).changesets)) (x.repo (x.marked a)).bookmarks → nodes ≡ working_nodes (x.repo (x.worked b)) → LoadsAt x (x.published c) log
+            → MayAnswer x.start c (then_asks roots_asks (λ roots. answer (finish marks nodes log roots))) last y → Answered finish from y
+        four a b c marks nodes log fa ab bc c_at marks_are nodes_are log_is m =
+            let r = roots-step (λ roots. answer (finish marks nodes log roots)) c y c_at m in
+            assembled finish from a b c r.0 y marks nodes log r.2 fa ab bc r.1 marks_are nodes_are log_is r.3 r.4.1
+
+        three : (a b : List Op) (marks : List Mark) (nodes : Nodes) → IsBetween from last a → IsBetween a last b → IsBetween first last b
+            → marks ≡ map (mark_of (changeset_nodes (x.repo (x.marked a)).changesets)) (x.repo (x.marked a)).bookmarks → nodes ≡ working_nodes (x.repo (x.worked b))
+            → MayAnswer x.start b (then_asks log_asks (λ log. then_asks roots_asks (λ roots. answer (finish marks nodes log roots)))) last y → Answered finish from y
+        three a b marks nodes fa ab b_at marks_are nodes_are m =
+            let r = log-step (λ log. then_asks roots_asks (λ roots. answer (finish marks nodes log roots))) b y b_at m in
+            four a b r.0 marks nodes r.2 fa ab r.1 (between-later first last b r.0 b_at r.1) marks_are nodes_are r.3 r.4
+
+        two : (a : List Op) (marks : List Mark) → IsBetween from last a → IsBetween first last a → marks ≡ map (mark_of (changeset_nodes (x.repo (x.marked a)).changesets)) (x.repo (x.marked a)).bookmarks
+            → MayAnswer x.start a (then_asks dirstate_asks (λ nodes. then_asks log_asks (λ log. then_asks roots_asks (λ roots. answer (finish marks nodes log roots))))) last y → Answered finish from y
+        two a marks fa a_at marks_are m =
+            let r = nodes-step (λ nodes. then_asks log_asks (λ log. then_asks roots_asks (λ roots. answer (finish marks nodes log roots)))) a y a_at m in
+            three a r.0 marks r.2 fa r.1 (between-later first last a r.0 a_at r.1) marks_are r.3 r.4
+
+        one : ((a : List Op) × IsBetween from last a × (marks : List Mark) × (marks ≡ map (mark_of (changeset_nodes (x.repo (x.marked a)).changesets)) (x.repo (x.marked a)).bookmarks)
+            × MayAnswer x.start a (then_asks dirstate_asks (λ nodes. then_asks log_asks (λ log. then_asks roots_asks (λ roots. answer (finish marks nodes log roots))))) last y) → Answered finish from y
+        one r = two r.0 r.2 r.1 (between-later first last from r.0 at r.1) r.3 r.4
+
+    -- ---- the numbers
+
+    pub in-order : (from : List Op) (v : Numbers) → IsBetween first last from → AreReadBetween x from last v → AreInOrder x from last v
+    in-order from v at r =
+        let d_end = r.to_last in
+        let c_end = prefix-trans r.changelog r.roots last r.then_roots d_end in
+        let b_end = prefix-trans r.dirstate r.changelog last r.then_changelog c_end in
+        let a_end = prefix-trans r.bookmarks r.dirstate last r.then_dirstate b_end in
+        let a : IsBetween from last r.bookmarks = record { begins = r.from_first; ends = a_end } in
+        let b : IsBetween r.bookmarks last r.dirstate = record { begins = r.then_dirstate; ends = b_end } in
+        let c : IsBetween r.dirstate last r.changelog = record { begins = r.then_changelog; ends = c_end } in
+        let d : IsBetween r.changelog last r.roots = record { begins = r.then_roots; ends = d_end } in
+        let a_at = between-later first last from r.bookmarks at a in
+        let b_at = between-later first last r.bookmarks r.dirstate a_at b in
+        let c_at = between-later first last r.dirstate r.changelog b_at c in
+        let d_at = between-later first last r.changelog r.roots c_at d in
+        let fa = is.rises from r.bookmarks at a in
+        let ab = is.rises r.bookmarks r.dirstate a_at b in
+        let bc = is.rises r.dirstate r.changelog b_at c in
+        let cd = is.rises r.changelog r.roots c_at d in
+        let oa = is.ordered r.bookmarks a_at in
+        let ob = is.ordered r.dirstate b_at in
+        let end = below x first last is r.roots d_at in
+        let e1 = r.marked in
+        let e2 = r.worked in
+        let e3 = r.read in
+        let e4 = r.rooted in
+        record {
+          marked_worked = (let p = oa.marked in let q = ab.worked in omega (arith, p, q, e1, e2));
+          worked_read = (let p = ob.worked in let q = bc.published in omega (arith, p, q, e2, e3));
+          read_rooted = (let p = cd.published in omega (arith, p, e3, e4));
+          rooted_last = omega (arith, end, e4);
+          first_marked = (let p = fa.marked in omega (arith, p, e1));
+          first_worked = (let p = fa.worked in let q = ab.worked in omega (arith, p, q, e2));
+          first_read = (let p = fa.published in let q = ab.published in let s = bc.published in omega (arith, p, q, s, e3));
+        }
+
+    -- ---- the view
+
+    pub viewed : (from : List Op) (v : Numbers) (marks : List Mark) (nodes : Nodes) (log : Log) (roots : List Root) → HasRead from v marks nodes log roots → AreInOrder x from last v → (view : View) × IsViewAt x v view × (view.changelog ≡ log) × (view_of marks nodes log roots ≡ Ok view)
+    viewed from v marks nodes log roots h o =
+        let p_low : v.rooted ≤ x.published last = o.rooted_last in
+        let c_low : v.read ≤ x.published last = (let a = o.read_rooted in omega (arith, a, p_low)) in
+        let w_low : v.worked ≤ x.published last = (let a = o.worked_read in omega (arith, a, c_low)) in
+        let r = x.repo v.read in
+        let worked = x.repo v.worked in
+        let rooted = x.repo v.rooted in
+        let store = bytes_at (x.store v.read) changelog_index in
+        let chunks = bytes_at (x.store v.read) changelog_data in
+        let revisions = (history r.changesets).changelog in
+        let agrees = h.log_is.entries in
+        let held = (is.holds v.read c_low).changelog in
+        let nodes_are = law.nodes store chunks log.entries revisions agrees in
+        let parents_are = law.parents store chunks log.entries revisions agrees ∙ law.all_parents_are r (is.repository v.read c_low) in
+        let working = ap (working_answer log.entries) h.nodes_are ∙ law.working log.entries worked r (is.repository v.worked w_low) (is.goes_on v.worked v.read o.worked_read c_low) nodes_are held.different held.not_null in
+        let front = law.roots_before roots r rooted (is.repository v.read c_low) (is.repository v.rooted p_low) (is.goes_on v.read v.rooted o.read_rooted p_low) h.roots_give in (
+          record { changelog = log; bookmarks = marks; working = worked.working; phases = phases_by roots log.entries },
+          record {
+            loads = h.log_is.loads;
+            entries = agrees;
+            bookmarks = h.marks_are;
+            working = refl;
+            phases = law.phases r log.entries roots (take (length r.changesets) rooted.phases) (is.repository v.read c_low) nodes_are parents_are front;
+          },
+          refl,
+          ap (view_with marks log roots) working,
+        )
+
+    pub opened-along : (from : List Op) (y : Result View ReadAnswer) → IsBetween first last from → MayAnswer x.start from open_asks last y → (v : Numbers) × (view : View) × (y ≡ Ok view) × IsLoadedBetween x from last v view
+    opened-along from y at m =
+        let a = whole-then x.start requires_path most_requires requires_answer (λ u. asked view_of) from last y m in
+        let a_at = between-later first last from a.0 at a.1 in
+        let m1 = a.2 tt (law.requirements (tree_after x a.0) (is.shows a.0 a_at).requires (opens a.0 a_at).requires) in
+        let r = answered view_of a.0 y a_at m1 in
+        let reads = r.has.reads in
+        let whole : AreReadBetween x from last r.v = record {
+          bookmarks = reads.bookmarks;
+          dirstate = reads.dirstate;
+          changelog = reads.changelog;
+          roots = reads.roots;
+          from_first = prefix-trans from a.0 reads.bookmarks a.1.begins reads.from_first;
+          then_dirstate = reads.then_dirstate;
+          then_changelog = reads.then_changelog;
+          then_roots = reads.then_roots;
+          to_last = reads.to_last;
+          marked = reads.marked;
+          worked = reads.worked;
+          read = reads.read;
+          rooted = reads.rooted;
+        } in
+        let seen = viewed a.0 r.v r.marks r.nodes r.log r.roots r.has (in-order a.0 r.v a_at reads) in
+        (r.v, seen.0, r.answer_is ∙ seen.3, record { is_view = seen.1; reads = whole; order = in-order from r.v at whole })

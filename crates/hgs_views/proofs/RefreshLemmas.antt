@@ -1,0 +1,165 @@
+-- A refresh over an old view of the same course.
+use Rattle.std.proofs.Common.{◌≡◌, ℕ, zero, suc, ◌*◌, ◌/◌, ◌≤◌, List, [], ◌∷◌, ◌++◌, length, take, drop, true, false, cond, ◌&&◌, Some, None, Option, Result, Ok, Err, refl, sym, ◌∙◌, ap, subst, arith, length-append}
+use Rattle.std.specs.Prelude.{◌==◌}
+use Rattle.std.proofs.lemmas.List.{take-append-le, drop-append-le, length-drop}
+use Rattle.hgs_bytes.specs.Bytes.{IsPrefixOf, same}
+use Rattle.hgs_files.specs.declared.op.Op.{Op}
+use Rattle.hgs_files.specs.Tree.{bytes_at}
+use Rattle.hgs_index.specs.declared.entry.Entry.{Entry}
+use Rattle.hgs_model.specs.History.{history}
+use Rattle.hgs_revlog.specs.declared.fault.RevFault.{RevFault}
+use Rattle.hgs_revlog.specs.declared.fault.Tail.TheVariants.{Ignore}
+use Rattle.hgs_revlog.specs.Load.{after, entry_behind, load_from, loaded}
+use Rattle.hgs_revlog.specs.Log.{Log, with_entry}
+use Rattle.hgs_reader.specs.declared.answer.ReadAnswer.{ReadAnswer}
+use Rattle.hgs_reader.specs.Asks.{MayAnswer}
+use Rattle.hgs_reader.specs.Open.{view_of}
+use Rattle.hgs_reader.specs.Refresh.{same_parent, same_lengths, same_links, same_entry, first_changed, unless_changed, view_after, refresh_asks}
+use Rattle.hgs_reader.specs.View.{View}
+use Rattle.hgs_stands.specs.Places.{changelog_index, changelog_data}
+use Rattle.hgs_views.specs.Course.{Course, IsBetween, IsCourse, OpensAlong, tree_after}
+use Rattle.hgs_views.specs.Seen.{Numbers, NoneFell, AreReadBetween, IsLoadedBetween}
+use Rattle.hgs_views.proofs.Basics.{same-refl, prefix-refl, prefix-trans, may-front}
+use Rattle.hgs_views.proofs.CourseLemmas.{course-later, itself-between}
+use Rattle.hgs_views.proofs.LoadLemmas.{front-of-longer, below, answered, in-order, viewed}
+use Rattle.hgs_views.proofs.Below.{LoadLaws}
+
+-- ---- an entry is the same as itself
+
+equal : (n : ℕ) → (n == n) ≡ true
+equal n = grind arith
+
+parent-itself : (o : Option ℕ) → same_parent o o ≡ true
+parent-itself None = refl
+parent-itself (Some n) = equal n
+
+entry-itself : (e : Entry) → same_entry e e ≡ true
+entry-itself e =
+    ap (λ b. b && same_links e e && same e.node.0 e.node.0) lengths
+    ∙ ap (λ b. b && same e.node.0 e.node.0) links
+    ∙ same-refl e.node.0
+  where
+    lengths : same_lengths e e ≡ true
+    lengths =
+        ap (λ b. b && e.flags == e.flags && e.stored == e.stored && e.size == e.size) (equal e.offset)
+        ∙ ap (λ b. b && e.stored == e.stored && e.size == e.size) (equal e.flags)
+        ∙ ap (λ b. b && e.size == e.size) (equal e.stored)
+        ∙ equal e.size
+
+    links : same_links e e ≡ true
+    links =
+        ap (λ b. b && e.link == e.link && same_parent e.p1 e.p1 && same_parent e.p2 e.p2) (equal e.base)
+        ∙ ap (λ b. b && same_parent e.p1 e.p1 && same_parent e.p2 e.p2) (equal e.link)
+        ∙ ap (λ b. b && same_parent e.p2 e.p2) (parent-itself e.p1)
+        ∙ parent-itself e.p2
+
+unchanged : (rev : ℕ) (old more : List Entry) → first_changed rev old (old ++ more) ≡ None
+unchanged rev [] more = refl
+unchanged rev (e ∷ old) more = ap (λ b. cond b (first_changed (suc rev) old (old ++ more)) (Some rev)) (entry-itself e) ∙ unchanged (suc rev) old more
+
+-- ---- the entries of a front of an index
+
+after_ok : (r : Result Entry RevFault) (f : Entry → Result Log RevFault) (log : Log) → after r f ≡ Ok log → (e : Entry) × (r ≡ Ok e) × (f e ≡ Ok log)
+after_ok (Err fault) f log h = cc
+after_ok (Ok e) f log h = (e, refl, h)
+
+log_is : (log end : Log) → (let a : Result Log RevFault = Ok log in a) ≡ Ok end → log ≡ end
+log_is log end h = cc
+
+load-grows : (n : ℕ) (log end : Log) (bytes : List ℕ) → load_from Ignore n log bytes ≡ Ok end → IsPrefixOf log.entries end.entries
+load-grows zero log end bytes h = subst (λ (l : Log). IsPrefixOf log.entries l.entries) (log_is log end h) (prefix-refl log.entries)
+load-grows (suc n) log end bytes h =
+    let s = after_ok (entry_behind log.entries (take 64 bytes)) (λ e. load_from Ignore n (with_entry log e) (drop 64 bytes)) end h in
+    prefix-trans log.entries (log.entries ++ s.0 ∷ []) end.entries (s.0 ∷ [], refl) (load-grows n (with_entry log s.0) end (drop 64 bytes) s.2)
+
+load-front : (n m : ℕ) (log small end : Log) (front rest : List ℕ) → n ≤ m → 64 * n ≤ length front → load_from Ignore n log front ≡ Ok small → load_from Ignore m log (front ++ rest) ≡ Ok end → IsPrefixOf small.entries end.entries
+load-front zero m log small end front rest le long h g = subst (λ (l : Log). IsPrefixOf l.entries end.entries) (log_is log small h) (load-grows m log end (front ++ rest) g)
+load-front (suc n) zero log small end front rest le long h g = absurd (omega (arith, le))
+load-front (suc n) (suc m) log small end front rest le long h g =
+    let s = after_ok (entry_behind log.entries (take 64 front)) (λ e. load_from Ignore n (with_entry log e) (drop 64 front)) small h in
+    let cell : take 64 (front ++ rest) ≡ take 64 front = take-append-le 64 front rest (omega (arith, long)) in
+    let behind : drop 64 (front ++ rest) ≡ drop 64 front ++ rest = drop-append-le 64 front rest (omega (arith, long)) in
+    let on : load_from Ignore m (with_entry log s.0) (drop 64 front ++ rest) ≡ Ok end =
+    ap (load_from Ignore m (with_entry log s.0)) (sym behind)
+    ∙ sym (ap (λ r. after r (λ e. load_from Ignore m (with_entry log e) (drop 64 (front ++ rest)))) (ap (entry_behind log.entries) cell ∙ s.1))
+    ∙ g in
+    load-front n m (with_entry log s.0) small end (drop 64 front) rest (omega (arith, le)) (let d = length-drop 64 front in omega (arith, d, long)) s.2 on
+
+pub loaded-front : (front rest : List ℕ) (small end : Log) → loaded Ignore front ≡ Ok small → loaded Ignore (front ++ rest) ≡ Ok end → IsPrefixOf small.entries end.entries
+loaded-front front rest small end h g =
+    load-front (length front / 64) (length (front ++ rest) / 64) (record { inline = false; entries = [] }) small end front rest (let l = length-append front rest in omega (arith, l)) (omega arith) h g
+
+-- ---- the refresh
+
+module _ (x : Course) (first last : List Op) (is : IsCourse x first last) where
+  -- the index of an earlier number stands at the front of a later one's
+  pub store-front : (law : LoadLaws) (log : List Op) (i j : ℕ) → IsBetween first last log → i ≤ j → j ≤ x.published log → IsPrefixOf (bytes_at (x.store i) changelog_index) (bytes_at (x.store j) changelog_index)
+  store-front law log i j at le top =
+      let low = below x first last is log at in
+      let i_index = bytes_at (x.store i) changelog_index in
+      let j_index = bytes_at (x.store j) changelog_index in
+      let i_revisions = (history (x.repo i).changesets).changelog in
+      let j_revisions = (history (x.repo j).changesets).changelog in
+      let i_size = law.size i_index (bytes_at (x.store i) changelog_data) i_revisions (is.holds i (omega (arith, le, top, low))).changelog in
+      let j_size = law.size j_index (bytes_at (x.store j) changelog_data) j_revisions (is.holds j (omega (arith, top, low))).changelog in
+      let goes = law.changelog (x.repo i).changesets (x.repo j).changesets (is.goes_on i j le (omega (arith, top, low))) in
+      let longer = ap length goes.1 in
+      let both = length-append i_revisions goes.0 in
+      front-of-longer i_index j_index (bytes_at (tree_after x log) changelog_index) (is.stays log i at (omega (arith, le, top))).changelog (is.stays log j at top).changelog (omega (arith, i_size, j_size, longer, both))
+
+  none-fell : (ended from : List Op) (v w : Numbers) → AreReadBetween x first ended v → IsPrefixOf ended from → IsPrefixOf from last → x.marked from ≤ w.marked → x.worked from ≤ w.worked → x.published from ≤ w.read → w.read ≤ w.rooted → NoneFell v w
+  none-fell ended from v w r then on marked worked read rooted =
+      let d_end = prefix-trans r.roots ended from r.to_last then in
+      let c_end = prefix-trans r.changelog r.roots from r.then_roots d_end in
+      let b_end = prefix-trans r.dirstate r.changelog from r.then_changelog c_end in
+      let a_end = prefix-trans r.bookmarks r.dirstate from r.then_dirstate b_end in
+      let b_begin = prefix-trans first r.bookmarks r.dirstate r.from_first r.then_dirstate in
+      let c_begin = prefix-trans first r.dirstate r.changelog b_begin r.then_changelog in
+      let d_begin = prefix-trans first r.changelog r.roots c_begin r.then_roots in
+      let a = is.rises r.bookmarks from (record { begins = r.from_first; ends = prefix-trans r.bookmarks from last a_end on }) (record { begins = a_end; ends = on }) in
+      let b = is.rises r.dirstate from (record { begins = b_begin; ends = prefix-trans r.dirstate from last b_end on }) (record { begins = b_end; ends = on }) in
+      let c = is.rises r.changelog from (record { begins = c_begin; ends = prefix-trans r.changelog from last c_end on }) (record { begins = c_end; ends = on }) in
+      let d = is.rises r.roots from (record { begins = d_begin; ends = prefix-trans r.roots from last d_end on }) (record { begins = d_end; ends = on }) in
+      record {
+        marked = (let e = r.marked in let p = a.marked in omega (arith, e, p, marked));
+        worked = (let e = r.worked in let p = b.worked in omega (arith, e, p, worked));
+        read = (let e = r.read in let p = c.published in omega (arith, e, p, read));
+        rooted = (let e = r.rooted in let p = d.published in omega (arith, e, p, read, rooted));
+      }
+
+  pub began-by : (ended from : List Op) (v : Numbers) → AreReadBetween x first ended v → IsPrefixOf ended from → IsPrefixOf first from
+  began-by ended from v r then =
+      prefix-trans first ended from
+      (prefix-trans first r.roots ended (prefix-trans first r.changelog r.roots (prefix-trans first r.dirstate r.changelog (prefix-trans first r.bookmarks r.dirstate r.from_first r.then_dirstate) r.then_changelog) r.then_roots) r.to_last)
+      then
+
+  pub refreshed-along : (law : LoadLaws) (ended from : List Op) (v : Numbers) (old : View) (y : Result View ReadAnswer) → IsLoadedBetween x first ended v old → IsPrefixOf ended from → OpensAlong x from last → MayAnswer x.start from (refresh_asks old) last y
+      → (w : Numbers) × (view : View) × (y ≡ Ok view) × IsLoadedBetween x from last w view × NoneFell v w
+  refreshed-along law ended from v old y loaded_old then opens m =
+      let on = may-front (refresh_asks old) x.start from last y m in
+      let at : IsBetween first last from = record { begins = began-by ended from v loaded_old.reads then; ends = on } in
+      let later = course-later x first from last at is in
+      let now = itself-between from last on in
+      let r = answered law x from last later opens (view_after old.changelog.entries) from y now m in
+      let order = in-order law x from last later opens from r.v now r.has.reads in
+      let fell = none-fell ended from v r.v loaded_old.reads then on order.first_marked order.first_worked order.first_read order.read_rooted in
+      let seen = viewed law x from last later opens from r.v r.marks r.nodes r.log r.roots r.has order in
+      let reads = r.has.reads in
+      let log = reads.changelog in
+      let begins = prefix-trans first from log at.begins (prefix-trans from reads.dirstate log (prefix-trans from reads.bookmarks reads.dirstate reads.from_first reads.then_dirstate) reads.then_changelog) in
+      let ends = prefix-trans log reads.roots last reads.then_roots reads.to_last in
+      let top : r.v.read ≤ x.published log = (let e = reads.read in omega (arith, e)) in
+      let front = store-front law log v.read r.v.read (record { begins = begins; ends = ends }) fell.read top in
+      let kept = loaded-front (bytes_at (x.store v.read) changelog_index) front.0 old.changelog r.log loaded_old.is_view.loads (ap (loaded Ignore) (sym front.1) ∙ r.has.log_is.loads) in
+      let none : first_changed 0 old.changelog.entries r.log.entries ≡ None = ap (first_changed 0 old.changelog.entries) kept.1 ∙ unchanged 0 old.changelog.entries kept.0 in
+      (r.v, seen.0, r.answer_is ∙ ap (λ o. unless_changed o (view_of r.marks r.nodes r.log r.roots)) none ∙ seen.3, record { is_view = seen.1; reads = reads; order = order }, fell)
+
+  -- a list after the load is not below its changesets
+  pub loaded-below : (ended from : List Op) (v : Numbers) → AreReadBetween x first ended v → IsPrefixOf ended from → IsPrefixOf from last → v.read ≤ x.published from
+  loaded-below ended from v r then on =
+      let c_end = prefix-trans r.changelog r.roots from r.then_roots (prefix-trans r.roots ended from r.to_last then) in
+      let c_begin = prefix-trans first r.dirstate r.changelog (prefix-trans first r.bookmarks r.dirstate r.from_first r.then_dirstate) r.then_changelog in
+      let up = is.rises r.changelog from (record { begins = c_begin; ends = prefix-trans r.changelog from last c_end on }) (record { begins = c_end; ends = on }) in
+      let e = r.read in
+      let p = up.published in
+      omega (arith, e, p)

@@ -1,0 +1,119 @@
+-- The text with a node, its reads at different moments.
+use Rattle.std.proofs.Common.{◌≡◌, ℕ, suc, ◌*◌, ◌<◌, ◌≤◌, List, [], length, true, false, cond, Result, Ok, refl, sym, ◌∙◌, ap, subst, arith, length-append}
+use Rattle.std.specs.Prelude.{unwrap_or}
+use Rattle.hgs_bytes.specs.Bytes.{IsPrefixOf, same}
+use Rattle.hgs_files.specs.declared.op.Op.{Op}
+use Rattle.hgs_files.specs.Tree.{Tree, bytes_at, after_all}
+use Rattle.hgs_index.specs.declared.node.Node.{Node}
+use Rattle.hgs_index.specs.Revision.{Revision}
+use Rattle.hgs_model.specs.History.{node_at, text_at}
+use Rattle.hgs_revlog.specs.declared.fault.Tail.TheVariants.{Until}
+use Rattle.hgs_revlog.specs.Held.{AreWithinLimits}
+use Rattle.hgs_revlog.specs.Load.{loaded}
+use Rattle.hgs_revlog.specs.Log.{Log, place_of}
+use Rattle.hgs_reader.specs.declared.answer.ReadAnswer.{ReadAnswer}
+use Rattle.hgs_reader.specs.Asks.{Asks, answer, at_rest, MayAnswer}
+use Rattle.hgs_reader.specs.Find.{has_node, bytes_until, log_until, text_at_asks, text_asks}
+use Rattle.hgs_reader.specs.Held.{HasText}
+use Rattle.hgs_reader.specs.View.{log_answer, most_pieces}
+use Rattle.hgs_stands.specs.Stands.{HoldsAt}
+use Rattle.hgs_views.specs.Course.{IsBetween}
+use Rattle.hgs_views.specs.Moments.{StaysAt}
+use Rattle.hgs_views.proofs.Basics.{same-refl, prefix-refl, prefix-trans, may-front, rest_then, rest_both}
+use Rattle.hgs_views.proofs.MomentLemmas.{between-later}
+use Rattle.hgs_views.proofs.Below.{TextLaws}
+use Rattle.hgs_views.proofs.OnlyLemmas.{Behind, Only, later-end, split, only-text, text-same, until-one, until-same}
+
+pub stays-later : (start : Tree) (from last : List Op) (store : Tree) (index chunks : List ℕ) (revisions : List Revision) (now : List Op) → IsBetween from last now → StaysAt start from last store index chunks revisions → StaysAt start now last store index chunks revisions
+stays-later start from last store index chunks revisions now at s = record {
+  held = s.held;
+  index_stays = λ later there. s.index_stays later (between-later from last now later at there);
+  chunks_stay = λ later there. s.chunks_stay later (between-later from last now later at there);
+  within = λ later there. s.within later (between-later from last now later at there);
+}
+
+module _ (law : TextLaws) (start : Tree) (from last : List Op) (store : Tree) (index chunks : List ℕ) (revisions : List Revision) (rev : ℕ) (node text : List ℕ) (apart : same index chunks ≡ false) (lt : rev < length revisions) (at : node_at revisions rev ≡ node) (is : text_at revisions rev ≡ text) where
+  -- where the two files of a tree go on from those of the store
+  text-of : (t : Tree) → HoldsAt store index chunks revisions → IsPrefixOf (bytes_at store index) (bytes_at t index) → IsPrefixOf (bytes_at store chunks) (bytes_at t chunks) → AreWithinLimits revisions (bytes_at t chunks) → HasText t index chunks node text
+  text-of t held p q within = law.found t index chunks revisions rev node text (record { index_front = bytes_at store index; data_front = bytes_at store chunks; held = held; index_begins = p; data_begins = q }) within lt at is
+
+  -- the place of the node in the index
+  pub record IsNodeAt (k : ℕ) : Type 0 where
+    pub before : has_node node k (bytes_at store index) ≡ false
+    pub there : has_node node (suc k) (bytes_at store index) ≡ true
+    pub fits : 64 * suc k ≤ length (bytes_at store index)
+
+  node-place : HasText store index chunks node text → (k : ℕ) × IsNodeAt k
+  node-place h =
+      let front = bytes_at store index in
+      let named : Node = record { 0 = node } in
+      let u = law.loads front (bytes_at store chunks) h.revisions named h.held h.ends h.limits in
+      let e = law.last front u.0 named u.1 in
+      (e.0, record { before = e.1; there = e.2; fits = e.3 })
+
+  -- the index as it is in one tree, all else as in another
+
+  -- the log that one tree gives, and the text in another
+  text-then : (t u : Tree) (bytes : List ℕ) (log : Log) → at_rest t (bytes_until index node most_pieces []) ≡ Ok bytes → log_answer index (loaded (Until (record { 0 = node })) bytes) ≡ Ok log
+      → HasText (λ path. cond (same index path) (t path) (u path)) index chunks node text → at_rest u (text_at_asks index chunks log (place_of log.entries node)) ≡ Ok text
+  text-then t u bytes log read loads h =
+      let w : Tree = λ path. cond (same index path) (t path) (u path) in
+      let index_is : w index ≡ t index = ap (λ b. cond b (t index) (u index)) (same-refl index) in
+      let chunks_are : w chunks ≡ u chunks = ap (λ b. cond b (t chunks) (u chunks)) apart in
+      let f : List ℕ → Asks (Result Log ReadAnswer) = λ bytes. answer (log_answer index (loaded (Until (record { 0 = node })) bytes)) in
+      let g : Log → Asks (Result (List ℕ) ReadAnswer) = λ log. text_at_asks index chunks log (place_of log.entries node) in
+      let asked : at_rest w (log_until index node) ≡ Ok log = rest_then w (bytes_until index node most_pieces []) f bytes (until-same w t index node most_pieces [] index_is ∙ read) ∙ loads in
+      text-same u w index chunks log (place_of log.entries node) (sym chunks_are)
+      ∙ sym (rest_then w (log_until index node) g log asked)
+      ∙ law.held w index chunks node text h
+
+  module _ (s : StaysAt start from last store index chunks revisions) where
+    mixed : (now later : List Op) → IsBetween from last now → IsBetween from last later → HasText (λ path. cond (same index path) (after_all now start path) (after_all later start path)) index chunks node text
+    mixed now later a b =
+        let t = after_all now start in
+        let u = after_all later start in
+        let w : Tree = λ path. cond (same index path) (t path) (u path) in
+        let index_is : bytes_at w index ≡ bytes_at t index = ap (λ b. unwrap_or (cond b (t index) (u index)) []) (same-refl index) in
+        let chunks_are : bytes_at w chunks ≡ bytes_at u chunks = ap (λ b. unwrap_or (cond b (t chunks) (u chunks)) []) apart in
+        text-of w s.held (subst (IsPrefixOf (bytes_at store index)) (sym index_is) (s.index_stays now a)) (subst (IsPrefixOf (bytes_at store chunks)) (sym chunks_are) (s.chunks_stay later b)) (subst (AreWithinLimits revisions) (sym chunks_are) (s.within later b))
+
+    in-store : IsBetween from last from → HasText store index chunks node text
+    in-store here =
+        let within = s.within from here in
+        let longer = ap length (s.chunks_stay from here).1 in
+        let joined = length-append (bytes_at store chunks) (s.chunks_stay from here).0 in
+        text-of store s.held (prefix-refl (bytes_at store index)) (prefix-refl (bytes_at store chunks)) (record { few = within.few; texts = within.texts; data_end = (let room = within.data_end in omega (arith, room, longer, joined)) })
+
+    -- the bytes of the index come as from one tree
+    pub bytes-read : (mid : List Op) (r : Result (List ℕ) ReadAnswer) → IsBetween from last from → IsPrefixOf mid last → MayAnswer start from (bytes_until index node most_pieces []) mid r
+        → (now : List Op) × IsBetween from last now × (r ≡ at_rest (after_all now start) (bytes_until index node most_pieces []))
+    bytes-read mid r here on m =
+        let n = node-place (in-store here) in
+        until-one law start index node (bytes_at store index) n.0 n.1.before n.1.there n.1.fits last most_pieces 0 [] from r refl (bytes_at store index, refl) refl s.index_stays
+        (later-end start (bytes_until index node most_pieces []) from mid last r on m)
+
+    -- what was found in the index
+    log-read : (mid : List Op) (r : Result Log ReadAnswer) → IsBetween from last from → IsPrefixOf mid last → MayAnswer start from (log_until index node) mid r
+        → (now : List Op) × IsBetween from last now × (bytes : List ℕ) × (log : Log) × (at_rest (after_all now start) (bytes_until index node most_pieces []) ≡ Ok bytes) × (log_answer index (loaded (Until (record { 0 = node })) bytes) ≡ Ok log) × (r ≡ Ok log)
+    log-read mid r here on m =
+        let f : List ℕ → Asks (Result Log ReadAnswer) = λ bytes. answer (log_answer index (loaded (Until (record { 0 = node })) bytes)) in
+        let g : Log → Asks (Result (List ℕ) ReadAnswer) = λ log. text_at_asks index chunks log (place_of log.entries node) in
+        let p = split start (bytes_until index node most_pieces []) f from mid r m in
+        let b = bytes-read p.0 p.2 here (prefix-trans p.0 mid last p.1.ends on) p.3 in
+        let t = after_all b.0 start in
+        let all : at_rest t (text_asks index chunks node) ≡ Ok text = law.held t index chunks node text (text-of t s.held (s.index_stays b.0 b.1) (s.chunks_stay b.0 b.1) (s.within b.0 b.1)) in
+        let whole = rest_both t (log_until index node) g text all in
+        let part = rest_both t (bytes_until index node most_pieces []) f whole.0 whole.1 in
+        let is : p.2 ≡ Ok part.0 = b.2 ∙ part.1 in
+        let behind = subst (Behind start f p.0 mid r) is p.4 in
+        (b.0, b.1, part.0, whole.0, part.1, part.2, behind.1 ∙ part.2)
+
+    pub text-only : Only start from last (text_asks index chunks node) (Ok text)
+    text-only y m =
+        let g : Log → Asks (Result (List ℕ) ReadAnswer) = λ log. text_at_asks index chunks log (place_of log.entries node) in
+        let here : IsBetween from last from = record { begins = prefix-refl from; ends = may-front (text_asks index chunks node) start from last y m } in
+        let p = split start (log_until index node) g from last y m in
+        let found = log-read p.0 p.2 here p.1.ends p.3 in
+        let behind = subst (Behind start g p.0 last y) found.6 p.4 in
+        only-text start index chunks found.3 (place_of found.3.entries node) (Ok text) p.0 last
+        (λ later at. text-then (after_all found.0 start) (after_all later start) found.2 found.3 found.4 found.5 (mixed found.0 later found.1 (between-later from last p.0 later p.1 at))) y behind

@@ -1,0 +1,5 @@
+pub mod Course
+pub mod Seen
+pub mod Answered
+pub mod Moments
+pub mod Samples
