@@ -14,10 +14,9 @@ import re
 import shutil
 import struct
 import sys
-import tempfile
 
 sys.path.insert(0, os.path.dirname(os.path.abspath(__file__)))
-from make_odd import CONFIG, commands, hg, store_whole, uimod, write  # noqa: E402
+from make_odd import commands, hg, new_repository, write  # noqa: E402
 
 CRATES = os.path.join(os.path.dirname(os.path.abspath(__file__)), "../crates")
 NULL = b"\0" * 20
@@ -25,13 +24,7 @@ NULL = b"\0" * 20
 
 def files_of(make):
     """The files in `.hg` of a new repository in which this was done."""
-    work = tempfile.mkdtemp()
-    os.chdir(work)
-    store_whole()
-    ui = uimod.ui.load()
-    for section, name, value in CONFIG:
-        ui.setconfig(section, name, value)
-    repo = hg.repository(ui, work.encode(), create=True)
+    work, ui, repo = new_repository()
     make(ui, repo)
     files = {}
     for at, _, names in os.walk(work + "/.hg"):

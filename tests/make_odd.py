@@ -116,15 +116,20 @@ def make(ui, repo):
     commands.copy(ui, repo, b"f", b"newname")
 
 
-def main():
-    top = os.path.abspath(sys.argv[1])
+def new_repository():
+    """An empty repository in a new folder, which is the current one then, with the settings for it."""
     work = tempfile.mkdtemp()
     os.chdir(work)
     store_whole()
     ui = uimod.ui.load()
     for section, name, value in CONFIG:
         ui.setconfig(section, name, value)
-    repo = hg.repository(ui, work.encode(), create=True)
+    return work, ui, hg.repository(ui, work.encode(), create=True)
+
+
+def main():
+    top = os.path.abspath(sys.argv[1])
+    work, ui, repo = new_repository()
     make(ui, repo)
     repo = hg.repository(ui, work.encode())
     hg_answers.write_expected(repo, top + "/expected")
