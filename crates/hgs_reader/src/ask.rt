@@ -33,8 +33,8 @@ pub fn read_part<R: Reads>(
     }
 }
 
-// The bytes that a read gave, none where the file isn't there.
-pub(crate) fn bytes_of(part: &Option<Bytes>) -> &[u8]
+/// The bytes that a read gave, none where the file isn't there.
+pub fn bytes_of(part: &Option<Bytes>) -> &[u8]
     ensures { result.now ≡ unwrap_or part.now [] }
 {
     match part {

@@ -36,8 +36,8 @@ const MOST_FILES: u32 = 20_000;
 /// A body with more bytes is refused.
 const MOST_FILE_TEXT: usize = 16_777_216;
 
-// The files of the manifest's revlog.
-fn manifest_paths(alloc: Global) -> Result<RevlogPaths, AllocError>
+/// The files of the manifest's revlog.
+pub fn manifest_paths(alloc: Global) -> Result<RevlogPaths, AllocError>
     ensures { IfOk result (λ paths. (paths.index ≡ manifest_index) × (paths.chunks ≡ manifest_data)) }
 {
     Ok(RevlogPaths {
@@ -56,8 +56,8 @@ fn filelog_paths(alloc: Global, path: &[u8]) -> Result<RevlogPaths, AllocError>
     })
 }
 
-// The manifest of this text.
-fn manifest_from(alloc: Global, index: &StorePath, text: &[u8]) -> Result<Manifest, ReadAnswer>
+/// The manifest of this text.
+pub fn manifest_from(alloc: Global, index: &StorePath, text: &[u8]) -> Result<Manifest, ReadAnswer>
     requires path { index.now ≡ manifest_index }
     requires small { length text.now ≤ most_text }
     ensures manifest { Gives is_of_outside (λ rows. rows) result (rows_answer (read_manifest text.now)) }
@@ -73,8 +73,8 @@ fn manifest_from(alloc: Global, index: &StorePath, text: &[u8]) -> Result<Manife
     Ok(manifest)
 }
 
-// Whether this node stands for no revision.
-pub(crate) fn is_null(node: &Node) -> bool
+/// Whether this node stands for no revision.
+pub fn is_null(node: &Node) -> bool
     ensures { result ≡ same node.now.0 null_node }
 {
     equal(&node.0, &[0; 20])

@@ -166,8 +166,8 @@ fn text_in(
     Ok(StoredText { chunk, from })
 }
 
-// Reads the chunk of a revision, and takes its text.
-fn read_text<R: Reads>(
+/// Reads the chunk of a revision, and takes its text.
+pub fn read_text<R: Reads>(
     alloc: Global,
     files: &mut R,
     paths: &RevlogPaths,

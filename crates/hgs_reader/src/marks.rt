@@ -41,8 +41,8 @@ pub struct WorkingParents {
     pub second: Option<u32>,
 }
 
-// What a fault of a text of bookmarks or of the working parents is.
-fn of_marks(alloc: Global, path: &StorePath, part: Part, fault: MarkFault) -> ReadAnswer
+/// What a fault of a text of bookmarks or of the working parents is.
+pub fn of_marks(alloc: Global, path: &StorePath, part: Part, fault: MarkFault) -> ReadAnswer
     ensures refusal { IsRefusal result (mark_refusal path.now part fault) }
     ensures inner { is_fault result ≡ false }
 {

@@ -1,0 +1,6 @@
+pub mod EndLemmas
+pub mod FoundLemmas
+pub mod IndexLemmas
+pub mod LengthLemmas
+pub mod PartLemmas
+pub mod RestLemmas

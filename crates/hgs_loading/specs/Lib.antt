@@ -1,0 +1,5 @@
+pub mod Found
+pub mod Logs
+pub mod Parent
+pub mod Small
+pub mod Store

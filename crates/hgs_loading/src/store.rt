@@ -1,0 +1,125 @@
+//! What a writer reads of a repository before it plans.
+ghost use Rattle.std.specs.Prelude.{◌≡◌, ◌<◌, false, true, length, IfOk, IfSome};
+ghost use Rattle.hgs_bytes.specs.Answer.{Gives};
+ghost use Rattle.hgs_files.specs.Reads.{Grows};
+ghost use Rattle.hgs_revlog.specs.Loaded.{AreEntries};
+ghost use Rattle.hgs_reader.specs.Answer.{is_of_outside, HasFaultCause, NeverFaults};
+ghost use Rattle.hgs_reader.specs.View.{changelog_index, changelog_data};
+ghost use Rattle.hgs_loading.specs.Found.{Finds};
+ghost use Rattle.hgs_loading.specs.Small.{view_small};
+ghost use Rattle.hgs_loading.specs.Store.{loaded_with, logs_in, loaded_in, view_logs, view_store};
+
+use crate::logs::load_whole;
+use crate::small::{SmallFiles, read_small};
+use hgs_files::files::Reads;
+use hgs_phases::phases::Phases;
+use hgs_reader::answer::ReadAnswer;
+use hgs_reader::contents::manifest_paths;
+use hgs_reader::find::RevlogPaths;
+use hgs_reader::marks::{WorkingNodes, WorkingParents, working_parents_of};
+use hgs_reader::paths::path_of;
+use hgs_revlog::revlog::Revlog;
+use std::alloc::{AllocError, Global};
+
+/// What was read: the small files, the two revlogs, and what follows from these.
+#[derive(Drop)]
+pub struct LoadedStore {
+    pub files: SmallFiles,
+    pub changelog: Revlog,
+    pub manifest: Revlog,
+    /// The changesets that are the working parents.
+    pub working: WorkingParents,
+    /// The phase of each changeset.
+    pub phases: Phases,
+}
+
+/// The changelog and the manifest's revlog.
+#[derive(Drop)]
+pub struct Logs {
+    pub changelog: Revlog,
+    pub manifest: Revlog,
+}
+
+/// The files of the changelog.
+pub fn changelog_paths(alloc: Global) -> Result<RevlogPaths, AllocError>
+    ensures { IfOk result (λ paths. (paths.index ≡ changelog_index) × (paths.chunks ≡ changelog_data)) }
+{
+    Ok(RevlogPaths {
+        index: path_of(alloc, b"store/00changelog.i")?,
+        chunks: path_of(alloc, b"store/00changelog.d")?,
+    })
+}
+
+// What was read, with the working parents and the phases.
+fn history_of(alloc: Global, small: SmallFiles, logs: Logs) -> Result<LoadedStore, ReadAnswer>
+    ensures history { Gives is_of_outside view_store result (loaded_with (view_small small) logs.changelog logs.manifest) }
+    ensures first { IfOk result (λ h. IfSome h.working.first (λ rev. rev < length h.changelog.entries)) }
+    ensures second { IfOk result (λ h. IfSome h.working.second (λ rev. rev < length h.changelog.entries)) }
+    ensures logs { IfOk result (λ h. (h.changelog ≡ logs.changelog) × (h.manifest ≡ logs.manifest)) }
+    ensures phases { IfOk result (λ h. length h.phases ≡ length h.changelog.entries) }
+    ensures inner { NeverFaults result }
+{
+    let Logs {
+        changelog,
+        manifest,
+    } = logs;
+    let nodes = WorkingNodes {
+        p1: small.dirstate.dirstate.p1,
+        p2: small.dirstate.dirstate.p2,
+    };
+    let path = path_of(alloc, b"dirstate")?;
+    let working = match working_parents_of(alloc, &path, &changelog, &nodes) {
+        Ok(working) => working,
+        Err(refusal) => return Err(refusal),
+    };
+    let phases = small.roots.roots.phases_of(alloc, &changelog)?;
+    Ok(LoadedStore {
+        files: small,
+        changelog,
+        manifest,
+        working,
+        phases,
+    })
+}
+
+/// Loads the changelog and the manifest's revlog, in this order, and tests the ends of both data files.
+pub fn load_logs<R: Reads>(alloc: Global, files: &mut R) -> Result<Logs, ReadAnswer>
+    ensures found { Finds view_logs R.alone (R.seen files.new) (R.start files.new) logs_in result }
+    ensures changelog { IfOk result (λ l. AreEntries l.changelog.entries × (l.changelog.inline ≡ false)) }
+    ensures manifest { IfOk result (λ l. AreEntries l.manifest.entries × (l.manifest.inline ≡ false)) }
+    ensures seen { Grows (R.seen files.old) (R.seen files.new) }
+    ensures same_start { R.start files.new ≡ R.start files.old }
+    ensures still { R.alone ≡ true → R.seen files.new ≡ R.seen files.old }
+    ensures cause { HasFaultCause (R.faults files.old) (R.faults files.new) result }
+{
+    let paths = changelog_paths(alloc)?;
+    let tree_paths = manifest_paths(alloc)?;
+    let changelog = load_whole(alloc, files, &paths)?;
+    let manifest = load_whole(alloc, files, &tree_paths)?;
+    Ok(Logs {
+        changelog,
+        manifest,
+    })
+}
+
+/// Reads the small files, the changelog and the manifest's revlog, in this order, and tests the ends of both data files.
+/// That the working parents are in the history is tested last.
+pub fn history<R: Reads>(alloc: Global, files: &mut R) -> Result<LoadedStore, ReadAnswer>
+    ensures found { Finds view_store R.alone (R.seen files.new) (R.start files.new) loaded_in result }
+    ensures changelog { IfOk result (λ h. AreEntries h.changelog.entries × (h.changelog.inline ≡ false)) }
+    ensures manifest { IfOk result (λ h. AreEntries h.manifest.entries × (h.manifest.inline ≡ false)) }
+    ensures first { IfOk result (λ h. IfSome h.working.first (λ rev. rev < length h.changelog.entries)) }
+    ensures second { IfOk result (λ h. IfSome h.working.second (λ rev. rev < length h.changelog.entries)) }
+    ensures phases { IfOk result (λ h. length h.phases ≡ length h.changelog.entries) }
+    ensures seen { Grows (R.seen files.old) (R.seen files.new) }
+    ensures same_start { R.start files.new ≡ R.start files.old }
+    ensures still { R.alone ≡ true → R.seen files.new ≡ R.seen files.old }
+    ensures cause { HasFaultCause (R.faults files.old) (R.faults files.new) result }
+{
+    let small = read_small(alloc, files)?;
+    let logs = load_logs(alloc, files)?;
+    match history_of(alloc, small, logs) {
+        Ok(history) => Ok(history),
+        Err(refusal) => Err(refusal),
+    }
+}
