@@ -21,7 +21,7 @@ use Rattle.hgs_transaction.specs.declared.parts.Parts.{Parts}
 use Rattle.hgs_transaction.specs.declared.parts.Replacing.{Replacing}
 use Rattle.hgs_transaction.specs.Assembled.{IsPlanOf, before_commit, preparing}
 use Rattle.hgs_transaction.specs.Gathered.{Adds, Holds, IsEmpty, IsPlanFrom, backup_puts, prepared, put_with}
-use Rattle.hgs_transaction.specs.Parts.{IsInStore, all_changes, backup_of, change_op, is_in_store, kept_of, lines_of, replacement_of, replacings_of}
+use Rattle.hgs_transaction.specs.Parts.{IsInStore, all_changes, backup_of, change_op, is_in_store, kept_of, length_before, lines_of, replacement_of, replacings_of}
 use Rattle.hgs_transaction.proofs.OwnedLoops.{made, made-length}
 use Rattle.hgs_transaction.proofs.GatherLemmas.{adds-both, backups-sound, puts-same}
 
@@ -66,15 +66,17 @@ undone-same js ls bs cs ks ms ej eb ek = ap (λ j. undo_list j bs ks) ej ∙ ap 
 length-both : (xs : List Op) (changes : List Change) → length xs + length changes ≡ length (xs ++ map change_op changes)
 length-both xs changes = sym (length-append xs (map change_op changes) ∙ ap (λ n. length xs + n) (length-map changes change_op))
 
-pub planned : (p : Parts) (g : Gathered) (plan : Plan) → Holds g (all_changes p) → IsPlanFrom g (length p.before) plan → IsPlanOf p plan
+pub planned : (p : Parts) (g : Gathered) (plan : Plan) → Holds g (all_changes p) → IsPlanFrom g (length p.before) (length_before p.publishing) plan → IsPlanOf p plan
 planned p g plan h made =
     let ready = prepared-parts p g h in
     let done : prepared g ++ g.ops.items ≡ before_commit p = ap (λ o. o ++ g.ops.items) ready ∙ ap (λ o. preparing p ++ o) h.ops in
     record {
       ops = made.ops ∙ ap (λ o. o ++ Remove journal_path ∷ removals) done;
       undo = made.undo ∙ undone-same g.journal.items (lines_of (all_changes p)) g.backups.items (map backup_of (replacings_of (all_changes p))) g.kept.items (map kept_of (replacings_of (all_changes p))) h.journal h.backups h.kept;
+      journal = made.journal ∙ ap (λ o. length o) ready;
       publish = made.publish ∙ ap (λ o. length o + length p.before) ready ∙ length-both (preparing p) p.before;
       commit = made.commit ∙ ap (λ o. length o) done;
+      before = made.before;
     }
 
 -- ---- how many there are
@@ -107,6 +109,13 @@ fits p g h =
     }
 
 -- ---- the lengths of what is made
+
+pub grown-by-one : (n : ℕ) (old new all : List Op) (op : Op) → n ≡ length old → new ≡ old ++ op ∷ [] → new ≡ all → n + 1 ≡ length all
+grown-by-one n old new all op en e ea =
+    let size = length-append old (op ∷ []) in
+    let grown = ap (λ o. length o) e in
+    let same = ap (λ o. length o) ea in
+    omega arith
 
 one-put : (l : BackupLine) (backup bytes : List ℕ) → length (put_with l backup bytes) ≤ 1
 one-put l [] bytes = omega arith

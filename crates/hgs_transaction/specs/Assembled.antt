@@ -1,5 +1,5 @@
 -- The operations of a transaction that is put together of parts, and those that undo it.
-use Rattle.std.specs.Prelude.{◌≡◌, List, [], ◌∷◌, ◌++◌, length, map, flat_map}
+use Rattle.std.specs.Prelude.{◌≡◌, ◌+◌, List, [], ◌∷◌, ◌++◌, length, map, flat_map}
 use Rattle.hgs_files.specs.declared.op.Op.{Op}
 use Rattle.hgs_files.specs.declared.op.Op.TheVariants.{Create, Remove}
 use Rattle.hgs_journal.specs.Names.{backups_path, journal_path}
@@ -10,7 +10,7 @@ use Rattle.hgs_ops.specs.Replaced.{backup_put, new_put}
 use Rattle.hgs_transaction.specs.declared.assemble.Plan.{Plan}
 use Rattle.hgs_transaction.specs.declared.parts.Parts.{Parts}
 use Rattle.hgs_transaction.specs.declared.parts.Replacing.{Replacing}
-use Rattle.hgs_transaction.specs.Parts.{all_changes, backup_of, change_op, kept_of, lines_of, replacement_of, replacings_of}
+use Rattle.hgs_transaction.specs.Parts.{all_changes, backup_of, change_op, kept_of, length_before, lines_of, replacement_of, replacings_of}
 
 -- the backups of the files that stand, and all new texts
 abbrev pub texts_put : List Replacing → List Op
@@ -39,10 +39,12 @@ abbrev pub undo_of : Parts → List Op
 undo_of p =
     undo_list (lines_of (all_changes p)) (map backup_of (replacings_of (all_changes p))) (map kept_of (replacings_of (all_changes p)))
 
--- The plan of these parts: its operations, those that undo it, and the places of the publishing operation and of the
--- journal's removal.
+-- The plan of these parts: its operations, those that undo it, the places of the journal's creation, which is the last of what
+-- is prepared, of the publishing operation and of the journal's removal, and the length before of the file that is published.
 pub record IsPlanOf (p : Parts) (plan : Plan) : Type 0 where
   pub ops : plan.ops.items ≡ ops_of p
   pub undo : plan.undo.items ≡ undo_of p
+  pub journal : plan.journal + 1 ≡ length (preparing p)
   pub publish : plan.publish ≡ length (before_publishing p)
   pub commit : plan.commit ≡ length (before_commit p)
+  pub before : plan.before ≡ length_before p.publishing

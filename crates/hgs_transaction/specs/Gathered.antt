@@ -54,9 +54,11 @@ prepared g =
     (backup_puts g.backups.items g.kept.items ++ g.texts.items)
     ++ Create backups_path (backups_text g.backups.items) ∷ Create journal_path (journal_text g.journal.items) ∷ []
 
--- the plan of what was gathered, published behind so many changes
-pub record IsPlanFrom (g : Gathered) (published : ℕ) (plan : Plan) : Type 0 where
+-- the plan of what was gathered, published behind so many changes by an append to a file of so many bytes, or by a rename
+pub record IsPlanFrom (g : Gathered) (published was : ℕ) (plan : Plan) : Type 0 where
   pub ops : plan.ops.items ≡ (prepared g ++ g.ops.items) ++ Remove journal_path ∷ removals
   pub undo : plan.undo.items ≡ undo_list g.journal.items g.backups.items g.kept.items
+  pub journal : plan.journal + 1 ≡ length (prepared g)
   pub publish : plan.publish ≡ length (prepared g) + published
   pub commit : plan.commit ≡ length (prepared g ++ g.ops.items)
+  pub before : plan.before ≡ was

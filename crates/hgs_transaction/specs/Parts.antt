@@ -34,6 +34,11 @@ abbrev pub is_in_store : Change → Bool
 is_in_store (Append a) = begins_with a.path (codes "store/")
 is_in_store (Replace x) = true
 
+-- the length before of a file that is appended to, 0 of one that is replaced
+abbrev pub length_before : Change → ℕ
+length_before (Append a) = a.before
+length_before (Replace x) = 0
+
 -- the path is that of its name in the store
 abbrev pub IsInStore : Change → Type 0
 IsInStore (Append a) = in_store (drop 6 a.path) ≡ a.path

@@ -24,20 +24,29 @@ pub struct Plan {
     pub ops: Vec<Op>,
     /// The operations that undo it, by the bytes that its writer has; the removals behind them are not among these.
     pub undo: Vec<Op>,
+    /// The place of the journal's creation in `ops`.
+    pub journal: u32,
     /// The place of the publishing operation in `ops`.
     pub publish: u32,
     /// The place of the journal's removal in `ops`.
     pub commit: u32,
+    /// The length before of the file that the publishing operation appends to, 0 where it is a rename.
+    pub before: u64,
 }
 
-/// The plan of what was gathered, published behind so many changes.
-fn plan_of(alloc: Global, gathered: Gathered, published: usize) -> Result<Plan, AllocError>
+/// The plan of what was gathered, published behind so many changes, by an append to a file of so many bytes or by a rename.
+fn plan_of(
+    alloc: Global,
+    gathered: Gathered,
+    published: usize,
+    before: u64,
+) -> Result<Plan, AllocError>
     requires paths { All HasPath gathered.journal.items }
     requires backups { All IsBackupLine gathered.backups.items }
     requires kept { length gathered.kept.items ≡ length gathered.backups.items }
     requires few { length gathered.kept.items + length gathered.texts.items + length gathered.ops.items < 2 ^ 32 - 2 ^ 29 }
     requires published { published ≤ length gathered.ops.items }
-    ensures { IfOk result (λ plan. IsPlanFrom gathered published plan) }
+    ensures { IfOk result (λ plan. IsPlanFrom gathered published before plan) }
 {
     let Gathered {
         journal,
@@ -60,6 +69,7 @@ fn plan_of(alloc: Global, gathered: Gathered, published: usize) -> Result<Plan, 
     add_backups(alloc, backups.lines.as_slice(), kept, &mut ops)?;
     extend(texts, &mut ops)?;
     add_list(alloc, &backups, &mut ops)?;
+    let journal_place = ops.len() as u32;
     add_journal(alloc, &journal, &mut ops)?;
     let publish = (ops.len() + published) as u32;
     extend(changes, &mut ops)?;
@@ -68,8 +78,10 @@ fn plan_of(alloc: Global, gathered: Gathered, published: usize) -> Result<Plan, 
     Ok(Plan {
         ops,
         undo,
+        journal: journal_place,
         publish,
         commit,
+        before,
     })
 }
 
@@ -103,6 +115,7 @@ pub fn assemble(alloc: Global, parts: Parts) -> Result<Plan, AllocError>
     ensures { IfOk result (λ plan. IsPlanOf parts plan) }
 {
     let published = parts.before.len();
+    let before = parts.publishing.length_before();
     let gathered = gather(alloc, parts)?;
-    plan_of(alloc, gathered, published)
+    plan_of(alloc, gathered, published, before)
 }

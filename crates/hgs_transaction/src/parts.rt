@@ -1,7 +1,7 @@
 //! What a transaction is put together from: the changes of files, in their order.
 ghost use Rattle.std.specs.Prelude.{◌≡◌, length};
 ghost use Rattle.std.specs.List.{list_all};
-ghost use Rattle.hgs_transaction.specs.Parts.{file_name, is_in_store, is_plain};
+ghost use Rattle.hgs_transaction.specs.Parts.{file_name, is_in_store, is_plain, length_before};
 
 use hgs_bytes::bytes::Bytes;
 use hgs_bytes::parts::starts;
@@ -72,6 +72,16 @@ impl Change {
         match self {
             Change::Append(appending) => starts(appending.path.bytes(), b"store/"),
             Change::Replace(_) => true,
+        }
+    }
+
+    /// The length before of the file that is appended to, 0 for a file that is replaced.
+    pub fn length_before(&self) -> u64
+        ensures { result ≡ length_before self.now }
+    {
+        match self {
+            Change::Append(appending) => appending.before,
+            Change::Replace(_) => 0,
         }
     }
 }

@@ -1,9 +1,11 @@
-use Rattle.std.proofs.Common.{◌≡◌, ◌+◌, ◌∷◌, ◌++◌, length, ap, ◌∙◌, arith, length-append}
-use Rattle.hgs_files.specs.declared.op.Op.TheVariants.{Remove}
+use Rattle.std.proofs.Common.{[], refl, ◌≡◌, ◌+◌, ◌∷◌, ◌++◌, length, ap, ◌∙◌, arith, length-append}
+use Rattle.hgs_files.specs.declared.op.Op.{Op}
+use Rattle.hgs_files.specs.declared.op.Op.TheVariants.{Create, Remove}
 use Rattle.hgs_journal.specs.Names.{journal_path}
+use Rattle.hgs_journal.specs.Texts.{journal_text}
 use Rattle.hgs_ops.specs.Operations.{removals}
 use Rattle.hgs_transaction.specs.Gathered.{prepared}
-use Rattle.hgs_transaction.proofs.PlanLemmas.{ready, ready-most, undone-same}
+use Rattle.hgs_transaction.proofs.PlanLemmas.{grown-by-one, ready, ready-most, undone-same}
 use Rattle.hgs_transaction.proofs.assemble.plan_of.Goals as goal
 
 pub overflow_add-publish : goal.overflow_add-publish
@@ -16,6 +18,14 @@ pub overflow_cast-publish : goal.overflow_cast-publish
 overflow_cast-publish c =
     let most = ready-most c.args.gathered c.add_journal.new.ops.items (ready c.args.gathered c.new-ops.result.items c.add_backups.new.ops.items c.extend.new.ops.items c.add_list.new.ops.items c.add_journal.new.ops.items c.as_slice.result.now c.from_vec-backup_lines.result c.from_vec-journal_lines.result c.new-ops.ensures.items c.as_slice.ensures c.from_vec-backup_lines.ensures c.from_vec-journal_lines.ensures c.in_ok-add_backups.ensures c.in_ok-extend.ensures c.in_ok-add_list.ensures c.in_ok-add_journal.ensures) in
     let len = c.len.ensures in
+    omega arith
+
+pub overflow_cast-journal_place : goal.overflow_cast-journal_place
+overflow_cast-journal_place c =
+    let made : Op = Create journal_path (journal_text c.from_vec-journal_lines.result) in
+    let most = ready-most c.args.gathered (c.add_list.new.ops.items ++ made ∷ []) (ready c.args.gathered c.new-ops.result.items c.add_backups.new.ops.items c.extend.new.ops.items c.add_list.new.ops.items (c.add_list.new.ops.items ++ made ∷ []) c.as_slice.result.now c.from_vec-backup_lines.result c.from_vec-journal_lines.result c.new-ops.ensures.items c.as_slice.ensures c.from_vec-backup_lines.ensures c.from_vec-journal_lines.ensures c.in_ok-add_backups.ensures c.in_ok-extend.ensures c.in_ok-add_list.ensures refl) in
+    let len = c.len-journal_place.ensures in
+    let both = length-append c.add_list.new.ops.items (made ∷ []) in
     omega arith
 
 pub overflow_cast-commit : goal.overflow_cast-commit
@@ -35,6 +45,8 @@ returns c =
     record {
       ops = c.in_ok-add_removals.ensures ∙ ap (λ o. o ++ Remove journal_path ∷ removals) all;
       undo = c.in_ok-undo.ensures ∙ undone-same c.from_vec-journal_lines.result c.args.gathered.journal.items c.from_vec-backup_lines.result c.args.gathered.backups.items c.deref.result.now c.args.gathered.kept.items c.from_vec-journal_lines.ensures c.from_vec-backup_lines.ensures c.deref.ensures.value;
+      journal = grown-by-one c.len-journal_place.result c.add_list.new.ops.items c.add_journal.new.ops.items (prepared c.args.gathered) (Create journal_path (journal_text c.from_vec-journal_lines.result)) (omega arith) c.in_ok-add_journal.ensures done;
       publish = ap (λ n. n + c.args.published) (len ∙ ap (λ o. length o) done);
       commit = len-all ∙ ap (λ o. length o) all;
+      before = refl;
     }

@@ -1,0 +1,12 @@
+pub mod Lists
+pub mod Pieces
+pub mod Stages
+pub mod Replied
+pub mod Feeding
+pub mod Trees
+pub mod Publishing
+pub mod Sized
+pub mod Ending
+pub mod Carrying
+pub mod Locking
+pub mod Plans

@@ -1,0 +1,26 @@
+use Rattle.std.proofs.Common.{[], ◌∷◌, subst}
+use Rattle.hgs_files.specs.declared.op.Op.TheVariants.{Remove}
+use Rattle.hgs_machine.specs.Course.{lock_removals}
+use Rattle.hgs_machine.specs.Locks.{AreRemoved}
+use Rattle.hgs_machine.proofs.Locking.{removed-both, removed-some, then}
+use Rattle.hgs_machine.proofs.locks.Locks.release.Goals as goal
+
+pub returns-then-lock-clause-log : goal.returns-then-lock-clause-log
+returns-then-lock-clause-log g c =
+    let locks = c.args.self.now in
+    let lock = c.remove-lock.result in
+    let wlock = c.remove-wlock.result in
+    then (g.F.Files.log c.args.files.now) (g.F.Files.log c.remove-lock.new.files) (g.F.Files.log c.remove-wlock.new.files) (g.F.Reads.start c.args.files.now) (g.F.Reads.start c.remove-lock.new.files)
+    (λ t. AreRemoved (Remove locks.lock ∷ []) lock) (λ t. AreRemoved (Remove locks.wlock ∷ []) wlock) (λ t. AreRemoved lock_removals wlock) c.remove-lock.ensures.same_start
+    (λ t a b h k. removed-both lock wlock a b (subst (λ p. AreRemoved (Remove p ∷ []) lock a) locks.lock_is h) (subst (λ p. AreRemoved (Remove p ∷ []) wlock b) locks.wlock_is k) c.if-lock.true)
+    c.remove-lock.ensures.log c.remove-wlock.ensures.log
+
+pub returns-else-lock-clause-log : goal.returns-else-lock-clause-log
+returns-else-lock-clause-log g c =
+    let locks = c.args.self.now in
+    let lock = c.remove-lock.result in
+    let wlock = c.remove-wlock.result in
+    then (g.F.Files.log c.args.files.now) (g.F.Files.log c.remove-lock.new.files) (g.F.Files.log c.remove-wlock.new.files) (g.F.Reads.start c.args.files.now) (g.F.Reads.start c.remove-lock.new.files)
+    (λ t. AreRemoved (Remove locks.lock ∷ []) lock) (λ t. AreRemoved (Remove locks.wlock ∷ []) wlock) (λ t. AreRemoved lock_removals lock) c.remove-lock.ensures.same_start
+    (λ t a b h k. removed-some lock wlock a b (subst (λ p. AreRemoved (Remove p ∷ []) lock a) locks.lock_is h) (subst (λ p. AreRemoved (Remove p ∷ []) wlock b) locks.wlock_is k) c.if-lock.false)
+    c.remove-lock.ensures.log c.remove-wlock.ensures.log

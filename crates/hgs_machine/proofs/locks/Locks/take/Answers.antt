@@ -1,0 +1,52 @@
+use Rattle.std.proofs.Common.{true, [], ◌∷◌, Ok, Err}
+use Rattle.hgs_files.specs.declared.op.Op.TheVariants.{Remove}
+use Rattle.hgs_ops.specs.Operations.{wlock_path}
+use Rattle.hgs_machine.specs.Carry.{tree_now}
+use Rattle.hgs_machine.specs.Course.{lock_removals}
+use Rattle.hgs_machine.specs.Locks.{AreLocked, AreRemoved, Looks, Makes, TakesLocks}
+use Rattle.hgs_machine.proofs.Locking.{Pair, as-well, barred-first, lock-abandoned, lock-barred, locks-made, named, pair, then}
+use Rattle.hgs_machine.proofs.locks.Locks.take.Goals as goal
+
+pub returns-in-Err-clause-log : goal.returns-in-Err-clause-log
+returns-in-Err-clause-log g c =
+    let locks = c.args.self.now in
+    let who = c.args.who.now in
+    let t = tree_now (g.F.Files.log c.args.files.now) (g.F.Reads.start c.args.files.now) in
+    as-well (g.F.Files.log c.args.files.now) (g.F.Files.log c.make.new.files) (Makes locks.wlock who t (Err c.in-Err.why)) (TakesLocks {T = Unit {0}} who t (Err (record { why = c.in-Err.why; swept = true })))
+    (λ done h. barred-first who t c.in-Err.why done (named locks.wlock wlock_path who t (Err c.in-Err.why) done locks.wlock_is h)) c.in-Err.ensures.log
+
+pub returns-in-Err-make-clause-log : goal.returns-in-Err-make-clause-log
+returns-in-Err-make-clause-log g c =
+    let locks = c.args.self.now in
+    let who = c.args.who.now in
+    let why = c.in-Err-make.why in
+    let swept = c.remove-swept.result in
+    then (g.F.Files.log c.args.files.now) (g.F.Files.log c.make.new.files) (g.F.Files.log c.remove-swept.new.files) (g.F.Reads.start c.args.files.now) (g.F.Reads.start c.make.new.files)
+    (λ t. Makes locks.wlock who t (Ok tt)) (Pair (λ t. Makes locks.lock who t (Err why)) (λ t. AreRemoved (Remove locks.wlock ∷ []) swept)) (λ t. TakesLocks {T = Unit {0}} who t (Err (record { why = why; swept = swept }))) c.make.ensures.same_start
+    (λ t a d h k. lock-barred who locks.wlock locks.lock t why swept a d locks.wlock_is locks.lock_is h k) c.in_default.ensures.log
+    (pair (g.F.Files.log c.make.new.files) (g.F.Files.log c.make-2.new.files) (g.F.Files.log c.remove-swept.new.files) (g.F.Reads.start c.make.new.files) (g.F.Reads.start c.make-2.new.files)
+    (λ t. Makes locks.lock who t (Err why)) (λ t. AreRemoved (Remove locks.wlock ∷ []) swept) c.make-2.ensures.same_start c.in-Err-make.ensures.log c.remove-swept.ensures.log)
+
+pub returns-in-Err-look-clause-log : goal.returns-in-Err-look-clause-log
+returns-in-Err-look-clause-log g c =
+    let locks = c.args.self.now in
+    let who = c.args.who.now in
+    let why = c.in-Err-look.why in
+    let swept = c.release-swept.result in
+    then (g.F.Files.log c.args.files.now) (g.F.Files.log c.make.new.files) (g.F.Files.log c.release-swept.new.files) (g.F.Reads.start c.args.files.now) (g.F.Reads.start c.make.new.files)
+    (λ t. Makes locks.wlock who t (Ok tt)) (Pair (λ t. Makes locks.lock who t (Ok tt)) (Pair (λ t. Looks t (Err why)) (λ t. AreRemoved lock_removals swept))) (λ t. TakesLocks {T = Unit {0}} who t (Err (record { why = why; swept = swept }))) c.make.ensures.same_start
+    (λ t a d h k. lock-abandoned who locks.wlock locks.lock t why swept a d locks.wlock_is locks.lock_is h k) c.in_default.ensures.log
+    (pair (g.F.Files.log c.make.new.files) (g.F.Files.log c.make-2.new.files) (g.F.Files.log c.release-swept.new.files) (g.F.Reads.start c.make.new.files) (g.F.Reads.start c.make-2.new.files)
+    (λ t. Makes locks.lock who t (Ok tt)) (Pair (λ t. Looks t (Err why)) (λ t. AreRemoved lock_removals swept)) c.make-2.ensures.same_start c.in_default-make.ensures.log
+    (pair (g.F.Files.log c.make-2.new.files) (g.F.Files.log c.look.new.files) (g.F.Files.log c.release-swept.new.files) (g.F.Reads.start c.make-2.new.files) (g.F.Reads.start c.look.new.files)
+    (λ t. Looks t (Err why)) (λ t. AreRemoved lock_removals swept) c.look.ensures.same_start c.in-Err-look.ensures.log c.release-swept.ensures.log))
+
+pub returns-clause-log : goal.returns-clause-log
+returns-clause-log g c =
+    let locks = c.args.self.now in
+    let who = c.args.who.now in
+    then (g.F.Files.log c.args.files.now) (g.F.Files.log c.make.new.files) (g.F.Files.log c.look.new.files) (g.F.Reads.start c.args.files.now) (g.F.Reads.start c.make.new.files)
+    (λ t. Makes locks.wlock who t (Ok tt)) (Pair (λ t. Makes locks.lock who t (Ok tt)) (λ t. Looks t (Ok tt))) (λ t. AreLocked who t) c.make.ensures.same_start
+    (λ t a d h k. locks-made who locks.wlock locks.lock t a d locks.wlock_is locks.lock_is h k) c.in_default.ensures.log
+    (pair (g.F.Files.log c.make.new.files) (g.F.Files.log c.make-2.new.files) (g.F.Files.log c.look.new.files) (g.F.Reads.start c.make.new.files) (g.F.Reads.start c.make-2.new.files)
+    (λ t. Makes locks.lock who t (Ok tt)) (λ t. Looks t (Ok tt)) c.make-2.ensures.same_start c.in_default-make.ensures.log c.in_default-look.ensures.log)

@@ -1,0 +1,50 @@
+use Rattle.std.proofs.Common.{◌++◌, arith}
+use Rattle.std.proofs.lemmas.Option.{slice_get_within}
+use Rattle.hgs_machine.specs.declared.ended.Short.TheVariants.{Fault}
+use Rattle.hgs_machine.specs.declared.machine.Reply.TheVariants.{Failed}
+use Rattle.hgs_machine.specs.declared.machine.Stage.TheVariants.{Preparing, Beginning, Working, Publishing, Asking, Finishing, Undoing, Dropping, Sweeping, Removing}
+use Rattle.hgs_machine.proofs.Feeding.{asking-not, begins-not, drops-not, finishes-not, gives-up, passes-failed, sweeps, undoes-not, works-stopped}
+use Rattle.hgs_machine.proofs.Publishing.{unpublished}
+use Rattle.hgs_machine.proofs.Pieces.{done-in-part}
+use Rattle.hgs_machine.proofs.Replied.{at-stage, either, fewer-at, fits-at, is-gone, is-here}
+use Rattle.hgs_machine.proofs.machine.Machine.feed_failed.Goals as goal
+
+pub returns-in-Preparing-clause-steps : goal.returns-in-Preparing-clause-steps
+returns-in-Preparing-clause-steps c = λ t log more h r.
+    sweeps t c.args.self.now c.sweep.new.self Fault (log ++ more) c.sweep.ensures h.planned (gives-up t c.args.self.now Failed log more c.in-Preparing.is h (λ op. done-in-part op more) (at-stage _ c.args.self.now Preparing Failed more c.in-Preparing.is tt r))
+
+pub returns-in-Beginning-clause-steps : goal.returns-in-Beginning-clause-steps
+returns-in-Beginning-clause-steps c = λ t log more h r.
+    begins-not t c.args.self.now c.drop_journal.new.self log more c.in-Beginning.is c.drop_journal.ensures h (at-stage _ c.args.self.now Beginning Failed more c.in-Beginning.is tt r)
+
+pub returns-in-Beginning-clause-fewer : goal.returns-in-Beginning-clause-fewer
+returns-in-Beginning-clause-fewer c = fewer-at c.args.self.now c.drop_journal.new.self _ Beginning c.in-Beginning.is c.drop_journal.ensures (let at = fits-at c.args.self.now Beginning Failed c.in-Beginning.is c.requires in let within = slice_get_within c.args.self.now.plan.ops.items c.args.self.now.done at.0 at.1 in omega arith)
+
+pub returns-in-Working-clause-steps : goal.returns-in-Working-clause-steps
+returns-in-Working-clause-steps c = λ t log more h r.
+    either c.in-Working.is (λ e. works-stopped t c.args.self.now c.undo.new.self Fault Failed log more e c.undo.ensures tt (λ op. done-in-part op more) h (at-stage _ c.args.self.now Working Failed more e tt r)) (λ e. asking-not _ t c.args.self.now Failed log more e h tt r)
+
+pub returns-in-Working-clause-fewer : goal.returns-in-Working-clause-fewer
+returns-in-Working-clause-fewer c = either c.in-Working.is (λ e. let at = fits-at c.args.self.now Working Failed e c.requires in let within = slice_get_within c.args.self.now.plan.ops.items c.args.self.now.done at.0 at.1 in fewer-at c.args.self.now c.undo.new.self _ Working e c.undo.ensures (omega arith)) (λ e. let at = fits-at c.args.self.now Asking Failed e c.requires in let within = slice_get_within c.args.self.now.plan.ops.items c.args.self.now.done at.0 at.1 in fewer-at c.args.self.now c.undo.new.self _ Asking e c.undo.ensures (omega arith))
+
+pub returns-in-Publishing-clause-steps : goal.returns-in-Publishing-clause-steps
+returns-in-Publishing-clause-steps c = λ t log more h r.
+    unpublished t c.args.self.now c.unpublished.new.self log more c.in-Publishing.is c.unpublished.ensures.append c.unpublished.ensures.rename h (at-stage _ c.args.self.now Publishing Failed more c.in-Publishing.is tt r)
+
+pub returns-in-Finishing-clause-steps : goal.returns-in-Finishing-clause-steps
+returns-in-Finishing-clause-steps c = λ t log more h r.
+    finishes-not t c.args.self.now c.sweep-in-Finishing.new.self log more c.in-Finishing.is c.sweep-in-Finishing.ensures h (at-stage _ c.args.self.now Finishing Failed more c.in-Finishing.is tt r)
+
+pub returns-in-Undoing-clause-steps : goal.returns-in-Undoing-clause-steps
+returns-in-Undoing-clause-steps c = λ t log more h r.
+    either c.in-Undoing.is (λ e. undoes-not t c.args.self.now c.sweep-in-Undoing.new.self log more e c.sweep-in-Undoing.ensures h (at-stage _ c.args.self.now Undoing Failed more e tt r)) (λ e. drops-not t c.args.self.now c.sweep-in-Undoing.new.self log more e c.sweep-in-Undoing.ensures h (at-stage _ c.args.self.now Dropping Failed more e tt r))
+
+pub returns-in-Undoing-clause-fewer : goal.returns-in-Undoing-clause-fewer
+returns-in-Undoing-clause-fewer c = either c.in-Undoing.is (λ e. let at = fits-at c.args.self.now Undoing Failed e c.requires in let within = slice_get_within c.args.self.now.plan.undo.items c.args.self.now.place at.0 at.1 in fewer-at c.args.self.now c.sweep-in-Undoing.new.self _ Undoing e c.sweep-in-Undoing.ensures (omega arith)) (λ e. fewer-at c.args.self.now c.sweep-in-Undoing.new.self _ Dropping e c.sweep-in-Undoing.ensures (omega arith))
+
+pub returns-in-Sweeping-clause-steps : goal.returns-in-Sweeping-clause-steps
+returns-in-Sweeping-clause-steps c = λ t log more h r.
+    either c.in-Sweeping.is (λ e. let at = at-stage _ c.args.self.now Sweeping Failed more e tt r in passes-failed t c.args.self.now c.pass.new.self at.op log more h.planned (is-here t c.args.self.now Sweeping log e h) (is-gone t c.args.self.now Sweeping log e h) at.there at.leaves c.pass.ensures) (λ e. let at = at-stage _ c.args.self.now Removing Failed more e tt r in passes-failed t c.args.self.now c.pass.new.self at.op log more h.planned (is-here t c.args.self.now Removing log e h) (is-gone t c.args.self.now Removing log e h) at.there at.leaves c.pass.ensures)
+
+pub returns-in-Sweeping-clause-fewer : goal.returns-in-Sweeping-clause-fewer
+returns-in-Sweeping-clause-fewer c = either c.in-Sweeping.is (λ e. let at = fits-at c.args.self.now Sweeping Failed e c.requires in let within = slice_get_within c.args.self.now.plan.ops.items c.args.self.now.place at.0 at.1 in fewer-at c.args.self.now c.pass.new.self _ Sweeping e c.pass.ensures (omega arith)) (λ e. let at = fits-at c.args.self.now Removing Failed e c.requires in let within = slice_get_within c.args.self.now.plan.ops.items c.args.self.now.place at.0 at.1 in fewer-at c.args.self.now c.pass.new.self _ Removing e c.pass.ensures (omega arith))
