@@ -1,0 +1,11 @@
+pub mod Basics
+pub mod EntryLemmas
+pub mod ViewLemmas
+pub mod MarkLemmas
+pub mod NameLemmas
+pub mod RootsLemmas
+pub mod AnswerLemmas
+pub mod CommitLemmas
+pub mod MovedLemmas
+pub mod NamedLemmas
+pub mod PlannedLemmas
