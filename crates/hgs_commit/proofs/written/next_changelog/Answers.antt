@@ -1,0 +1,5 @@
+use Rattle.hgs_commit.proofs.PushLemmas.{push_counts}
+use Rattle.hgs_commit.proofs.written.next_changelog.Goals as goal
+
+pub returns-in-Ok : goal.returns-in-Ok
+returns-in-Ok c = push_counts c.args.loaded.now.changelog c.in_ok-changelog.changelog c.push.new.self c.args.entry.now c.in_ok-changelog.ensures c.in-Ok.ensures.ok

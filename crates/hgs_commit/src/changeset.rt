@@ -1,0 +1,138 @@
+//! The texts of a commit's manifest and changeset, and what they become.
+ghost use Rattle.std.specs.Prelude.{◌≡◌, ◌<◌, ◌^◌, true, false, is_some, length, IfOk, IfSome};
+ghost use Rattle.hgs_reader.specs.Answer.{HasFaultCause};
+ghost use Rattle.hgs_reader.specs.View.{changelog_index};
+ghost use Rattle.hgs_reader.specs.Contents.{manifest_index};
+ghost use Rattle.hgs_revlog.specs.Loaded.{AreEntries};
+ghost use Rattle.hgs_commit.specs.Hindered.{is_met};
+ghost use Rattle.hgs_commit.specs.Pushed.{AppendsTo, Pushes};
+ghost use Rattle.hgs_commit.specs.Revised.{is_standing};
+
+use crate::appended::Growth;
+use crate::filelogs::revise_in;
+use crate::grow::growth_in;
+use crate::growth::Became;
+use crate::hindrance::Hindrances;
+use hgs_bytes::bytes::Bytes;
+use hgs_bytes::names::Names;
+use hgs_changelog::text::ChangeText;
+use hgs_files::files::Reads;
+use hgs_index::node::Node;
+use hgs_loading::store::changelog_paths;
+use hgs_manifest::manifest::Manifest;
+use hgs_model::command::NewChange;
+use hgs_reader::answer::ReadAnswer;
+use hgs_reader::contents::manifest_paths;
+use hgs_revlog::revlog::Revlog;
+use std::alloc::{AllocError, Global};
+
+/// What the text of a new manifest or changeset became.
+#[derive(Drop)]
+pub struct NewText {
+    pub node: Node,
+    /// The revision that it is already.
+    pub standing: Option<u32>,
+    pub growth: Option<Growth>,
+}
+
+/// What a manifest of these rows becomes.
+pub fn new_manifest<R: Reads>(
+    alloc: Global,
+    files: &mut R,
+    manifest: &Revlog,
+    rows: &Manifest,
+    parents: (Option<u32>, Option<u32>),
+    link: u32,
+    met: &mut Hindrances,
+) -> Result<NewText, ReadAnswer>
+    requires entries { AreEntries manifest.now.entries }
+    requires separate { manifest.now.inline ≡ false }
+    requires first { IfSome parents.0 (λ rev. rev < length manifest.now.entries) }
+    requires second { IfSome parents.1 (λ rev. rev < length manifest.now.entries) }
+    requires link { link < 2 ^ 31 }
+    ensures index { IfOk result (λ text. AppendsTo manifest_index manifest.now text.growth) }
+    ensures same_start { R.start files.new ≡ R.start files.old }
+    ensures still { R.alone ≡ true → R.seen files.new ≡ R.seen files.old }
+    ensures cause { HasFaultCause (R.faults files.old) (R.faults files.new) result }
+{
+    let mut text = Vec::new(alloc);
+    rows.print(&mut text)?;
+    let paths = manifest_paths(alloc)?;
+    let (p1, p2) = parents;
+    let revised = revise_in(alloc, files, &paths, manifest, &text, p1, p2, link)?;
+    let node = revised.node;
+    let growth = growth_in(alloc, paths, manifest, revised, met)?;
+    Ok(NewText {
+        node,
+        standing: None,
+        growth,
+    })
+}
+
+// The text of the changeset.
+fn change_text(
+    alloc: Global,
+    manifest: Node,
+    change: &NewChange,
+    changed: Names,
+) -> Result<Vec<u8>, AllocError> {
+    let told = ChangeText {
+        manifest,
+        user: change.user.copy(alloc)?,
+        seconds: change.seconds,
+        offset: change.offset,
+        extras: Bytes::new(alloc),
+        files: changed,
+        description: change.description.copy(alloc)?,
+    };
+    let mut text = Vec::new(alloc);
+    told.print(&mut text)?;
+    Ok(text)
+}
+
+// The revision that a text is already.
+fn standing_rev(became: &Became) -> Option<u32>
+    ensures { is_some result ≡ is_standing became.now }
+{
+    match became {
+        Became::Standing(rev) => Some(*rev),
+        _ => None,
+    }
+}
+
+/// What the changeset becomes that has this manifest and these changed paths.
+pub fn new_changeset<R: Reads>(
+    alloc: Global,
+    files: &mut R,
+    changelog: &Revlog,
+    change: &NewChange,
+    parents: (Option<u32>, Option<u32>),
+    manifest: Node,
+    changed: Names,
+    met: &mut Hindrances,
+) -> Result<NewText, ReadAnswer>
+    requires entries { AreEntries changelog.now.entries }
+    requires separate { changelog.now.inline ≡ false }
+    requires first { IfSome parents.0 (λ rev. rev < length changelog.now.entries) }
+    requires second { IfSome parents.1 (λ rev. rev < length changelog.now.entries) }
+    ensures pushes { IfOk result (λ text. Pushes changelog.now text.growth) }
+    ensures index { IfOk result (λ text. AppendsTo changelog_index changelog.now text.growth) }
+    ensures lacking { IfOk result (λ text. is_some text.growth ≡ false → is_some text.standing ≡ false → is_met met.new ≡ true) }
+    ensures same_start { R.start files.new ≡ R.start files.old }
+    ensures still { R.alone ≡ true → R.seen files.new ≡ R.seen files.old }
+    ensures cause { HasFaultCause (R.faults files.old) (R.faults files.new) result }
+{
+    let text = change_text(alloc, manifest, change, changed)?;
+    let paths = changelog_paths(alloc)?;
+    let (p1, p2) = parents;
+    let link = changelog.len();
+    let revised = revise_in(alloc, files, &paths, changelog, &text, p1, p2, link)?;
+    let node = revised.node;
+    let standing = standing_rev(&revised.became);
+    let growth = growth_in(alloc, paths, changelog, revised, met)?;
+    Ok(NewText {
+        node,
+        standing,
+        growth,
+    })
+}
