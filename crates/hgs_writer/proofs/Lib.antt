@@ -1,0 +1,4 @@
+pub mod LengthLemmas
+pub mod PlanLemmas
+pub mod SoundLemmas
+pub mod StepLemmas

@@ -1,0 +1,9 @@
+//! Commands carried out over the files of a repository.
+#![tactic(auto)]
+
+pub mod answers;
+pub mod laws;
+pub mod plan;
+#[cfg(test)]
+mod tests;
+pub mod write;

@@ -1,0 +1,61 @@
+//! A command that writes.
+ghost use Rattle.std.specs.Prelude.{◌≡◌, ◌≤◌, ◌⊎◌, List, length};
+ghost use Rattle.hgs_answers.specs.declared.outcome.Outcome.TheVariants.{Fault, Unfinished};
+ghost use Rattle.hgs_answers.specs.declared.outcome.Published.{Published};
+ghost use Rattle.hgs_files.specs.declared.op.Op.{Op};
+ghost use Rattle.hgs_files.specs.Reads.{Rose};
+ghost use Rattle.std.specs.Option.{ForSome};
+ghost use Rattle.hgs_files.specs.Tree.{after_all};
+ghost use Rattle.hgs_machine.specs.Planned.{IsPlanned};
+ghost use Rattle.hgs_model.specs.Valid.{IsValid};
+
+use crate::answers::{of_commit, of_ended, of_locks};
+use crate::plan::{Planned, plan};
+use hgs_answers::answer::Answer;
+use hgs_files::files::Files;
+use hgs_machine::carry::carry_out;
+use hgs_machine::locks::take_locks;
+use hgs_model::command::Command;
+use std::alloc::Global;
+
+// Carries out what was planned.
+fn carried<F: Files>(files: &mut F, planned: Planned) -> Answer
+    requires allows { (log : List Op) → F.allows (F.start files.old) log }
+    requires planned { ForSome (F.log files.old) (λ log. IsPlanned (after_all log (F.start files.old)) planned.plan) }
+    ensures fault { result.outcome ≡ Fault → Rose (F.faults files.old) (F.faults files.new) }
+    ensures unfinished { (published : Published) → result.outcome ≡ Unfinished published → Rose (F.faults files.old) (F.faults files.new) ⊎ Rose (F.denied files.old) (F.denied files.new) }
+    ensures later { F.faults files.old ≤ F.faults files.new }
+    ensures same_start { F.start files.new ≡ F.start files.old }
+{
+    let Planned { plan, rev, node } = planned;
+    let ended = carry_out(files, plan);
+    Answer {
+        outcome: of_ended(ended.outcome, rev, node),
+        swept: ended.swept,
+    }
+}
+
+/// Carries out a command: takes the locks, with these bytes in them, reads what the command needs, plans its transaction and
+/// does the plan's operations. Where it is refused before that, the locks that were made are removed again.
+pub fn write<F: Files>(alloc: Global, files: &mut F, command: &Command, who: &[u8]) -> Answer
+    requires valid { IsValid command.now }
+    requires least { 1 ≤ length who.now }
+    requires most { length who.now ≤ 255 }
+    requires allows { (log : List Op) → F.allows (F.start files.old) log }
+    ensures fault { result.outcome ≡ Fault → Rose (F.faults files.old) (F.faults files.new) }
+    ensures later { F.faults files.old ≤ F.faults files.new }
+    ensures same_start { F.start files.new ≡ F.start files.old }
+{
+    let locks = match take_locks(alloc, files, who) {
+        Ok(locks) => locks,
+        Err(refusal) => return of_locks(refusal),
+    };
+    match plan(alloc, files, command) {
+        Ok(planned) => carried(files, planned),
+        Err(fault) => {
+            let swept = locks.release(files);
+            let outcome = of_commit(fault);
+            Answer { outcome, swept }
+        }
+    }
+}
