@@ -53,7 +53,7 @@ pub fn new_manifest<R: Reads>(
     ensures index { IfOk result (λ text. AppendsTo manifest_index manifest.now text.growth) }
     ensures same_start { R.start files.new ≡ R.start files.old }
     ensures still { R.alone ≡ true → R.seen files.new ≡ R.seen files.old }
-    ensures cause { HasFaultCause (R.faults files.old) (R.faults files.new) result }
+    ensures cause { HasFaultCause (R.faults files.old) (R.faults files.new) (R.denied files.old) (R.denied files.new) result }
 {
     let mut text = Vec::new(alloc);
     rows.print(&mut text)?;
@@ -120,7 +120,7 @@ pub fn new_changeset<R: Reads>(
     ensures lacking { IfOk result (λ text. is_some text.growth ≡ false → is_some text.standing ≡ false → is_met met.new ≡ true) }
     ensures same_start { R.start files.new ≡ R.start files.old }
     ensures still { R.alone ≡ true → R.seen files.new ≡ R.seen files.old }
-    ensures cause { HasFaultCause (R.faults files.old) (R.faults files.new) result }
+    ensures cause { HasFaultCause (R.faults files.old) (R.faults files.new) (R.denied files.old) (R.denied files.new) result }
 {
     let text = change_text(alloc, manifest, change, changed)?;
     let paths = changelog_paths(alloc)?;

@@ -50,7 +50,7 @@ fn parent_of<R: Reads>(
     ensures below { IfOk result (λ p. IfSome p.rev (λ r. r < length loaded.now.manifest.entries)) }
     ensures same_start { R.start files.new ≡ R.start files.old }
     ensures still { R.alone ≡ true → R.seen files.new ≡ R.seen files.old }
-    ensures cause { HasFaultCause (R.faults files.old) (R.faults files.new) result }
+    ensures cause { HasFaultCause (R.faults files.old) (R.faults files.new) (R.denied files.old) (R.denied files.new) result }
 {
     let Some(rev) = rev else {
         return Ok(ParentManifest {
@@ -112,7 +112,7 @@ fn grown_tree<R: Reads>(
     ensures second { IfOk result (λ x. IfSome x.1.1 (λ r. r < length loaded.now.manifest.entries)) }
     ensures same_start { R.start files.new ≡ R.start files.old }
     ensures still { R.alone ≡ true → R.seen files.new ≡ R.seen files.old }
-    ensures cause { HasFaultCause (R.faults files.old) (R.faults files.new) result }
+    ensures cause { HasFaultCause (R.faults files.old) (R.faults files.new) (R.denied files.old) (R.denied files.new) result }
 {
     let first = parent_of(alloc, files, loaded, parents.0)?;
     let second = parent_of(alloc, files, loaded, parents.1)?;
@@ -153,7 +153,7 @@ fn texts_of<R: Reads>(
     ensures changeset { IfOk result (λ texts. IsNewText loaded.now.changelog met.new texts.changeset) }
     ensures same_start { R.start files.new ≡ R.start files.old }
     ensures still { R.alone ≡ true → R.seen files.new ≡ R.seen files.old }
-    ensures cause { HasFaultCause (R.faults files.old) (R.faults files.new) result }
+    ensures cause { HasFaultCause (R.faults files.old) (R.faults files.new) (R.denied files.old) (R.denied files.new) result }
 {
     let Grown {
         rows,
@@ -235,6 +235,7 @@ fn step_on<R: Reads>(
     ensures same_start { R.start files.new ≡ R.start files.old }
     ensures still { R.alone ≡ true → R.seen files.new ≡ R.seen files.old }
     ensures later { R.faults files.old ≤ R.faults files.new }
+    ensures refused { R.denied files.old ≤ R.denied files.new }
     ensures cause { HasCause (R.faults files.old) (R.faults files.new) result }
 {
     let mut met = Hindrances::none();
@@ -266,6 +267,7 @@ pub fn commit<R: Reads>(
     ensures same_start { R.start files.new ≡ R.start files.old }
     ensures still { R.alone ≡ true → R.seen files.new ≡ R.seen files.old }
     ensures later { R.faults files.old ≤ R.faults files.new }
+    ensures refused { R.denied files.old ≤ R.denied files.new }
     ensures cause { HasCause (R.faults files.old) (R.faults files.new) result }
 {
     files_follow();

@@ -35,7 +35,7 @@ fn meet_standing<R: Reads>(
 ) -> Result<(), ReadAnswer>
     ensures same_start { R.start files.new ≡ R.start files.old }
     ensures still { R.alone ≡ true → R.seen files.new ≡ R.seen files.old }
-    ensures cause { HasFaultCause (R.faults files.old) (R.faults files.new) result }
+    ensures cause { HasFaultCause (R.faults files.old) (R.faults files.new) (R.denied files.old) (R.denied files.new) result }
 {
     match size_of(files, path)? {
         None | Some(0) => Ok(()),
@@ -59,7 +59,7 @@ fn test_place<R: Reads>(
     requires { AreEntries filelog.now.log.entries }
     ensures same_start { R.start files.new ≡ R.start files.old }
     ensures still { R.alone ≡ true → R.seen files.new ≡ R.seen files.old }
-    ensures cause { HasFaultCause (R.faults files.old) (R.faults files.new) result }
+    ensures cause { HasFaultCause (R.faults files.old) (R.faults files.new) (R.denied files.old) (R.denied files.new) result }
 {
     if filelog.log.len() > 0 {
         return test_data(alloc, files, &filelog.paths, &filelog.log);
@@ -89,7 +89,7 @@ fn changed_file<R: Reads>(
     ensures path { IfOk result (λ f. f.path ≡ file.now.path) }
     ensures same_start { R.start files.new ≡ R.start files.old }
     ensures still { R.alone ≡ true → R.seen files.new ≡ R.seen files.old }
-    ensures cause { HasFaultCause (R.faults files.old) (R.faults files.new) result }
+    ensures cause { HasFaultCause (R.faults files.old) (R.faults files.new) (R.denied files.old) (R.denied files.new) result }
 {
     let path = file.path.as_slice();
     let text = pack(alloc, None, file.body.as_slice())?;
@@ -141,7 +141,7 @@ fn file_of<R: Reads>(
     ensures path { IfOk result (λ f. f.path ≡ file.now.path) }
     ensures same_start { R.start files.new ≡ R.start files.old }
     ensures still { R.alone ≡ true → R.seen files.new ≡ R.seen files.old }
-    ensures cause { HasFaultCause (R.faults files.old) (R.faults files.new) result }
+    ensures cause { HasFaultCause (R.faults files.old) (R.faults files.new) (R.denied files.old) (R.denied files.new) result }
 {
     let filelog = load_filelog(alloc, files, fncache, file.path.as_slice())?;
     let first = filelog.rev_of(alloc, node_in(rows.first))?;
@@ -177,7 +177,7 @@ pub fn add_files<R: Reads>(
     ensures count { OnOk result (length tree.new.rows ≡ length new_files.now) }
     ensures same_start { R.start files.new ≡ R.start files.old }
     ensures still { R.alone ≡ true → R.seen files.new ≡ R.seen files.old }
-    ensures cause { HasFaultCause (R.faults files.old) (R.faults files.new) result }
+    ensures cause { HasFaultCause (R.faults files.old) (R.faults files.new) (R.denied files.old) (R.denied files.new) result }
 {
     let mut rest = new_files;
     while let Some((file, behind)) = rest.split_first() {

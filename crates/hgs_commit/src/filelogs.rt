@@ -55,7 +55,7 @@ pub fn load_filelog<R: Reads>(
     ensures entries { IfOk result (λ f. AreEntries f.log.entries) }
     ensures same_start { R.start files.new ≡ R.start files.old }
     ensures still { R.alone ≡ true → R.seen files.new ≡ R.seen files.old }
-    ensures cause { HasFaultCause (R.faults files.old) (R.faults files.new) result }
+    ensures cause { HasFaultCause (R.faults files.old) (R.faults files.new) (R.denied files.old) (R.denied files.new) result }
 {
     let paths = filelog_paths(alloc, path)?;
     if !fncache.contains(path, Ext::I) {
@@ -100,7 +100,7 @@ impl Filelog {
         ensures below { IfOk result (λ rev. IfSome rev (λ r. r < length self.now.log.entries)) }
         ensures same_start { R.start files.new ≡ R.start files.old }
         ensures still { R.alone ≡ true → R.seen files.new ≡ R.seen files.old }
-        ensures cause { HasFaultCause (R.faults files.old) (R.faults files.new) result }
+        ensures cause { HasFaultCause (R.faults files.old) (R.faults files.new) (R.denied files.old) (R.denied files.new) result }
     {
         let (Some(rev), None) = parents else {
             return Ok(None);
@@ -134,7 +134,7 @@ pub fn revise_in<R: Reads>(
     ensures fits { IfOk result (λ r. Fits log.now r.node r.became) }
     ensures same_start { R.start files.new ≡ R.start files.old }
     ensures still { R.alone ≡ true → R.seen files.new ≡ R.seen files.old }
-    ensures cause { HasFaultCause (R.faults files.old) (R.faults files.new) result }
+    ensures cause { HasFaultCause (R.faults files.old) (R.faults files.new) (R.denied files.old) (R.denied files.new) result }
 {
     let revised = match log.standing(text, p1, p2) {
         None => revise(log, text, p1, p2, link, None),

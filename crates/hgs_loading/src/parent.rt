@@ -65,7 +65,7 @@ pub fn read_change<R: Reads>(
     ensures seen { Grows (R.seen files.old) (R.seen files.new) }
     ensures same_start { R.start files.new ≡ R.start files.old }
     ensures still { R.alone ≡ true → R.seen files.new ≡ R.seen files.old }
-    ensures cause { HasFaultCause (R.faults files.old) (R.faults files.new) result }
+    ensures cause { HasFaultCause (R.faults files.old) (R.faults files.new) (R.denied files.old) (R.denied files.new) result }
 {
     let text = read_text(alloc, files, paths, changelog, rev)?;
     match change_from(alloc, &paths.index, rev, text.as_slice()) {
@@ -90,7 +90,7 @@ fn read_rows_at<R: Reads>(
     ensures seen { Grows (R.seen files.old) (R.seen files.new) }
     ensures same_start { R.start files.new ≡ R.start files.old }
     ensures still { R.alone ≡ true → R.seen files.new ≡ R.seen files.old }
-    ensures cause { HasFaultCause (R.faults files.old) (R.faults files.new) result }
+    ensures cause { HasFaultCause (R.faults files.old) (R.faults files.new) (R.denied files.old) (R.denied files.new) result }
 {
     let text = read_text(alloc, files, paths, manifest, rev)?;
     match manifest_from(alloc, &paths.index, text.as_slice()) {
@@ -117,7 +117,7 @@ pub fn read_rows<R: Reads>(
     ensures seen { Grows (R.seen files.old) (R.seen files.new) }
     ensures same_start { R.start files.new ≡ R.start files.old }
     ensures still { R.alone ≡ true → R.seen files.new ≡ R.seen files.old }
-    ensures cause { HasFaultCause (R.faults files.old) (R.faults files.new) result }
+    ensures cause { HasFaultCause (R.faults files.old) (R.faults files.new) (R.denied files.old) (R.denied files.new) result }
 {
     if is_null(node) {
         return Ok(ParentManifest {
@@ -150,7 +150,7 @@ pub fn parent_manifest<R: Reads>(
     ensures seen { Grows (R.seen files.old) (R.seen files.new) }
     ensures same_start { R.start files.new ≡ R.start files.old }
     ensures still { R.alone ≡ true → R.seen files.new ≡ R.seen files.old }
-    ensures cause { HasFaultCause (R.faults files.old) (R.faults files.new) result }
+    ensures cause { HasFaultCause (R.faults files.old) (R.faults files.new) (R.denied files.old) (R.denied files.new) result }
 {
     let change = read_change(alloc, files, changelog_paths, changelog, rev)?;
     match read_rows(alloc, files, manifest_paths, manifest, &change.manifest) {

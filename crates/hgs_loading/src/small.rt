@@ -141,7 +141,7 @@ fn read_bookmarks<R: Reads>(alloc: Global, files: &mut R) -> Result<BookmarksFil
     ensures seen { Grows (R.seen files.old) (R.seen files.new) }
     ensures same_start { R.start files.new ≡ R.start files.old }
     ensures still { R.alone ≡ true → R.seen files.new ≡ R.seen files.old }
-    ensures cause { HasFaultCause (R.faults files.old) (R.faults files.new) result }
+    ensures cause { HasFaultCause (R.faults files.old) (R.faults files.new) (R.denied files.old) (R.denied files.new) result }
 {
     let path = path_of(alloc, b"bookmarks")?;
     let bytes = read_whole(alloc, files, &path, MOST_BOOKMARKS)?;
@@ -156,7 +156,7 @@ fn read_dirstate<R: Reads>(alloc: Global, files: &mut R) -> Result<DirstateFile,
     ensures seen { Grows (R.seen files.old) (R.seen files.new) }
     ensures same_start { R.start files.new ≡ R.start files.old }
     ensures still { R.alone ≡ true → R.seen files.new ≡ R.seen files.old }
-    ensures cause { HasFaultCause (R.faults files.old) (R.faults files.new) result }
+    ensures cause { HasFaultCause (R.faults files.old) (R.faults files.new) (R.denied files.old) (R.denied files.new) result }
 {
     let path = path_of(alloc, b"dirstate")?;
     let bytes = read_whole(alloc, files, &path, MOST_DIRSTATE)?;
@@ -171,7 +171,7 @@ fn read_roots<R: Reads>(alloc: Global, files: &mut R) -> Result<RootsFile, ReadA
     ensures seen { Grows (R.seen files.old) (R.seen files.new) }
     ensures same_start { R.start files.new ≡ R.start files.old }
     ensures still { R.alone ≡ true → R.seen files.new ≡ R.seen files.old }
-    ensures cause { HasFaultCause (R.faults files.old) (R.faults files.new) result }
+    ensures cause { HasFaultCause (R.faults files.old) (R.faults files.new) (R.denied files.old) (R.denied files.new) result }
 {
     let path = path_of(alloc, b"store/phaseroots")?;
     let bytes = read_whole(alloc, files, &path, MOST_ROOTS)?;
@@ -186,7 +186,7 @@ fn read_fncache<R: Reads>(alloc: Global, files: &mut R) -> Result<FncacheFile, R
     ensures seen { Grows (R.seen files.old) (R.seen files.new) }
     ensures same_start { R.start files.new ≡ R.start files.old }
     ensures still { R.alone ≡ true → R.seen files.new ≡ R.seen files.old }
-    ensures cause { HasFaultCause (R.faults files.old) (R.faults files.new) result }
+    ensures cause { HasFaultCause (R.faults files.old) (R.faults files.new) (R.denied files.old) (R.denied files.new) result }
 {
     let path = path_of(alloc, b"store/fncache")?;
     let bytes = read_whole(alloc, files, &path, MOST_FNCACHE)?;
@@ -203,7 +203,7 @@ pub fn read_small<R: Reads>(alloc: Global, files: &mut R) -> Result<SmallFiles, 
     ensures seen { Grows (R.seen files.old) (R.seen files.new) }
     ensures same_start { R.start files.new ≡ R.start files.old }
     ensures still { R.alone ≡ true → R.seen files.new ≡ R.seen files.old }
-    ensures cause { HasFaultCause (R.faults files.old) (R.faults files.new) result }
+    ensures cause { HasFaultCause (R.faults files.old) (R.faults files.new) (R.denied files.old) (R.denied files.new) result }
 {
     let bookmarks = read_bookmarks(alloc, files)?;
     let dirstate = read_dirstate(alloc, files)?;

@@ -90,7 +90,7 @@ pub fn load_logs<R: Reads>(alloc: Global, files: &mut R) -> Result<Logs, ReadAns
     ensures seen { Grows (R.seen files.old) (R.seen files.new) }
     ensures same_start { R.start files.new ≡ R.start files.old }
     ensures still { R.alone ≡ true → R.seen files.new ≡ R.seen files.old }
-    ensures cause { HasFaultCause (R.faults files.old) (R.faults files.new) result }
+    ensures cause { HasFaultCause (R.faults files.old) (R.faults files.new) (R.denied files.old) (R.denied files.new) result }
 {
     let paths = changelog_paths(alloc)?;
     let tree_paths = manifest_paths(alloc)?;
@@ -114,7 +114,7 @@ pub fn history<R: Reads>(alloc: Global, files: &mut R) -> Result<LoadedStore, Re
     ensures seen { Grows (R.seen files.old) (R.seen files.new) }
     ensures same_start { R.start files.new ≡ R.start files.old }
     ensures still { R.alone ≡ true → R.seen files.new ≡ R.seen files.old }
-    ensures cause { HasFaultCause (R.faults files.old) (R.faults files.new) result }
+    ensures cause { HasFaultCause (R.faults files.old) (R.faults files.new) (R.denied files.old) (R.denied files.new) result }
 {
     let small = read_small(alloc, files)?;
     let logs = load_logs(alloc, files)?;

@@ -30,7 +30,7 @@ pub fn read_chunk<R: Reads>(
     ensures seen { Grows (R.seen files.old) (R.seen files.new) }
     ensures same_start { R.start files.new ≡ R.start files.old }
     ensures still { R.alone ≡ true → R.seen files.new ≡ R.seen files.old }
-    ensures cause { HasFaultCause (R.faults files.old) (R.faults files.new) result }
+    ensures cause { HasFaultCause (R.faults files.old) (R.faults files.new) (R.denied files.old) (R.denied files.new) result }
 {
     let span = log.text_span(rev);
     let part = read_part(alloc, files, &paths.chunks, span.from, span.len)?;
@@ -51,7 +51,7 @@ pub fn read_text<R: Reads>(
     ensures seen { Grows (R.seen files.old) (R.seen files.new) }
     ensures same_start { R.start files.new ≡ R.start files.old }
     ensures still { R.alone ≡ true → R.seen files.new ≡ R.seen files.old }
-    ensures cause { HasFaultCause (R.faults files.old) (R.faults files.new) result }
+    ensures cause { HasFaultCause (R.faults files.old) (R.faults files.new) (R.denied files.old) (R.denied files.new) result }
 {
     match find::read_text(alloc, files, paths, log, rev) {
         Ok(text) => Ok(text),

@@ -40,7 +40,7 @@ pub fn read_whole<R: Reads>(
     ensures seen { Grows (R.seen files.old) (R.seen files.new) }
     ensures same_start { R.start files.new ≡ R.start files.old }
     ensures still { R.alone ≡ true → R.seen files.new ≡ R.seen files.old }
-    ensures cause { HasFaultCause (R.faults files.old) (R.faults files.new) result }
+    ensures cause { HasFaultCause (R.faults files.old) (R.faults files.new) (R.denied files.old) (R.denied files.new) result }
 {
     let part = read_part(alloc, files, path, 0, most + 1)?;
     if bytes_of(&part).len() as u64 > most {
@@ -55,7 +55,7 @@ pub fn test_requires<R: Reads>(alloc: Global, files: &mut R) -> Result<(), ReadA
     ensures seen { Grows (R.seen files.old) (R.seen files.new) }
     ensures same_start { R.start files.new ≡ R.start files.old }
     ensures still { R.alone ≡ true → R.seen files.new ≡ R.seen files.old }
-    ensures cause { HasFaultCause (R.faults files.old) (R.faults files.new) result }
+    ensures cause { HasFaultCause (R.faults files.old) (R.faults files.new) (R.denied files.old) (R.denied files.new) result }
 {
     let path = path_of(alloc, b"requires")?;
     let bytes = read_whole(alloc, files, &path, MOST_REQUIRES)?;
@@ -68,7 +68,7 @@ pub fn size_of<R: Reads>(files: &mut R, path: &StorePath) -> Result<Option<u64>,
     ensures seen { Grows (R.seen files.old) (R.seen files.new) }
     ensures same_start { R.start files.new ≡ R.start files.old }
     ensures still { R.alone ≡ true → R.seen files.new ≡ R.seen files.old }
-    ensures cause { HasFaultCause (R.faults files.old) (R.faults files.new) result }
+    ensures cause { HasFaultCause (R.faults files.old) (R.faults files.new) (R.denied files.old) (R.denied files.new) result }
 {
     match files.size(path) {
         Ok(size) => Ok(size),

@@ -43,10 +43,11 @@ is_of_outside NotARepository = false
 is_of_outside (Requirement w) = false
 is_of_outside Memory = true
 
--- a fault is answered only where the files counted one
-pub record HasFaultCause {T : Type 0} (old new : ℕ) (result : Result T ReadAnswer) : Type 0 where
-  pub later : old ≤ new
-  pub fault : IsErrOf result Fault → Rose old new
+-- a fault is answered only where the files counted one, and neither count of theirs falls
+pub record HasFaultCause {T : Type 0} (faults_old faults_new denied_old denied_new : ℕ) (result : Result T ReadAnswer) : Type 0 where
+  pub later : faults_old ≤ faults_new
+  pub refused : denied_old ≤ denied_new
+  pub fault : IsErrOf result Fault → Rose faults_old faults_new
 
 -- what a fault of the files is to a reader
 abbrev pub read_fault : FileFault → ReadAnswer

@@ -94,7 +94,7 @@ impl Session {
         ensures seen { Grows (R.seen files.old) (R.seen files.new) }
         ensures same_start { R.start files.new ≡ R.start files.old }
         ensures still { R.alone ≡ true → R.seen files.new ≡ R.seen files.old }
-        ensures cause { HasFaultCause (R.faults files.old) (R.faults files.new) result }
+        ensures cause { HasFaultCause (R.faults files.old) (R.faults files.new) (R.denied files.old) (R.denied files.new) result }
     {
         let machine = LoadMachine::open(alloc)?;
         load_with(alloc, files, machine)
@@ -113,7 +113,7 @@ impl Session {
         ensures seen { Grows (R.seen files.old) (R.seen files.new) }
         ensures same_start { R.start files.new ≡ R.start files.old }
         ensures still { R.alone ≡ true → R.seen files.new ≡ R.seen files.old }
-        ensures cause { HasFaultCause (R.faults files.old) (R.faults files.new) result }
+        ensures cause { HasFaultCause (R.faults files.old) (R.faults files.new) (R.denied files.old) (R.denied files.new) result }
     {
         let machine = LoadMachine::refresh(self.alloc, self)?;
         load_with(self.alloc, files, machine)
@@ -126,7 +126,7 @@ impl Session {
         ensures seen { Grows (R.seen files.old) (R.seen files.new) }
         ensures same_start { R.start files.new ≡ R.start files.old }
         ensures still { R.alone ≡ true → R.seen files.new ≡ R.seen files.old }
-        ensures cause { HasFaultCause (R.faults files.old) (R.faults files.new) result }
+        ensures cause { HasFaultCause (R.faults files.old) (R.faults files.new) (R.denied files.old) (R.denied files.new) result }
     {
         match self.reloaded(files) {
             Ok(session) => {
@@ -201,7 +201,7 @@ impl Session {
         ensures seen { Grows (R.seen files.old) (R.seen files.new) }
         ensures same_start { R.start files.new ≡ R.start files.old }
         ensures still { R.alone ≡ true → R.seen files.new ≡ R.seen files.old }
-        ensures cause { HasFaultCause (R.faults files.old) (R.faults files.new) result }
+        ensures cause { HasFaultCause (R.faults files.old) (R.faults files.new) (R.denied files.old) (R.denied files.new) result }
     {
         let span = self.changelog.text_span(rev);
         let part = read_part(self.alloc, files, self.paths.chunks(), span.from, span.len)?;
@@ -220,7 +220,7 @@ impl Session {
         ensures seen { Grows (R.seen files.old) (R.seen files.new) }
         ensures same_start { R.start files.new ≡ R.start files.old }
         ensures still { R.alone ≡ true → R.seen files.new ≡ R.seen files.old }
-        ensures cause { HasFaultCause (R.faults files.old) (R.faults files.new) result }
+        ensures cause { HasFaultCause (R.faults files.old) (R.faults files.new) (R.denied files.old) (R.denied files.new) result }
     {
         let span = self.changelog.text_span(rev);
         let part = read_part(self.alloc, files, self.paths.chunks(), span.from, span.len)?;
@@ -234,7 +234,7 @@ impl Session {
         ensures seen { Grows (R.seen files.old) (R.seen files.new) }
         ensures same_start { R.start files.new ≡ R.start files.old }
         ensures still { R.alone ≡ true → R.seen files.new ≡ R.seen files.old }
-        ensures cause { HasFaultCause (R.faults files.old) (R.faults files.new) result }
+        ensures cause { HasFaultCause (R.faults files.old) (R.faults files.new) (R.denied files.old) (R.denied files.new) result }
     {
         match self.change(files, rev) {
             Ok(change) => manifest_of(self.alloc, files, &change.manifest),
@@ -258,7 +258,7 @@ impl Session {
         ensures seen { Grows (R.seen files.old) (R.seen files.new) }
         ensures same_start { R.start files.new ≡ R.start files.old }
         ensures still { R.alone ≡ true → R.seen files.new ≡ R.seen files.old }
-        ensures cause { HasFaultCause (R.faults files.old) (R.faults files.new) result }
+        ensures cause { HasFaultCause (R.faults files.old) (R.faults files.new) (R.denied files.old) (R.denied files.new) result }
     {
         match self.manifest(files, rev) {
             Ok(manifest) => {
@@ -286,7 +286,7 @@ impl Session {
         ensures seen { Grows (R.seen files.old) (R.seen files.new) }
         ensures same_start { R.start files.new ≡ R.start files.old }
         ensures still { R.alone ≡ true → R.seen files.new ≡ R.seen files.old }
-        ensures cause { HasFaultCause (R.faults files.old) (R.faults files.new) result }
+        ensures cause { HasFaultCause (R.faults files.old) (R.faults files.new) (R.denied files.old) (R.denied files.new) result }
     {
         let manifest = match self.manifest(files, rev) {
             Ok(manifest) => manifest,

@@ -143,6 +143,7 @@ fn committed<R: Reads>(
     ensures same_start { R.start files.new ≡ R.start files.old }
     ensures still { R.alone ≡ true → R.seen files.new ≡ R.seen files.old }
     ensures later { R.faults files.old ≤ R.faults files.new }
+    ensures refused { R.denied files.old ≤ R.denied files.new }
     ensures cause { HasCause (R.faults files.old) (R.faults files.new) result }
 {
     commits_are_sound();
@@ -167,6 +168,7 @@ fn step_of<R: Reads>(
     ensures same_start { R.start files.new ≡ R.start files.old }
     ensures still { R.alone ≡ true → R.seen files.new ≡ R.seen files.old }
     ensures later { R.faults files.old ≤ R.faults files.new }
+    ensures refused { R.denied files.old ≤ R.denied files.new }
     ensures cause { HasCause (R.faults files.old) (R.faults files.new) result }
 {
     match command {
@@ -190,6 +192,7 @@ pub fn plan<R: Reads>(
     ensures same_start { R.start files.new ≡ R.start files.old }
     ensures still { R.alone ≡ true → R.seen files.new ≡ R.seen files.old }
     ensures later { R.faults files.old ≤ R.faults files.new }
+    ensures refused { R.denied files.old ≤ R.denied files.new }
     ensures cause { HasCause (R.faults files.old) (R.faults files.new) result }
 {
     plans_can_be_carried_out();

@@ -43,6 +43,7 @@ pub fn write<F: Files>(alloc: Global, files: &mut F, command: &Command, who: &[u
     requires most { length who.now ≤ 255 }
     requires allows { (log : List Op) → F.allows (F.start files.old) log }
     ensures fault { result.outcome ≡ Fault → Rose (F.faults files.old) (F.faults files.new) }
+    ensures unfinished { (published : Published) → result.outcome ≡ Unfinished published → Rose (F.faults files.old) (F.faults files.new) ⊎ Rose (F.denied files.old) (F.denied files.new) }
     ensures later { F.faults files.old ≤ F.faults files.new }
     ensures same_start { F.start files.new ≡ F.start files.old }
 {

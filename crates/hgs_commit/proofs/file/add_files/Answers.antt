@@ -20,4 +20,5 @@ loop-file-preserved g c =
       same_start = c.in_ok-added.ensures.same_start ∙ i.same_start;
       still = λ alone. c.in_ok-added.ensures.still alone ∙ i.still alone;
       later = omega (arith, later, before);
+      refused = (let l = c.in_ok-added.ensures.cause.refused in let k = i.refused in omega (arith, l, k));
     }

@@ -11,6 +11,7 @@ invariant-loop-file g l = record {
   same_start : g.R.Reads.start l.files ≡ g.R.Reads.start l.fn.files;
   still : g.R.Reads.alone ≡ true → g.R.Reads.seen l.files ≡ g.R.Reads.seen l.fn.files;
   later : g.R.Reads.faults l.fn.files ≤ g.R.Reads.faults l.files;
+  refused : g.R.Reads.denied l.fn.files ≤ g.R.Reads.denied l.files;
 }
 
 abbrev pub decreases-loop-file : goal.decreases-loop-file

@@ -40,6 +40,7 @@ loop-left-preserved-else-piece-lt-PIECE g c =
       same_start = e.same_start ∙ i.same_start;
       still = λ h. e.still h ∙ i.still h;
       later = (let l = e.cause.later in let k = i.later in omega (arith, l, k));
+      refused = (let l = e.cause.refused in let k = i.refused in omega (arith, l, k));
     }
 
 pub returns-clause-found : goal.returns-clause-found

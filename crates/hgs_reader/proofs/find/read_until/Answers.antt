@@ -18,6 +18,7 @@ loop-left-init g c =
       same_start = refl;
       still = λ h. refl;
       later = omega arith;
+      refused = omega arith;
     }
 
 pub returns-in_err-extend_from_slice-clause-seen : goal.returns-in_err-extend_from_slice-clause-seen
@@ -46,6 +47,7 @@ loop-left-preserved-else-is_last g c =
       same_start = e.same_start ∙ i.same_start;
       still = λ h. e.still h ∙ i.still h;
       later = (let l = e.cause.later in omega (arith, l, i.later));
+      refused = (let l = e.cause.refused in omega (arith, l, i.refused));
     }
 
 pub returns-clause-answer : goal.returns-clause-answer

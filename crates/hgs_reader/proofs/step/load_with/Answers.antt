@@ -14,6 +14,7 @@ loop-machine-init g c =
       same_start = refl;
       still = λ h. refl;
       later = omega arith;
+      refused = omega arith;
     }
 
 pub loop-machine-preserved : goal.loop-machine-preserved
@@ -27,6 +28,7 @@ loop-machine-preserved g c =
       same_start = e.same_start ∙ i.same_start;
       still = λ h. e.still h ∙ i.still h;
       later = (let l = e.cause.later in omega (arith, l, i.later));
+      refused = (let l = e.cause.refused in omega (arith, l, i.refused));
     }
 
 pub returns-in-Ok-false-clause-answer : goal.returns-in-Ok-false-clause-answer
