@@ -1,0 +1,10 @@
+pub mod Basics
+pub mod Pieces
+pub mod Stopping
+pub mod Clears
+pub mod Undone
+pub mod Finding
+pub mod Below
+pub mod Opened
+pub mod Recovers
+pub mod Restoring

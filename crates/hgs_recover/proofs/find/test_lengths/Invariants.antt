@@ -1,0 +1,12 @@
+use Rattle.std.proofs.Common.{◌≡◌, ◌≤◌, true, drop}
+use Rattle.hgs_recover.proofs.Finding.{LongTo, Told}
+use Rattle.hgs_recover.proofs.find.test_lengths.Given as goal
+
+abbrev pub invariant-loop-line : goal.invariant-loop-line
+invariant-loop-line g l = record {
+  so_far : Told g.R.Reads.alone (g.R.Reads.seen l.files) (g.R.Reads.start l.files) (LongTo l.lines (drop l.line-index l.lines));
+  same_start : g.R.Reads.start l.files ≡ g.R.Reads.start l.fn.files;
+  still : g.R.Reads.alone ≡ true → g.R.Reads.seen l.files ≡ g.R.Reads.seen l.fn.files;
+  later : g.R.Reads.faults l.fn.files ≤ g.R.Reads.faults l.files;
+  refused : g.R.Reads.denied l.fn.files ≤ g.R.Reads.denied l.files;
+}

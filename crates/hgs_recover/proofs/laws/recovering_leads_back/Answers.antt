@@ -1,0 +1,18 @@
+use Rattle.hgs_recover.proofs.Below.{Below}
+use Rattle.hgs_recover.proofs.Recovers.{open-clean, open-found, open-left, open-restored, open-stopped}
+use Rattle.hgs_recover.proofs.laws.recovering_leads_back.Goals as goal
+
+pub returns : goal.returns
+returns c = record { found = open-found below; leads = open-restored below; swept = open-clean below; stops = open-stopped below; left = open-left below }
+  where
+    below : Below
+    below = record {
+      joins = c.pieces_join.ensures;
+      pieces = c.pieces_of_pieces.ensures;
+      journal_reads = λ text lines. (c.texts_read.ensures.journal text lines).1;
+      backups_read = λ text lines. (c.texts_read.ensures.backups text lines).1;
+      leads = c.undo_leads_back.ensures.leads;
+      parts = c.undo_may_stop.ensures.parts;
+      loose = c.other_files_do_not_matter.ensures.loose;
+      restored = c.open_trees_lead_back.ensures.restored;
+    }
