@@ -1,5 +1,5 @@
 -- Files that are removed, one after another.
-use Rattle.std.proofs.Common.{◌≡◌, ℕ, ◌+◌, ◌<◌, ◌≤◌, List, [], ◌∷◌, ◌++◌, length, map, take, slice_index_or, Bool, true, false, ◌&&◌, cond, refl, sym, ◌∙◌, ap, subst, inl, inr, append_assoc, append-nil, arith}
+use Rattle.std.proofs.Common.{◌≡◌, ℕ, ◌+◌, ◌<◌, ◌≤◌, List, [], ◌∷◌, ◌++◌, length, map, take, slice_index_or, Bool, true, false, ◌&&◌, cond, refl, sym, ◌∙◌, ap, subst, inl, inr, append_assoc, arith}
 use Rattle.std.specs.Prelude.{Option, Some, None, Result, Ok, Err}
 use Rattle.std.specs.List.{AllByRecursion}
 use Rattle.std.specs.Result.{is_ok}
@@ -9,7 +9,7 @@ use Rattle.hgs_files.specs.declared.op.Op.{Op}
 use Rattle.hgs_files.specs.declared.op.Op.TheVariants.{Remove}
 use Rattle.hgs_files.specs.Files.{GoesOn, LeavesWhole}
 use Rattle.hgs_files.specs.Log.{IsPiece}
-use Rattle.hgs_files.specs.Reads.{HasSize, Rose}
+use Rattle.hgs_files.specs.Reads.{Rose}
 use Rattle.hgs_files.specs.Stop.{IsStopped}
 use Rattle.hgs_files.specs.Tree.{Tree, after_all, apply, same_path, with_file}
 use Rattle.hgs_journal.specs.Covers.{is_loose}
@@ -28,17 +28,11 @@ false-true e = cc
 
 -- ---- one file
 
-pub clears-none : (t : Tree) (swept : Bool) → Clears [] t swept []
-clears-none t swept = record { some = refl; gone = λ e. tt }
-
 clears-removed : (path : List ℕ) (t : Tree) → Clears (path ∷ []) t true (Remove path ∷ [])
 clears-removed path t = record { some = inr ([], refl, refl); gone = λ e. (with_file-same t path None, tt) }
 
 clears-left : (path : List ℕ) (t : Tree) → Clears (path ∷ []) t false []
 clears-left path t = record { some = inl refl; gone = λ e. false-true e }
-
-clears-absent : (path : List ℕ) (t : Tree) → t path ≡ None → Clears (path ∷ []) t true []
-clears-absent path t e = record { some = inl refl; gone = λ s. (e, tt) }
 
 -- ---- one after another
 
@@ -95,19 +89,6 @@ pub removed : (before after : Option (List Op)) (t : Tree) (path : List ℕ) (r 
 removed None after t path r ok e h = h
 removed (Some log) after t path r ok e (more, is, h) = (more, is, subst (λ b. Clears (path ∷ []) t b more) (sym e) (removed-by t path r more h))
 
-same-log : (before after : Option (List Op)) (P : List Op → Type 0) → after ≡ before → P [] → GoesOn before after P
-same-log None after P e h = e
-same-log (Some log) after P e h = ([], e ∙ ap (λ (l : List Op). Some l) (sym (append-nil log)), h)
-
-pub not-sized : (before after : Option (List Op)) (t : Tree) (path : List ℕ) → after ≡ before → GoesOn before after (Clears (path ∷ []) t false)
-not-sized before after t path e = same-log before after (Clears (path ∷ []) t false) e (clears-left path t)
-
-pub absent : (before after seen : Option (List Op)) (start start_new : Tree) (path : List ℕ) → after ≡ before → seen ≡ before → start_new ≡ start → HasSize seen start_new path (Ok None) → GoesOn before after (Clears (path ∷ []) (tree_now before start) true)
-absent None after seen start start_new path e s same h = e
-absent (Some log) after seen start start_new path e s same h =
-    let told : HasSize (Some log) start path (Ok None) = subst (λ (u : Tree). HasSize (Some log) u path (Ok None)) same (subst (λ x. HasSize x start_new path (Ok None)) s h) in
-    same-log (Some log) after (Clears (path ∷ []) (after_all log start) true) e (clears-absent path (after_all log start) told)
-
 -- what is done at a tree, and then at the tree that this leaves
 then : (before mid after : Option (List Op)) (start start_mid : Tree) (P Q R : Tree → List Op → Type 0) → start_mid ≡ start → ((t : Tree) (a b : List Op) → P t a → Q (after_all a t) b → R t (a ++ b))
     → GoesOn before mid (P (tree_now before start)) → GoesOn mid after (Q (tree_now mid start_mid)) → GoesOn before after (R (tree_now before start))
@@ -122,9 +103,6 @@ pub cleared : (before mid after : Option (List Op)) (start start_mid : Tree) (xs
 cleared before mid after start start_mid xs ys all a b whole same h k =
     then before mid after start start_mid (λ t. Clears xs t a) (λ t. Clears ys t b) (λ t. Clears all t (a && b)) same
     (λ t l m x y. subst (λ paths. Clears paths t (a && b) (l ++ m)) whole (clears-both xs ys t a b l m x y)) h k
-
-pub none-cleared : (before : Option (List Op)) (t : Tree) → GoesOn before before (Clears [] t true)
-none-cleared before t = same-log before before (Clears [] t true) refl (clears-none t true)
 
 -- the paths up to a place, and the one there
 pub one-more : (paths : List (List ℕ)) (i : ℕ) (path : List ℕ) → i < length paths → path ≡ slice_index_or paths i path → take i paths ++ path ∷ [] ≡ take (i + 1) paths

@@ -1,5 +1,5 @@
 -- What calls found, one after another.
-use Rattle.std.proofs.Common.{◌≡◌, ℕ, ◌<◌, List, [], ◌∷◌, ◌++◌, length, take, Bool, true, false, refl, sym, ◌∙◌, ap, subst, arith, append_assoc, append-nil}
+use Rattle.std.proofs.Common.{◌≡◌, ℕ, ◌<◌, List, [], ◌++◌, length, take, Bool, true, false, refl, sym, ◌∙◌, ap, subst, arith}
 use Rattle.std.specs.Prelude.{Option, Some, None, Result, Ok, Err, IfSome, ⊤, unwrap_or}
 use Rattle.std.specs.Bool.{MatchBool}
 use Rattle.std.specs.Option.{option_map}
@@ -14,7 +14,7 @@ use Rattle.hgs_reader.specs.declared.answer.ReadAnswer.{ReadAnswer}
 use Rattle.hgs_reader.specs.Answer.{is_of_outside}
 use Rattle.hgs_reader.specs.Asks.{IsPart, part_of}
 use Rattle.hgs_journal.specs.Names.{backups_path, journal_path}
-use Rattle.hgs_recover.specs.Found.{all_kept_in, backups_in, backups_said, found_in, found_of, kept_in, length_in, lengths_in, standing_in, undo_in}
+use Rattle.hgs_recover.specs.Found.{all_kept_in, backups_in, backups_said, found_in, found_of, lengths_in, standing_in, undo_in}
 
 -- where nobody else writes and the list of operations is told, this holds of the tree
 abbrev pub Told : Bool → Option (List Op) → Tree → (Tree → Type 0) → Type 0
@@ -37,13 +37,6 @@ told-next alone now next start start_next P K Q still same f h k = λ a.
     let N : Option (List Op) → Type 0 = λ s. IfSome s (λ log. P (after_all log start)) in
     let S : Tree → Type 0 = λ t. IfSome next (λ log. P (after_all log t)) in
     told-two next start_next P K Q f (subst S (sym same) (subst N (sym (still a)) (h a))) (k a)
-
-always : (seen : Option (List Op)) (start : Tree) (P : Tree → Type 0) → ((t : Tree) → P t) → IfSome seen (λ log. P (after_all log start))
-always None start P f = tt
-always (Some log) start P f = f (after_all log start)
-
-pub told-always : (alone : Bool) (seen : Option (List Op)) (start : Tree) (P : Tree → Type 0) → ((t : Tree) → P t) → Told alone seen start P
-told-always alone seen start P f = λ a. always seen start P f
 
 -- ---- a file that is read whole
 
@@ -71,44 +64,13 @@ whole-file alone (Some log) start path most part few h = ap (λ (p : Option (Lis
 abbrev pub KeptTo : List BackupLine → List BackupLine → List (List ℕ) → Tree → Type 0
 KeptTo lines rest kept t = all_kept_in lines t ≡ and_then (all_kept_in rest t) (λ more. Ok (kept ++ more))
 
-then-same : {A : Type 0} (given : Result (List A) ReadAnswer) → given ≡ and_then given (λ more. Ok more)
-then-same (Ok x) = refl
-then-same (Err e) = refl
-
-pub none-kept : (lines : List BackupLine) (kept : List (List ℕ)) (t : Tree) → kept ≡ [] → KeptTo lines lines kept t
-none-kept lines kept t e = subst (λ (k : List (List ℕ)). KeptTo lines lines k t) (sym e) (then-same (all_kept_in lines t))
-
-one-then : (given : Result (List (List ℕ)) ReadAnswer) (kept : List (List ℕ)) (bytes : List ℕ) → and_then (and_then given (λ rest. Ok (bytes ∷ rest))) (λ more. Ok (kept ++ more)) ≡ and_then given (λ more. (let r : Result (List (List ℕ)) ReadAnswer = Ok ((kept ++ bytes ∷ []) ++ more) in r))
-one-then (Ok x) kept bytes = ap (λ (l : List (List ℕ)). Ok l) (sym (append_assoc kept (bytes ∷ []) x))
-one-then (Err e) kept bytes = refl
-
-pub one-kept : (lines rest : List BackupLine) (l : BackupLine) (kept new : List (List ℕ)) (bytes : List ℕ) (t : Tree) → new ≡ kept ++ bytes ∷ [] → KeptTo lines (l ∷ rest) kept t → kept_in l t ≡ Ok bytes → KeptTo lines rest new t
-one-kept lines rest l kept new bytes t e h k =
-    subst (λ (n : List (List ℕ)). KeptTo lines rest n t) (sym e)
-    (h ∙ ap (λ r. and_then (and_then r (λ b. and_then (all_kept_in rest t) (λ more. Ok (b ∷ more)))) (λ more. Ok (kept ++ more))) k ∙ one-then (all_kept_in rest t) kept bytes)
-
-pub all-kept-is : (lines : List BackupLine) (kept : List (List ℕ)) (t : Tree) → KeptTo lines [] kept t → all_kept_in lines t ≡ Ok kept
-all-kept-is lines kept t h = h ∙ ap (λ (l : List (List ℕ)). Ok l) (append-nil kept)
-
 either : (b : Bool) (P Q : Type 0) → (P → Q) → MatchBool b ⊤ P → MatchBool b ⊤ Q
 either true P Q f m = tt
 either false P Q f m = f m
 
-pub kept-refused : (lines rest : List BackupLine) (l : BackupLine) (kept : List (List ℕ)) (e : ReadAnswer) (t : Tree) → KeptTo lines (l ∷ rest) kept t → Gives is_of_outside (λ (b : List ℕ). b) (Err e) (kept_in l t) → MatchBool (is_of_outside e) ⊤ (all_kept_in lines t ≡ Err e)
-kept-refused lines rest l kept e t h k =
-    either (is_of_outside e) (kept_in l t ≡ Err e) (all_kept_in lines t ≡ Err e)
-    (λ is. h ∙ ap (λ r. and_then (and_then r (λ b. and_then (all_kept_in rest t) (λ more. Ok (b ∷ more)))) (λ more. Ok (kept ++ more))) is) k
-
 -- the files of the first lines are long enough, and those of the rest are left
 abbrev pub LongTo : List JournalLine → List JournalLine → Tree → Type 0
 LongTo lines rest t = lengths_in lines t ≡ lengths_in rest t
-
-pub one-long : (lines rest : List JournalLine) (l : JournalLine) (t : Tree) → LongTo lines (l ∷ rest) t → length_in l t ≡ Ok tt → LongTo lines rest t
-one-long lines rest l t h k = h ∙ ap (λ r. and_then r (λ x. lengths_in rest t)) k
-
-pub length-refused : (lines rest : List JournalLine) (l : JournalLine) (e : ReadAnswer) (t : Tree) → LongTo lines (l ∷ rest) t → Gives is_of_outside (λ (x : Unit {0}). x) (Err e) (length_in l t) → MatchBool (is_of_outside e) ⊤ (lengths_in lines t ≡ Err e)
-length-refused lines rest l e t h k =
-    either (is_of_outside e) (length_in l t ≡ Err e) (lengths_in lines t ≡ Err e) (λ is. h ∙ ap (λ r. and_then r (λ x. lengths_in rest t)) is) k
 
 -- ---- one call, and the next with what it found
 

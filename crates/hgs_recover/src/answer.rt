@@ -32,8 +32,9 @@ pub struct Recovered {
     pub swept: bool,
 }
 
-/// What recovering comes to that is refused so. No file that it reads may be too long, and it asks for no other.
-pub fn of_read(refusal: ReadAnswer) -> RecoverAnswer
+/// What recovering comes to where a read is refused so. Its reads meet no limit and look for nothing that a reader asks for,
+/// so the other refusals do not come.
+pub(crate) fn of_read(refusal: ReadAnswer) -> RecoverAnswer
     ensures { result ≡ outcome_of_read refusal }
 {
     match refusal {

@@ -2,10 +2,10 @@
 #![tactic(auto)]
 
 pub mod answer;
-pub mod find;
+mod find;
 pub mod laws;
-pub mod leftovers;
+mod leftovers;
 pub mod recover;
 #[cfg(test)]
 mod tests;
-pub mod undo;
+mod undo;
