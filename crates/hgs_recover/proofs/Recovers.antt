@@ -16,7 +16,7 @@ use Rattle.hgs_recover.specs.declared.answer.RecoverAnswer.{RecoverAnswer}
 use Rattle.hgs_recover.specs.declared.answer.RecoverAnswer.TheVariants.{Restored, NothingToDo, Damaged, Fault, Unfinished, Memory}
 use Rattle.hgs_recover.specs.Clearing.{Clears, leftover_paths}
 use Rattle.hgs_recover.specs.Found.{answer_in, answer_of, found_in, found_of}
-use Rattle.hgs_recover.specs.Recovering.{RecoversBy}
+use Rattle.hgs_recover.specs.Recovering.{Attempts, not_yet, once_more, RecoversBy}
 use Rattle.hgs_recover.proofs.Basics.{after_all-append}
 use Rattle.hgs_recover.proofs.Below.{Below}
 use Rattle.hgs_recover.proofs.Clears.{all-others-stay, others-stay}
@@ -167,3 +167,12 @@ module _ (b : Below) where
 
   pub standing-clean : (t : Tree) (r : Repo) (log : List Op) → Stands t r → RecoversBy t NothingToDo true log → IsClean (after_all log t) r
   standing-clean t r log s h = no-locks t log r h.1 (cleared-stands t r true log h.1 s)
+
+  -- ---- any number of times
+
+  pub attempts-lead : (t u : Tree) (r : Repo) → IsOpen strays t r ⊎ Stands t r → Attempts t u → IsOpen strays u r ⊎ Stands u r
+  attempts-lead t _ r h not_yet = h
+  attempts-lead t _ r h (once_more u v answer swept log before recovers stops) = elim (attempts-lead t u r h before) [
+    | inl o ↦ open-stopped u v r answer swept log o recovers stops
+    | inr s ↦ inr (standing-stopped u v r answer swept log s recovers stops)
+  ]

@@ -2,6 +2,7 @@
 use Rattle.std.specs.Prelude.{◌≡◌, List, [], ◌∷◌, ◌++◌, Bool, true, Some, None, Ok}
 use Rattle.hgs_files.specs.declared.op.Op.{Op}
 use Rattle.hgs_files.specs.Log.{IsDone}
+use Rattle.hgs_files.specs.Stop.{StopLeaves}
 use Rattle.hgs_files.specs.Tree.{Tree, after_all}
 use Rattle.hgs_recover.specs.declared.answer.RecoverAnswer.{RecoverAnswer}
 use Rattle.hgs_recover.specs.declared.answer.RecoverAnswer.TheVariants.{Restored, NothingToDo, Damaged, Fault, Unfinished, Memory}
@@ -43,3 +44,8 @@ Answers given (Damaged d) = given ≡ Damaged d
 Answers given Unfinished = given ≡ Restored
 Answers given Fault = Unit {0}
 Answers given Memory = Unit {0}
+
+-- From a tree recovering was begun any number of times, and each time it was stopped or came to an end, whatever it answered.
+pub data Attempts (t : Tree) : Tree → Type 0 where
+  not_yet : Attempts t t
+  once_more : (u v : Tree) (answer : RecoverAnswer) (swept : Bool) (log : List Op) → Attempts t u → RecoversBy u answer swept log → StopLeaves u log v → Attempts t v

@@ -12,7 +12,7 @@ ghost use Rattle.hgs_stands.specs.Stands.{IsClean, Stands};
 ghost use Rattle.hgs_recover.specs.declared.answer.RecoverAnswer.{RecoverAnswer};
 ghost use Rattle.hgs_recover.specs.declared.answer.RecoverAnswer.TheVariants.{NothingToDo, Restored};
 ghost use Rattle.hgs_recover.specs.Found.{answer_in};
-ghost use Rattle.hgs_recover.specs.Recovering.{RecoversBy};
+ghost use Rattle.hgs_recover.specs.Recovering.{Attempts, RecoversBy};
 
 use hgs_files::laws::{pieces_join, pieces_of_pieces};
 use hgs_journal::laws::{texts_read, undo_leads_back, undo_may_stop};
@@ -20,13 +20,27 @@ use hgs_stands::laws::{open_trees_lead_back, other_files_do_not_matter};
 
 /// From a tree that is open for a repository, recovering leads to one that stands for it, and has no locks where all was
 /// swept. Wherever it is stopped, the tree is still open for it or stands for it; and where it does not end well the tree is
-/// open as before. So it may be stopped and begun again any number of times.
+/// open as before.
 pub fn recovering_leads_back()
     ensures found { (t : Tree) (r : Repo) → IsOpen strays t r → answer_in t ≡ Restored }
     ensures leads { (t : Tree) (r : Repo) (swept : Bool) (log : List Op) → IsOpen strays t r → RecoversBy t Restored swept log → Stands (after_all log t) r }
     ensures swept { (t : Tree) (r : Repo) (log : List Op) → IsOpen strays t r → RecoversBy t Restored true log → IsClean (after_all log t) r }
     ensures stops { (t u : Tree) (r : Repo) (answer : RecoverAnswer) (swept : Bool) (log : List Op) → IsOpen strays t r → RecoversBy t answer swept log → StopLeaves t log u → IsOpen strays u r ⊎ Stands u r }
     ensures left { (t : Tree) (r : Repo) (answer : RecoverAnswer) (swept : Bool) (log : List Op) → IsOpen strays t r → RecoversBy t answer swept log → (answer ≡ Restored) ⊎ IsOpen strays (after_all log t) r }
+{
+    pieces_join();
+    pieces_of_pieces();
+    texts_read();
+    undo_leads_back();
+    undo_may_stop();
+    other_files_do_not_matter();
+    open_trees_lead_back();
+}
+
+/// So recovering may be stopped and begun again any number of times, from a tree that is open for a repository or stands
+/// for it.
+pub fn recovering_may_be_begun_again()
+    ensures { (t u : Tree) (r : Repo) → IsOpen strays t r ⊎ Stands t r → Attempts t u → IsOpen strays u r ⊎ Stands u r }
 {
     pieces_join();
     pieces_of_pieces();
