@@ -1,5 +1,5 @@
 -- The next file of a commit.
-use Rattle.std.proofs.Common.{◌≡◌, ℕ, ◌+◌, List, [], ◌∷◌, ◌++◌, Bool, true, false, ◌&&◌, length, refl, sym, ◌∙◌, ap, subst, arith}
+use Rattle.std.proofs.Common.{◌≡◌, ℕ, ◌+◌, List, [], ◌∷◌, ◌++◌, Bool, true, false, ◌&&◌, length, refl, sym, ◌∙◌, ap, arith}
 use Rattle.hgs_bytes.specs.Bytes.{is_below}
 use Rattle.hgs_index.specs.Manifest.{Row, last_path}
 use Rattle.hgs_manifest.specs.Held.{is_row_path}

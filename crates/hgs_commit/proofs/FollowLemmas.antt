@@ -1,5 +1,5 @@
 -- Tracked paths in order are those of rows.
-use Rattle.std.proofs.Common.{◌≡◌, ℕ, suc, List, [], ◌∷◌, Bool, true, false, ◌&&◌, ◌||◌, not, ◌==◌, length, map, nat_le, refl, sym, ◌∙◌, ap, arith}
+use Rattle.std.proofs.Common.{◌≡◌, ℕ, List, [], ◌∷◌, Bool, true, false, ◌&&◌, ◌||◌, not, ◌==◌, length, nat_le, refl, ◌∙◌, ap, arith}
 use Rattle.std.specs.List.{list_all, list_any}
 use Rattle.hgs_bytes.specs.Bytes.{is_below}
 use Rattle.hgs_bytes.specs.Path.{components, is_line_byte}

@@ -1,5 +1,14 @@
+pub mod AnswerLemmas
+pub mod ChangedLemmas
 pub mod FileLemmas
 pub mod FollowLemmas
+pub mod FoundLemmas
+pub mod OrderLemmas
 pub mod PartLemmas
 pub mod PushLemmas
+pub mod RootLemmas
+pub mod RowLemmas
+pub mod StepLemmas
+pub mod TreeLemmas
 pub mod WalkLemmas
+pub mod WholeLemmas

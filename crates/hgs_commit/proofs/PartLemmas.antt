@@ -1,5 +1,5 @@
 -- The parts of a commit.
-use Rattle.std.proofs.Common.{◌≡◌, ◌≤◌, ◌<◌, ◌+◌, ◌^◌, ℕ, List, [], ◌∷◌, ◌++◌, Bool, true, false, ◌&&◌, not, length, codes, Option, Some, None, refl, sym, ◌∙◌, ap, subst, arith}
+use Rattle.std.proofs.Common.{◌≡◌, ◌≤◌, List, [], ◌∷◌, ◌++◌, Bool, true, false, ◌&&◌, not, length, codes, Option, Some, None, refl, ◌∙◌, ap, arith}
 use Rattle.std.specs.List.{list_all}
 use Rattle.std.proofs.lemmas.List.Folds.{list_all-append}
 use Rattle.std.proofs.lemmas.List.{length-append}
@@ -10,7 +10,6 @@ use Rattle.hgs_steps.specs.Steps.{CanBeAssembled}
 use Rattle.hgs_transaction.specs.declared.parts.Appending.{Appending}
 use Rattle.hgs_transaction.specs.declared.parts.Change.{Change}
 use Rattle.hgs_transaction.specs.declared.parts.Change.TheVariants.{Append, Replace}
-use Rattle.hgs_transaction.specs.declared.parts.Parts.{Parts}
 use Rattle.hgs_transaction.specs.declared.parts.Replacing.{Replacing}
 use Rattle.hgs_transaction.specs.Parts.{is_in_store}
 use Rattle.hgs_commit.specs.Appended.{is_beside, is_beside_path}

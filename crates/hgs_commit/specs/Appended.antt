@@ -1,9 +1,8 @@
 -- What is appended of a new revision to the two files of its revlog.
-use Rattle.std.specs.Prelude.{◌*◌, ℕ, List, [], ◌∷◌, ◌++◌, Bool, false, ◌&&◌, not, codes, length, Option, Some, None}
+use Rattle.std.specs.Prelude.{ℕ, List, [], ◌∷◌, Bool, false, ◌&&◌, not, codes, Option, Some, None}
 use Rattle.hgs_bytes.specs.Bytes.{begins_with}
 use Rattle.hgs_files.specs.Tree.{same_path}
 use Rattle.hgs_reader.specs.View.{changelog_index}
-use Rattle.hgs_revlog.specs.Log.{Log, stored_sum}
 use Rattle.hgs_transaction.specs.declared.parts.Appending.{Appending}
 use Rattle.hgs_transaction.specs.declared.parts.Change.{Change}
 use Rattle.hgs_transaction.specs.declared.parts.Change.TheVariants.{Append, Replace}
@@ -11,11 +10,6 @@ use Rattle.hgs_transaction.specs.declared.parts.Change.TheVariants.{Append, Repl
 abbrev pub append_some : List ℕ → ℕ → List ℕ → List Change
 append_some path before [] = []
 append_some path before (b ∷ bytes) = Append (record { path = path; before = before; bytes = b ∷ bytes }) ∷ []
-
--- a new revision's chunk is appended to the data file, if it has bytes, and then its entry to the index
-abbrev pub growth_of : List ℕ → List ℕ → Log → List ℕ → List ℕ → List Change
-growth_of index data_path log entry chunk =
-    append_some data_path (stored_sum log.entries) chunk ++ Append (record { path = index; before = 64 * length log.entries; bytes = entry }) ∷ []
 
 abbrev pub optional_append : Option Appending → List Change
 optional_append None = []

@@ -1,42 +1,46 @@
 -- A file of a commit: its filelog, the revision that is kept, and what else its text becomes.
-use Rattle.std.specs.Prelude.{ℕ, ◌==◌, nat_lt, List, [], ◌∷◌, ◌++◌, Bool, true, false, ◌&&◌, not, Option, Some, None, Result, Ok, Err, slice_get, unwrap_or, length, map, if◌then◌else◌}
+use Rattle.std.specs.Prelude.{ℕ, ◌==◌, nat_lt, List, [], ◌∷◌, ◌++◌, Bool, true, false, ◌&&◌, not, Option, Some, None, Result, Ok, Err, slice_get, length, if◌then◌else◌}
+use Rattle.std.specs.Option.{option_map}
 use Rattle.hgs_bytes.specs.Bytes.{same, is_below}
-use Rattle.hgs_files.specs.Tree.{Tree}
+use Rattle.hgs_files.specs.Tree.{Tree, bytes_at}
 use Rattle.hgs_index.specs.declared.entry.Entry.{Entry}
-use Rattle.hgs_index.specs.FileText.{body_of}
-use Rattle.hgs_index.specs.Revision.{Parents, Revision}
+use Rattle.hgs_index.specs.declared.kinds.Flag.{Flag}
+use Rattle.hgs_index.specs.FileText.{body_of, plain_prefix}
+use Rattle.hgs_index.specs.Manifest.{Row}
+use Rattle.hgs_index.specs.Revision.{Parents, parent_node}
 use Rattle.hgs_loading.specs.Found.{and_then}
-use Rattle.hgs_loading.specs.Logs.{chunk_of_rev, log_in, text_in}
+use Rattle.hgs_loading.specs.Logs.{data_in, log_in, text_in}
 use Rattle.hgs_manifest.specs.Held.{is_row_path}
+use Rattle.hgs_model.specs.History.{file_parents_of, first_of, same_flag}
 use Rattle.hgs_model.specs.declared.files.NewFile.{NewFile}
 use Rattle.hgs_path.specs.declared.name.Ext.{Ext}
 use Rattle.hgs_path.specs.declared.name.Ext.TheVariants.{I, D}
 use Rattle.hgs_path.specs.StoreName.{store_name}
 use Rattle.hgs_reader.specs.declared.answer.ReadAnswer.{ReadAnswer}
-use Rattle.hgs_reader.specs.View.{log_answer, revlog_refusal}
-use Rattle.hgs_revlog.specs.Add.{added, next_entry}
-use Rattle.hgs_revlog.specs.declared.fault.RevFault.{RevFault}
+use Rattle.hgs_reader.specs.View.{revlog_refusal}
 use Rattle.hgs_revlog.specs.declared.fault.RevFault.TheVariants as faults
-use Rattle.hgs_revlog.specs.Log.{Log, place_of}
+use Rattle.hgs_revlog.specs.Loaded.{parents_in}
+use Rattle.hgs_revlog.specs.Log.{Log, nodes_of, place_of}
 use Rattle.hgs_commit.specs.declared.filelog.Filelog.{Filelog}
-use Rattle.hgs_commit.specs.declared.growth.Revised.{Revised}
-use Rattle.hgs_commit.specs.Revised.{revised}
+use Rattle.hgs_commit.specs.declared.tree_file.TreeFile.{TreeFile}
+use Rattle.hgs_commit.specs.Obstacles.{Obstacle, stands}
+use Rattle.hgs_commit.specs.Texts.{OfGrowth, OfLog, new_text_in, view_growth}
+use Rattle.hgs_commit.specs.Walk.{Told}
 
--- a filelog: the paths of its index and of its data file, and its revisions
-abbrev pub OfFilelog : Type 0
-OfFilelog = List ℕ × List ℕ × Log
-
-abbrev pub view_filelog : Filelog → OfFilelog
-view_filelog f = (f.paths.index, f.paths.chunks, f.log)
+abbrev pub view_filelog : Filelog → OfLog
+view_filelog f = record { index = f.paths.index; chunks = f.paths.chunks; log = f.log }
 
 abbrev pub empty_log : Log
 empty_log = record { inline = false; entries = [] }
 
+abbrev pub filelog_with : List ℕ → Log → OfLog
+filelog_with path log = record { index = store_name path I; chunks = store_name path D; log = log }
+
 -- the filelog of a path, which has no revisions where its index is not listed
-abbrev pub filelog_in : (List ℕ → Ext → Bool) → List ℕ → Tree → Result OfFilelog ReadAnswer
+abbrev pub filelog_in : (List ℕ → Ext → Bool) → List ℕ → Tree → Result OfLog ReadAnswer
 filelog_in lists path t =
-    if lists path I then and_then (log_in (store_name path I) t) (λ log. Ok (store_name path I, store_name path D, log))
-    else Ok (store_name path I, store_name path D, empty_log)
+    if lists path I then and_then (log_in (store_name path I) t) (λ log. Ok (filelog_with path log))
+    else Ok (filelog_with path empty_log)
 
 -- the revision of a node that a manifest names
 abbrev pub known_rev : List ℕ → Option ℕ → Result (Option ℕ) ReadAnswer
@@ -46,6 +50,94 @@ known_rev index (Some rev) = Ok (Some rev)
 abbrev pub rev_of_node : List ℕ → List Entry → Option (List ℕ) → Result (Option ℕ) ReadAnswer
 rev_of_node index entries None = Ok None
 rev_of_node index entries (Some node) = known_rev index (place_of entries node)
+
+-- ---- the revision that is kept
+
+-- a text with fewer bytes than a body does not have it, and is not read
+abbrev pub is_shorter : Option Entry → List ℕ → Bool
+is_shorter None body = true
+is_shorter (Some e) body = nat_lt e.size (length body)
+
+abbrev pub kept_at : OfLog → ℕ → List ℕ → Tree → Result (Option ℕ) ReadAnswer
+kept_at f rev body t =
+    if is_shorter (slice_get f.log.entries rev) body then Ok None
+    else and_then (text_in f.index f.chunks f.log.entries rev t) (λ text. Ok (if same (body_of text) body then Some rev else None))
+
+-- where one parent is left and has the same body, that one
+abbrev pub kept_in : OfLog → Option ℕ → Option ℕ → List ℕ → Tree → Result (Option ℕ) ReadAnswer
+kept_in f None b body t = Ok None
+kept_in f (Some a) None body t = kept_at f a body t
+kept_in f (Some a) (Some b) body t = Ok None
+
+-- ---- a file of the new tree
+
+-- a file with bytes that stands where a new filelog's would be made
+abbrev pub standing_at : List ℕ → Tree → List Obstacle
+standing_at path t = if length (bytes_at t path) == 0 then [] else stands path ∷ []
+
+-- what keeps a new revision from standing behind those of a filelog
+abbrev pub place_in : OfLog → Tree → Result (List Obstacle) ReadAnswer
+place_in f t =
+    if length f.log.entries == 0 then Ok (standing_at f.index t ++ standing_at f.chunks t)
+    else and_then (data_in f.index f.chunks f.log t) (λ x. Ok [])
+
+-- its row, whether the changeset lists it, what is appended to its filelog, and whether that is a new one
+pub record OfFile : Type 0 where
+  pub row : Row
+  pub changed : Bool
+  pub growth : Option OfGrowth
+  pub new : Bool
+
+abbrev pub view_file : TreeFile → OfFile
+view_file f = record { row = record { path = f.path; node = f.node.0; flag = f.flag }; changed = f.changed; growth = option_map view_growth f.growth; new = f.listed }
+
+-- the path of a file whose filelog is new
+abbrev pub new_path : Bool → List ℕ → List (List ℕ)
+new_path new path = if new then path ∷ [] else []
+
+abbrev pub row_with : NewFile → List ℕ → Row
+row_with file node = record { path = file.path; node = node; flag = file.flag }
+
+abbrev pub changed_in : OfLog → NewFile → Parents → ℕ → Tree → Result (OfFile × List Obstacle) ReadAnswer
+changed_in f file parents link t =
+    and_then (new_text_in f (record { text = plain_prefix file.body ++ file.body; parents = parents; link = link }) t) (λ text.
+    and_then (place_in f t) (λ obstacles.
+    Ok (record { row = row_with file text.0.node; changed = true; growth = text.0.growth; new = length f.log.entries == 0 }, obstacles ++ text.1)))
+
+-- its flag differs from that in the first parent that has it
+abbrev pub has_other_flag : Flag → Option Told → Bool
+has_other_flag flag None = false
+has_other_flag flag (Some old) = not (same_flag flag old.1)
+
+abbrev pub kept_file : OfLog → NewFile → Option Told → ℕ → OfFile
+kept_file f file old rev = record { row = row_with file (parent_node (nodes_of f.log.entries) (Some rev)); changed = has_other_flag file.flag old; growth = None; new = false }
+
+abbrev pub file_with : OfLog → NewFile → Option Told → Parents → ℕ → Option ℕ → Tree → Result (OfFile × List Obstacle) ReadAnswer
+file_with f file old parents link None t = changed_in f file parents link t
+file_with f file old parents link (Some rev) t = Ok (kept_file f file old rev, [])
+
+-- the file on these revisions of its filelog
+abbrev pub file_on : OfLog → NewFile → Option Told → Parents → ℕ → Tree → Result (OfFile × List Obstacle) ReadAnswer
+file_on f file old parents link t = and_then (kept_in f parents.0 parents.1 file.body t) (λ rev. file_with f file old parents link rev t)
+
+abbrev pub node_in : Option Told → Option (List ℕ)
+node_in told = option_map (λ x. x.0) told
+
+-- the parents of its revision, by the rows with its path in the trees of the two parents
+abbrev pub parents_by : OfLog → Option Told → Option Told → Result Parents ReadAnswer
+parents_by f first second =
+    and_then (rev_of_node f.index f.log.entries (node_in first)) (λ a.
+    and_then (rev_of_node f.index f.log.entries (node_in second)) (λ b.
+    Ok (file_parents_of (parents_in f.log.entries) a b)))
+
+-- a file of the new tree
+abbrev pub file_in : (List ℕ → Ext → Bool) → ℕ → NewFile → Option Told → Option Told → Tree → Result (OfFile × List Obstacle) ReadAnswer
+file_in lists link file first second t =
+    and_then (filelog_in lists file.path t) (λ f.
+    and_then (parents_by f first second) (λ parents.
+    file_on f file (first_of first second) parents link t))
+
+-- ---- the order of files
 
 -- each path may stand in a row, and comes behind the one before it
 abbrev pub can_follow : List ℕ → List NewFile → Bool

@@ -2,7 +2,14 @@ pub mod Appended
 pub mod Pushed
 pub mod Revised
 pub mod Walk
+pub mod Obstacles
+pub mod Texts
 pub mod Files
+pub mod Tree
+pub mod NewTree
+pub mod Trees
+pub mod Changeset
 pub mod Fault
 pub mod Hindered
 pub mod OfCommit
+pub mod Commit

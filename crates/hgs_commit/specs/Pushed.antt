@@ -4,7 +4,7 @@ use Rattle.hgs_revlog.specs.Load.{entry_behind}
 use Rattle.hgs_revlog.specs.Log.{Log}
 use Rattle.hgs_reader.specs.View.{changelog_index}
 use Rattle.hgs_commit.specs.declared.appended.Growth.{Growth}
-use Rattle.hgs_commit.specs.declared.changeset.NewText.{NewText}
+use Rattle.hgs_commit.specs.declared.new_text.NewText.{NewText}
 use Rattle.hgs_commit.specs.declared.hindrance.Hindrances.{Hindrances}
 use Rattle.hgs_commit.specs.Hindered.{is_met}
 

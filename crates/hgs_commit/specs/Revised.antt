@@ -1,5 +1,5 @@
 -- What a text becomes in a revlog, and what is appended to the two files.
-use Rattle.std.specs.Prelude.{◌≡◌, ◌*◌, ℕ, Bool, true, false, IsOk, List, [], ◌∷◌, ◌++◌, length, Option, Some, None, Result, Ok, Err}
+use Rattle.std.specs.Prelude.{◌≡◌, Bool, true, false, IsOk, Result, Ok, Err}
 use Rattle.hgs_index.specs.declared.node.Node.{Node}
 use Rattle.hgs_bytes.specs.Bytes.{same}
 use Rattle.hgs_index.specs.Node.{null_node}

@@ -1,5 +1,5 @@
 -- The rows of a parent's manifest, passed in the order of their paths.
-use Rattle.std.specs.Prelude.{ℕ, List, [], ◌∷◌, Option, Some, None, if◌then◌else◌, drop, map}
+use Rattle.std.specs.Prelude.{ℕ, List, [], ◌∷◌, Option, Some, None, if◌then◌else◌}
 use Rattle.hgs_bytes.specs.Bytes.{same, is_below}
 use Rattle.hgs_index.specs.declared.kinds.Flag.{Flag}
 use Rattle.hgs_index.specs.declared.node.Node.{Node}

@@ -1,16 +1,9 @@
 //! What is appended of a new revision to the two files of its revlog.
-ghost use Rattle.std.specs.Prelude.{◌≡◌, ◌++◌, ◌+◌, ◌*◌, ◌≤◌, ◌∷◌, [], true, length, IfOk, OnOk};
+ghost use Rattle.std.specs.Prelude.{◌≡◌, true};
 ghost use Rattle.std.specs.List.{list_all};
-ghost use Rattle.hgs_revlog.specs.Loaded.{AreEntries};
-ghost use Rattle.hgs_transaction.specs.declared.parts.Change.TheVariants.{Append};
-ghost use Rattle.hgs_commit.specs.Appended.{growth_of, is_beside, is_beside_path, optional_append};
+ghost use Rattle.hgs_commit.specs.Appended.{is_beside, optional_append};
 
-use hgs_bytes::bytes::Bytes;
-use hgs_loading::logs::end_of;
-use hgs_reader::find::RevlogPaths;
-use hgs_revlog::revlog::Revlog;
-use hgs_transaction::parts::{Appending, Change};
-use std::alloc::{AllocError, Global};
+use hgs_transaction::parts::Appending;
 
 /// What is appended of a new revision: its chunk to the data file, if it has bytes, and then its entry to the index.
 #[derive(Debug, Drop)]
@@ -20,62 +13,4 @@ pub struct Growth {
     /// The entry itself.
     pub new_entry: [u8; 64],
     pub ghost chunk_beside: { list_all is_beside (optional_append chunk) ≡ true },
-}
-
-impl Growth {
-    /// The appends of a new revision behind those of a revlog.
-    pub fn new(
-        alloc: Global,
-        paths: RevlogPaths,
-        log: &Revlog,
-        new_entry: [u8; 64],
-        chunk: Bytes,
-    ) -> Result<Growth, AllocError>
-        requires entries { AreEntries log.now.entries }
-        requires chunks { is_beside_path paths.chunks ≡ true }
-        ensures growth { IfOk result (λ g. optional_append g.chunk ++ Append g.entry ∷ [] ≡ growth_of paths.index paths.chunks log.now new_entry chunk) }
-        ensures entry { IfOk result (λ g. g.new_entry ≡ new_entry) }
-        ensures index { IfOk result (λ g. g.entry ≡ record { path = paths.index; before = 64 * length log.now.entries; bytes = new_entry }) }
-    {
-        let RevlogPaths { index, chunks } = paths;
-        let chunk = if chunk.is_empty() {
-            None
-        } else {
-            Some(Appending {
-                path: chunks,
-                before: end_of(log),
-                bytes: chunk,
-            })
-        };
-        let entry = Appending {
-            path: index,
-            before: 64 * log.len() as u64,
-            bytes: Bytes::from_slice(alloc, &new_entry)?,
-        };
-        Ok(Growth {
-            chunk,
-            entry,
-            new_entry,
-        })
-    }
-
-    /// Adds the appends, or a part of them where there is no memory.
-    pub fn push_to(self, into: &mut Vec<Change>) -> Result<(), AllocError>
-        requires before { list_all is_beside into.old.items ≡ true }
-        requires entry { is_beside (Append self.entry) ≡ true }
-        ensures ok { OnOk result (into.new.items ≡ into.old.items ++ optional_append self.chunk ++ Append self.entry ∷ []) }
-        ensures beside { list_all is_beside into.new.items ≡ true }
-        ensures few { length into.new.items ≤ length into.old.items + 2 }
-    {
-        let Growth {
-            chunk,
-            entry,
-            new_entry: _,
-        } = self;
-        if let Some(chunk) = chunk {
-            into.push(Change::Append(chunk))?;
-        }
-        into.push(Change::Append(entry))?;
-        Ok(())
-    }
 }

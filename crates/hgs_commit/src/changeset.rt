@@ -1,18 +1,20 @@
 //! The texts of a commit's manifest and changeset, and what they become.
 ghost use Rattle.std.specs.Prelude.{◌≡◌, ◌<◌, ◌^◌, true, false, is_some, length, IfOk, IfSome};
+ghost use Rattle.hgs_index.specs.ChangeText.{change_text};
+ghost use Rattle.hgs_loading.specs.Found.{Finds};
 ghost use Rattle.hgs_reader.specs.Answer.{HasFaultCause};
 ghost use Rattle.hgs_reader.specs.View.{changelog_index};
 ghost use Rattle.hgs_reader.specs.Contents.{manifest_index};
 ghost use Rattle.hgs_revlog.specs.Loaded.{AreEntries};
+ghost use Rattle.hgs_commit.specs.Changeset.{change_of, changeset_in, manifest_in};
 ghost use Rattle.hgs_commit.specs.Hindered.{is_met};
+ghost use Rattle.hgs_commit.specs.Obstacles.{met_of, noting};
 ghost use Rattle.hgs_commit.specs.Pushed.{AppendsTo, Pushes};
-ghost use Rattle.hgs_commit.specs.Revised.{is_standing};
+ghost use Rattle.hgs_commit.specs.Texts.{view_text};
 
-use crate::appended::Growth;
-use crate::filelogs::revise_in;
-use crate::grow::growth_in;
-use crate::growth::Became;
 use crate::hindrance::Hindrances;
+use crate::new_text::NewText;
+use crate::texts::new_text;
 use hgs_bytes::bytes::Bytes;
 use hgs_bytes::names::Names;
 use hgs_changelog::text::ChangeText;
@@ -25,15 +27,6 @@ use hgs_reader::answer::ReadAnswer;
 use hgs_reader::contents::manifest_paths;
 use hgs_revlog::revlog::Revlog;
 use std::alloc::{AllocError, Global};
-
-/// What the text of a new manifest or changeset became.
-#[derive(Drop)]
-pub struct NewText {
-    pub node: Node,
-    /// The revision that it is already.
-    pub standing: Option<u32>,
-    pub growth: Option<Growth>,
-}
 
 /// What a manifest of these rows becomes.
 pub fn new_manifest<R: Reads>(
@@ -50,6 +43,8 @@ pub fn new_manifest<R: Reads>(
     requires first { IfSome parents.0 (λ rev. rev < length manifest.now.entries) }
     requires second { IfSome parents.1 (λ rev. rev < length manifest.now.entries) }
     requires link { link < 2 ^ 31 }
+    ensures found { Finds (λ x. (view_text x, met_of met.new)) R.alone (R.seen files.new) (R.start files.new) (λ t. noting (met_of met.old) (manifest_in manifest.now rows.now parents link t)) result }
+    ensures clash { met.new.clash ≡ met.old.clash }
     ensures index { IfOk result (λ text. AppendsTo manifest_index manifest.now text.growth) }
     ensures same_start { R.start files.new ≡ R.start files.old }
     ensures still { R.alone ≡ true → R.seen files.new ≡ R.seen files.old }
@@ -58,15 +53,7 @@ pub fn new_manifest<R: Reads>(
     let mut text = Vec::new(alloc);
     rows.print(&mut text)?;
     let paths = manifest_paths(alloc)?;
-    let (p1, p2) = parents;
-    let revised = revise_in(alloc, files, &paths, manifest, &text, p1, p2, link)?;
-    let node = revised.node;
-    let growth = growth_in(alloc, paths, manifest, revised, met)?;
-    Ok(NewText {
-        node,
-        standing: None,
-        growth,
-    })
+    new_text(alloc, files, paths, manifest, &text, parents, link, met)
 }
 
 // The text of the changeset.
@@ -75,7 +62,9 @@ fn change_text(
     manifest: Node,
     change: &NewChange,
     changed: Names,
-) -> Result<Vec<u8>, AllocError> {
+) -> Result<Vec<u8>, AllocError>
+    ensures { IfOk result (λ text. text.items ≡ change_text (change_of change.now manifest.0 changed)) }
+{
     let told = ChangeText {
         manifest,
         user: change.user.copy(alloc)?,
@@ -88,16 +77,6 @@ fn change_text(
     let mut text = Vec::new(alloc);
     told.print(&mut text)?;
     Ok(text)
-}
-
-// The revision that a text is already.
-fn standing_rev(became: &Became) -> Option<u32>
-    ensures { is_some result ≡ is_standing became.now }
-{
-    match became {
-        Became::Standing(rev) => Some(*rev),
-        _ => None,
-    }
 }
 
 /// What the changeset becomes that has this manifest and these changed paths.
@@ -115,6 +94,8 @@ pub fn new_changeset<R: Reads>(
     requires separate { changelog.now.inline ≡ false }
     requires first { IfSome parents.0 (λ rev. rev < length changelog.now.entries) }
     requires second { IfSome parents.1 (λ rev. rev < length changelog.now.entries) }
+    ensures found { Finds (λ x. (view_text x, met_of met.new)) R.alone (R.seen files.new) (R.start files.new) (λ t. noting (met_of met.old) (changeset_in changelog.now change.now parents manifest.0 changed t)) result }
+    ensures clash { met.new.clash ≡ met.old.clash }
     ensures pushes { IfOk result (λ text. Pushes changelog.now text.growth) }
     ensures index { IfOk result (λ text. AppendsTo changelog_index changelog.now text.growth) }
     ensures lacking { IfOk result (λ text. is_some text.growth ≡ false → is_some text.standing ≡ false → is_met met.new ≡ true) }
@@ -124,15 +105,6 @@ pub fn new_changeset<R: Reads>(
 {
     let text = change_text(alloc, manifest, change, changed)?;
     let paths = changelog_paths(alloc)?;
-    let (p1, p2) = parents;
     let link = changelog.len();
-    let revised = revise_in(alloc, files, &paths, changelog, &text, p1, p2, link)?;
-    let node = revised.node;
-    let standing = standing_rev(&revised.became);
-    let growth = growth_in(alloc, paths, changelog, revised, met)?;
-    Ok(NewText {
-        node,
-        standing,
-        growth,
-    })
+    new_text(alloc, files, paths, changelog, &text, parents, link, met)
 }

@@ -1,28 +1,38 @@
 //! A commit: what is read for it, and the parts of its transaction.
-ghost use Rattle.std.specs.Prelude.{◌≡◌, ◌≤◌, ◌<◌, ◌+◌, ◌^◌, [], true, false, length, Some, IfOk, IfSome};
+ghost use Rattle.std.specs.Prelude.{◌≡◌, ◌≤◌, ◌<◌, ◌+◌, ◌^◌, [], true, false, length, nat_lt, Some, IfOk, IfSome, OnOk};
 ghost use Rattle.std.specs.List.{list_all};
-ghost use Rattle.hgs_model.specs.Valid.{IsNewChange};
+ghost use Rattle.hgs_bytes.specs.Text.{ascends};
+ghost use Rattle.hgs_model.specs.Valid.{IsNewChange, new_paths};
 ghost use Rattle.hgs_reader.specs.Answer.{HasFaultCause};
 ghost use Rattle.hgs_revlog.specs.Loaded.{AreEntries};
 ghost use Rattle.hgs_commit.specs.Appended.{is_beside};
 ghost use Rattle.hgs_steps.specs.Steps.{CanBeAssembled};
 ghost use Rattle.hgs_reader.specs.Contents.{manifest_index};
 ghost use Rattle.hgs_reader.specs.View.{changelog_index};
+ghost use Rattle.hgs_bytes.specs.Answer.{Gives};
+ghost use Rattle.hgs_loading.specs.Found.{Finds};
+ghost use Rattle.hgs_loading.specs.Parent.{view_parent};
+ghost use Rattle.hgs_reader.specs.Marks.{most_bookmarks};
+ghost use Rattle.hgs_steps.specs.Fault.{is_memory};
+ghost use Rattle.hgs_commit.specs.Commit.{AtRest, ClashOn, Steps, StepsOn, grown_in, is_new_mark, mark_count, parent_files, planned, tested, texts_in, too_many_marks, trees_in, view_grown, view_texts, view_written, written_of};
+ghost use Rattle.hgs_commit.specs.Obstacles.{met_of, noted, noting};
 ghost use Rattle.hgs_commit.specs.Pushed.{AppendsTo, IsNewText, Pushes};
 ghost use Rattle.hgs_commit.specs.OfCommit.{ArePartsOfCommit};
 ghost use Rattle.hgs_commit.specs.Fault.{HasCause};
 ghost use Rattle.hgs_commit.specs.Files.{can_follow};
 
-use crate::changeset::{NewText, new_changeset, new_manifest};
+use crate::changeset::{new_changeset, new_manifest};
 use crate::fault::CommitFault;
 use crate::file::add_files;
 use crate::hindrance::Hindrances;
 use crate::laws::files_follow;
+use crate::new_text::NewText;
 use crate::parents::manifest_parents;
 use crate::tree::{Grown, NewTree};
 use crate::written::{Texts, Written, step_of};
 use hgs_files::files::Reads;
 use hgs_index::kinds::Which;
+use hgs_index::texts::manifest_reads_then_prints;
 use hgs_loading::parent::{ParentManifest, parent_manifest};
 use hgs_loading::store::changelog_paths;
 use hgs_manifest::manifest::Manifest;
@@ -47,6 +57,7 @@ fn parent_of<R: Reads>(
 ) -> Result<ParentManifest, ReadAnswer>
     requires stands { IfSome rev (λ r. r < length loaded.now.changelog.entries) }
     requires manifest { AreEntries loaded.now.manifest.entries }
+    ensures found { Finds view_parent R.alone (R.seen files.new) (R.start files.new) (parent_files loaded.now rev) result }
     ensures below { IfOk result (λ p. IfSome p.rev (λ r. r < length loaded.now.manifest.entries)) }
     ensures same_start { R.start files.new ≡ R.start files.old }
     ensures still { R.alone ≡ true → R.seen files.new ≡ R.seen files.old }
@@ -72,7 +83,9 @@ fn parent_of<R: Reads>(
 }
 
 // A tree that is that of the one parent, or empty where there is no parent, changes nothing.
-fn test_change(parents: (Option<u32>, Option<u32>), grown: &Grown) -> Result<(), PlanFault> {
+fn test_change(parents: (Option<u32>, Option<u32>), grown: &Grown) -> Result<(), PlanFault>
+    ensures { result ≡ tested parents (view_grown grown.now) }
+{
     let (first, second) = parents;
     if second.is_none() && grown.changed.len() == 0 {
         return Err(PlanFault::Refused(Refusal::NothingChanged(first.unwrap_or(0))));
@@ -80,13 +93,34 @@ fn test_change(parents: (Option<u32>, Option<u32>), grown: &Grown) -> Result<(),
     Ok(())
 }
 
+// Whether a bookmark is set that was not there.
+fn is_new_mark(loaded: &Loaded, change: &NewChange) -> bool
+    ensures { result ≡ is_new_mark loaded.now change.now.bookmark }
+{
+    match &change.bookmark {
+        Some(name) => loaded.bookmarks.get(name.as_slice()).is_none(),
+        None => false,
+    }
+}
+
+// Whether there are too many bookmarks, or would be with the one that is set.
+fn has_too_many_marks(loaded: &Loaded, change: &NewChange) -> bool
+    ensures { result ≡ nat_lt most_bookmarks (mark_count loaded.now change.now) }
+{
+    let count = loaded.bookmarks.len();
+    if is_new_mark(loaded, change) {
+        count >= MOST_BOOKMARKS
+    } else {
+        count > MOST_BOOKMARKS
+    }
+}
+
 // Notes that there are too many bookmarks, or would be with the one that is set.
-fn meet_bookmarks(loaded: &Loaded, change: &NewChange, met: &mut Hindrances) {
-    let more = match &change.bookmark {
-        Some(name) if loaded.bookmarks.get(name.as_slice()).is_none() => 1,
-        _ => 0,
-    };
-    if loaded.bookmarks.len().saturating_add(more) > MOST_BOOKMARKS {
+fn meet_bookmarks(loaded: &Loaded, change: &NewChange, met: &mut Hindrances)
+    ensures met { met_of met.new ≡ noted (met_of met.old) (too_many_marks loaded.now change.now) }
+    ensures clash { met.new.clash ≡ met.old.clash }
+{
+    if has_too_many_marks(loaded, change) {
         met.meet_limit(Which::Bookmarks);
     }
 }
@@ -106,6 +140,9 @@ fn grown_tree<R: Reads>(
     requires second { IfSome parents.1 (λ r. r < length loaded.now.changelog.entries) }
     requires few { length change.now.files ≤ 20000 }
     requires order { can_follow [] change.now.files ≡ true }
+    requires ascend { ascends (new_paths change.now.files) ≡ true }
+    ensures found { Finds (λ x. ((view_grown x.0, x.1), met_of met.new)) R.alone (R.seen files.new) (R.start files.new) (λ t. noting (met_of met.old) (grown_in loaded.now change.now parents t)) result }
+    ensures clash { OnOk result (AtRest R.alone (R.seen files.new) (R.start files.new) (λ t. ClashOn loaded.now (trees_in loaded.now change.now parents t) met.old.clash met.new.clash)) }
     ensures few { IfOk result (λ x. length x.0.growth.items ≤ 40000) }
     ensures beside { IfOk result (λ x. list_all is_beside x.0.growth.items ≡ true) }
     ensures first { IfOk result (λ x. IfSome x.1.0 (λ r. r < length loaded.now.manifest.entries)) }
@@ -114,12 +151,19 @@ fn grown_tree<R: Reads>(
     ensures still { R.alone ≡ true → R.seen files.new ≡ R.seen files.old }
     ensures cause { HasFaultCause (R.faults files.old) (R.faults files.new) (R.denied files.old) (R.denied files.new) result }
 {
-    let first = parent_of(alloc, files, loaded, parents.0)?;
-    let second = parent_of(alloc, files, loaded, parents.1)?;
+    manifest_reads_then_prints();
+    let first = match parent_of(alloc, files, loaded, parents.0) {
+        Ok(first) => first,
+        Err(refusal) => return Err(refusal),
+    };
+    let second = match parent_of(alloc, files, loaded, parents.1) {
+        Ok(second) => second,
+        Err(refusal) => return Err(refusal),
+    };
     let manifests = manifest_parents(first.rev, second.rev);
     let mut tree = NewTree::new(alloc, first.rows, second.rows);
     let link = loaded.changelog.len();
-    add_files(
+    match add_files(
         alloc,
         files,
         &loaded.fncache,
@@ -127,7 +171,10 @@ fn grown_tree<R: Reads>(
         change.files.as_slice(),
         &mut tree,
         met,
-    )?;
+    ) {
+        Ok(()) => {}
+        Err(refusal) => return Err(refusal),
+    }
     Ok((tree.finish()?, manifests))
 }
 
@@ -148,6 +195,8 @@ fn texts_of<R: Reads>(
     requires second { IfSome parents.1 (λ r. r < length loaded.now.changelog.entries) }
     requires first_manifest { IfSome manifests.0 (λ r. r < length loaded.now.manifest.entries) }
     requires second_manifest { IfSome manifests.1 (λ r. r < length loaded.now.manifest.entries) }
+    ensures found { Finds (λ x. (view_texts x, met_of met.new)) R.alone (R.seen files.new) (R.start files.new) (λ t. noting (met_of met.old) (texts_in loaded.now change.now parents (view_grown grown) manifests t)) result }
+    ensures clash { met.new.clash ≡ met.old.clash }
     ensures filelogs { IfOk result (λ texts. texts.filelogs ≡ grown.growth) }
     ensures manifest { IfOk result (λ texts. AppendsTo manifest_index loaded.now.manifest texts.manifest) }
     ensures changeset { IfOk result (λ texts. IsNewText loaded.now.changelog met.new texts.changeset) }
@@ -163,7 +212,7 @@ fn texts_of<R: Reads>(
     } = grown;
     let link = loaded.changelog.len();
     let manifest = new_manifest(alloc, files, &loaded.manifest, &rows, manifests, link, met)?;
-    let changeset = new_changeset(
+    let changeset = match new_changeset(
         alloc,
         files,
         &loaded.changelog,
@@ -172,7 +221,10 @@ fn texts_of<R: Reads>(
         manifest.node,
         changed,
         met,
-    )?;
+    ) {
+        Ok(changeset) => changeset,
+        Err(refusal) => return Err(refusal),
+    };
     Ok(Texts {
         filelogs: growth,
         lines,
@@ -184,6 +236,7 @@ fn texts_of<R: Reads>(
 // What is written, unless a changeset stands that is the same, or something was met that keeps it from being written.
 fn written_of(texts: Texts, met: Hindrances, log: &Revlog) -> Result<Written, PlanFault>
     requires changeset { IsNewText log.now met texts.changeset }
+    ensures written { Gives is_memory view_written result (written_of (view_texts texts) (met_of met) met.clash) }
     ensures filelogs { IfOk result (λ written. written.filelogs ≡ texts.filelogs) }
     ensures manifest { IfOk result (λ written. written.manifest ≡ texts.manifest) }
     ensures pushes { IfOk result (λ written. Pushes log.now (Some written.changeset)) }
@@ -203,7 +256,10 @@ fn written_of(texts: Texts, met: Hindrances, log: &Revlog) -> Result<Written, Pl
     if let Some(rev) = standing {
         return Err(PlanFault::Refused(Refusal::NothingChanged(rev)));
     }
-    met.refusal()?;
+    match met.refusal() {
+        Ok(()) => {}
+        Err(fault) => return Err(fault),
+    }
     match growth {
         Some(changeset) => Ok(Written {
             filelogs,
@@ -213,6 +269,36 @@ fn written_of(texts: Texts, met: Hindrances, log: &Revlog) -> Result<Written, Pl
             node,
         }),
         None => unreachable!(),
+    }
+}
+
+// The step of these texts, unless a changeset stands that is the same, or something was met that keeps it from being written.
+fn planned_step(
+    alloc: Global,
+    loaded: &Loaded,
+    change: &NewChange,
+    parents: (Option<u32>, Option<u32>),
+    texts: Texts,
+    met: Hindrances,
+) -> Result<Step, PlanFault>
+    requires valid { IsNewChange change.now }
+    requires first { IfSome parents.0 (λ r. r < length loaded.now.changelog.entries) }
+    requires second { IfSome parents.1 (λ r. r < length loaded.now.changelog.entries) }
+    requires changeset { IsNewText loaded.now.changelog met texts.changeset }
+    requires manifest { AppendsTo manifest_index loaded.now.manifest texts.manifest }
+    requires few { length texts.filelogs.items ≤ 40000 }
+    requires beside { list_all is_beside texts.filelogs.items ≡ true }
+    ensures step { Gives is_memory (λ step. step) result (planned loaded.now change.now parents (view_texts texts) (met_of met) met.clash) }
+    ensures ready { IfOk result (λ step. CanBeAssembled step.parts) }
+    ensures parts { IfOk result (λ step. ArePartsOfCommit loaded.now.changelog step.parts) }
+{
+    let written = match written_of(texts, met, &loaded.changelog) {
+        Ok(written) => written,
+        Err(fault) => return Err(fault),
+    };
+    match step_of(alloc, loaded, change, parents, written) {
+        Ok(step) => Ok(step),
+        Err(fault) => Err(fault),
     }
 }
 
@@ -230,6 +316,7 @@ fn step_on<R: Reads>(
     requires order { can_follow [] change.now.files ≡ true }
     requires first { IfSome parents.0 (λ r. r < length loaded.now.changelog.entries) }
     requires second { IfSome parents.1 (λ r. r < length loaded.now.changelog.entries) }
+    ensures found { AtRest R.alone (R.seen files.new) (R.start files.new) (λ t. StepsOn loaded.now change.now parents t result) }
     ensures ready { IfOk result (λ step. CanBeAssembled step.parts) }
     ensures parts { IfOk result (λ step. ArePartsOfCommit loaded.now.changelog step.parts) }
     ensures same_start { R.start files.new ≡ R.start files.old }
@@ -240,13 +327,24 @@ fn step_on<R: Reads>(
 {
     let mut met = Hindrances::none();
     meet_bookmarks(loaded, change, &mut met);
-    let (grown, manifests) = grown_tree(alloc, files, loaded, change, parents, &mut met)?;
-    test_change(parents, &grown)?;
-    let texts = texts_of(
+    let (grown, manifests) = match grown_tree(alloc, files, loaded, change, parents, &mut met) {
+        Ok(grown) => grown,
+        Err(refusal) => return Err(CommitFault::Unread(refusal)),
+    };
+    match test_change(parents, &grown) {
+        Ok(()) => {}
+        Err(fault) => return Err(CommitFault::Refused(fault)),
+    }
+    let texts = match texts_of(
         alloc, files, loaded, change, parents, grown, manifests, &mut met,
-    )?;
-    let written = written_of(texts, met, &loaded.changelog)?;
-    Ok(step_of(alloc, loaded, change, parents, written)?)
+    ) {
+        Ok(texts) => texts,
+        Err(refusal) => return Err(CommitFault::Unread(refusal)),
+    };
+    match planned_step(alloc, loaded, change, parents, texts, met) {
+        Ok(step) => Ok(step),
+        Err(fault) => Err(CommitFault::Refused(fault)),
+    }
 }
 
 /// The step of a commit: its new revisions, each after what is read of its revlog, and the files that it replaces.
@@ -262,6 +360,7 @@ pub fn commit<R: Reads>(
     requires changelog { AreEntries loaded.changelog.entries × (loaded.changelog.inline ≡ false) }
     requires manifest { AreEntries loaded.manifest.entries × (loaded.manifest.inline ≡ false) }
     requires valid { IsNewChange change.now }
+    ensures found { AtRest R.alone (R.seen files.new) (R.start files.new) (λ t. Steps loaded change.now t result) }
     ensures ready { IfOk result (λ step. CanBeAssembled step.parts) }
     ensures parts { IfOk result (λ step. ArePartsOfCommit loaded.changelog step.parts) }
     ensures same_start { R.start files.new ≡ R.start files.old }
@@ -271,6 +370,9 @@ pub fn commit<R: Reads>(
     ensures cause { HasCause (R.faults files.old) (R.faults files.new) result }
 {
     files_follow();
-    let parents = loaded.parents(&change.parents)?;
+    let parents = match loaded.parents(&change.parents) {
+        Ok(parents) => parents,
+        Err(fault) => return Err(CommitFault::Refused(fault)),
+    };
     step_on(alloc, files, &loaded, change, parents)
 }

@@ -1,10 +1,22 @@
 //! A file of a commit: its revision in the new tree.
-ghost use Rattle.std.specs.Prelude.{◌≡◌, ◌<◌, ◌^◌, ◌∷◌, ◌++◌, [], true, length, is_ok, IfOk, IfSome, OnOk, ◌≤◌};
+ghost use Rattle.std.specs.Prelude.{◌≡◌, ◌<◌, ◌^◌, ◌∷◌, ◌++◌, [], true, length, is_ok, IfOk, IfSome, OnOk, ◌≤◌, ◌==◌, false, Ok};
 ghost use Rattle.hgs_index.specs.Manifest.{Row};
 ghost use Rattle.hgs_manifest.specs.Held.{with_last};
 ghost use Rattle.hgs_reader.specs.Answer.{HasFaultCause};
-ghost use Rattle.hgs_revlog.specs.Loaded.{AreEntries};
-ghost use Rattle.hgs_commit.specs.Files.{can_follow};
+ghost use Rattle.hgs_revlog.specs.Loaded.{AreEntries, parents_in};
+ghost use Rattle.std.specs.Option.{option_map};
+ghost use Rattle.hgs_bytes.specs.Answer.{Gives};
+ghost use Rattle.hgs_index.specs.Revision.{ParentsBefore};
+ghost use Rattle.hgs_loading.specs.Found.{Finds, and_then};
+ghost use Rattle.hgs_model.specs.History.{first_of};
+ghost use Rattle.hgs_reader.specs.Answer.{is_of_outside, NeverFaults};
+ghost use Rattle.hgs_path.specs.Fncache.{listing};
+ghost use Rattle.hgs_commit.specs.Files.{can_follow, changed_in, file_in, file_on, kept_file, new_path, node_in, parents_by, place_in, standing_at, view_file, view_filelog};
+ghost use Rattle.hgs_commit.specs.NewTree.{tree_of};
+ghost use Rattle.hgs_commit.specs.Tree.{ClashIn, adding, files_in};
+ghost use Rattle.hgs_files.specs.Tree.{after_all};
+ghost use Rattle.hgs_commit.specs.Obstacles.{ClashBehind, met_of, noted, noting};
+ghost use Rattle.hgs_commit.specs.Walk.{told_of_found};
 ghost use Rattle.hgs_index.specs.Manifest.{last_path};
 
 use crate::filelog::Filelog;
@@ -12,7 +24,8 @@ use crate::filelogs::{load_filelog, revise_in};
 use crate::grow::growth_in;
 use crate::hindrance::Hindrances;
 use crate::parents::file_parents;
-use crate::tree::{NewTree, ParentFiles, TreeFile};
+use crate::tree::{NewTree, ParentFiles};
+use crate::tree_file::TreeFile;
 use hgs_bytes::bytes::Bytes;
 use hgs_filelog::file_text::pack;
 use hgs_files::files::Reads;
@@ -24,7 +37,7 @@ use hgs_loading::whole::size_of;
 use hgs_model::files::NewFile;
 use hgs_path::fncache::Fncache;
 use hgs_reader::answer::ReadAnswer;
-use std::alloc::Global;
+use std::alloc::{AllocError, Global};
 
 // Notes a file with bytes that stands where a new filelog would be.
 fn meet_standing<R: Reads>(
@@ -33,6 +46,8 @@ fn meet_standing<R: Reads>(
     path: &StorePath,
     met: &mut Hindrances,
 ) -> Result<(), ReadAnswer>
+    ensures found { Finds (λ _. met_of met.new) R.alone (R.seen files.new) (R.start files.new) (λ t. Ok (noted (met_of met.old) (standing_at path.now t))) result }
+    ensures clash { met.new.clash ≡ met.old.clash }
     ensures same_start { R.start files.new ≡ R.start files.old }
     ensures still { R.alone ≡ true → R.seen files.new ≡ R.seen files.old }
     ensures cause { HasFaultCause (R.faults files.old) (R.faults files.new) (R.denied files.old) (R.denied files.new) result }
@@ -57,6 +72,8 @@ fn test_place<R: Reads>(
     met: &mut Hindrances,
 ) -> Result<(), ReadAnswer>
     requires { AreEntries filelog.now.log.entries }
+    ensures found { Finds (λ _. met_of met.new) R.alone (R.seen files.new) (R.start files.new) (λ t. and_then (place_in (view_filelog filelog.now) t) (λ obstacles. Ok (noted (met_of met.old) obstacles))) result }
+    ensures clash { OnOk result (ClashBehind (listing fncache.now) (new_path (length filelog.now.log.entries == 0) path.now) met.old.clash met.new.clash) }
     ensures same_start { R.start files.new ≡ R.start files.old }
     ensures still { R.alone ≡ true → R.seen files.new ≡ R.seen files.old }
     ensures cause { HasFaultCause (R.faults files.old) (R.faults files.new) (R.denied files.old) (R.denied files.new) result }
@@ -87,14 +104,16 @@ fn changed_file<R: Reads>(
     requires first { IfSome parents.0 (λ rev. rev < length filelog.log.entries) }
     requires second { IfSome parents.1 (λ rev. rev < length filelog.log.entries) }
     ensures path { IfOk result (λ f. f.path ≡ file.now.path) }
+    ensures found { Finds (λ f. (view_file f, met_of met.new)) R.alone (R.seen files.new) (R.start files.new) (λ t. noting (met_of met.old) (changed_in (view_filelog filelog) file.now parents link t)) result }
+    ensures clash { IfOk result (λ f. ClashBehind (listing fncache.now) (new_path f.listed file.now.path) met.old.clash met.new.clash) }
     ensures same_start { R.start files.new ≡ R.start files.old }
     ensures still { R.alone ≡ true → R.seen files.new ≡ R.seen files.old }
     ensures cause { HasFaultCause (R.faults files.old) (R.faults files.new) (R.denied files.old) (R.denied files.new) result }
 {
-    let path = file.path.as_slice();
+    let path = file.path.copy(alloc)?;
     let text = pack(alloc, None, file.body.as_slice())?;
     let (p1, p2) = parents;
-    let revised = revise_in(
+    let revised = match revise_in(
         alloc,
         files,
         &filelog.paths,
@@ -103,14 +122,20 @@ fn changed_file<R: Reads>(
         p1,
         p2,
         link,
-    )?;
-    test_place(alloc, files, fncache, path, &filelog, met)?;
+    ) {
+        Ok(revised) => revised,
+        Err(refusal) => return Err(refusal),
+    };
+    match test_place(alloc, files, fncache, path.as_slice(), &filelog, met) {
+        Ok(()) => {}
+        Err(refusal) => return Err(refusal),
+    }
     let listed = filelog.log.len() == 0;
     let node = revised.node;
     let Filelog { paths, log } = filelog;
     let growth = growth_in(alloc, paths, &log, revised, met)?;
     Ok(TreeFile {
-        path: file.path.copy(alloc)?,
+        path,
         node,
         flag: file.flag,
         changed: true,
@@ -120,10 +145,81 @@ fn changed_file<R: Reads>(
 }
 
 // The node of a file in a parent's tree.
-fn node_in(file: Option<(Node, Flag)>) -> Option<Node> {
+fn node_in(file: Option<(Node, Flag)>) -> Option<Node>
+    ensures { option_map (λ n. n.0) result ≡ node_in (option_map told_of_found file) }
+{
     match file {
         Some((node, _)) => Some(node),
         None => None,
+    }
+}
+
+// The parents of a file's new revision, by the revisions in the trees of the two parents.
+fn parents_by(
+    alloc: Global,
+    filelog: &Filelog,
+    rows: ParentFiles,
+) -> Result<(Option<u32>, Option<u32>), ReadAnswer>
+    requires { ParentsBefore 0 (parents_in filelog.now.log.entries) }
+    ensures parents { Gives is_of_outside (λ parents. parents) result (parents_by (view_filelog filelog.now) (option_map told_of_found rows.first) (option_map told_of_found rows.second)) }
+    ensures first { IfOk result (λ parents. IfSome parents.0 (λ rev. rev < length filelog.now.log.entries)) }
+    ensures second { IfOk result (λ parents. IfSome parents.1 (λ rev. rev < length filelog.now.log.entries)) }
+    ensures inner { NeverFaults result }
+{
+    let first = filelog.rev_of(alloc, node_in(rows.first))?;
+    let second = filelog.rev_of(alloc, node_in(rows.second))?;
+    Ok(file_parents(alloc, &filelog.log, first, second)?)
+}
+
+// A file whose revision is kept.
+fn kept_file(
+    alloc: Global,
+    file: &NewFile,
+    filelog: &Filelog,
+    rows: ParentFiles,
+    rev: u32,
+) -> Result<TreeFile, AllocError>
+    requires { rev < length filelog.now.log.entries }
+    ensures file { IfOk result (λ f. view_file f ≡ kept_file (view_filelog filelog.now) file.now (first_of (option_map told_of_found rows.first) (option_map told_of_found rows.second)) rev) }
+    ensures path { IfOk result (λ f. f.path ≡ file.now.path) }
+    ensures listed { IfOk result (λ f. f.listed ≡ false) }
+{
+    Ok(TreeFile {
+        path: file.path.copy(alloc)?,
+        node: filelog.log.entry(rev).node,
+        flag: file.flag,
+        changed: rows.has_other_flag(file.flag),
+        growth: None,
+        listed: false,
+    })
+}
+
+// A file on these revisions of its filelog.
+fn file_on<R: Reads>(
+    alloc: Global,
+    files: &mut R,
+    fncache: &Fncache,
+    link: u32,
+    file: &NewFile,
+    rows: ParentFiles,
+    filelog: Filelog,
+    parents: (Option<u32>, Option<u32>),
+    met: &mut Hindrances,
+) -> Result<TreeFile, ReadAnswer>
+    requires link { link < 2 ^ 31 }
+    requires entries { AreEntries filelog.log.entries }
+    requires first { IfSome parents.0 (λ rev. rev < length filelog.log.entries) }
+    requires second { IfSome parents.1 (λ rev. rev < length filelog.log.entries) }
+    ensures found { Finds (λ f. (view_file f, met_of met.new)) R.alone (R.seen files.new) (R.start files.new) (λ t. noting (met_of met.old) (file_on (view_filelog filelog) file.now (first_of (option_map told_of_found rows.first) (option_map told_of_found rows.second)) parents link t)) result }
+    ensures clash { IfOk result (λ f. ClashBehind (listing fncache.now) (new_path f.listed file.now.path) met.old.clash met.new.clash) }
+    ensures path { IfOk result (λ f. f.path ≡ file.now.path) }
+    ensures same_start { R.start files.new ≡ R.start files.old }
+    ensures still { R.alone ≡ true → R.seen files.new ≡ R.seen files.old }
+    ensures cause { HasFaultCause (R.faults files.old) (R.faults files.new) (R.denied files.old) (R.denied files.new) result }
+{
+    match filelog.kept(alloc, files, parents, file.body.as_slice())? {
+        Some(rev) => Ok(kept_file(alloc, file, &filelog, rows, rev)?),
+        None => changed_file(alloc, files, fncache, link, file, filelog, parents, met),
     }
 }
 
@@ -138,26 +234,21 @@ fn file_of<R: Reads>(
     met: &mut Hindrances,
 ) -> Result<TreeFile, ReadAnswer>
     requires link { link < 2 ^ 31 }
+    ensures found { Finds (λ f. (view_file f, met_of met.new)) R.alone (R.seen files.new) (R.start files.new) (λ t. noting (met_of met.old) (file_in (listing fncache.now) link file.now (option_map told_of_found rows.first) (option_map told_of_found rows.second) t)) result }
+    ensures clash { IfOk result (λ f. ClashBehind (listing fncache.now) (new_path f.listed file.now.path) met.old.clash met.new.clash) }
     ensures path { IfOk result (λ f. f.path ≡ file.now.path) }
     ensures same_start { R.start files.new ≡ R.start files.old }
     ensures still { R.alone ≡ true → R.seen files.new ≡ R.seen files.old }
     ensures cause { HasFaultCause (R.faults files.old) (R.faults files.new) (R.denied files.old) (R.denied files.new) result }
 {
     let filelog = load_filelog(alloc, files, fncache, file.path.as_slice())?;
-    let first = filelog.rev_of(alloc, node_in(rows.first))?;
-    let second = filelog.rev_of(alloc, node_in(rows.second))?;
-    let parents = file_parents(alloc, &filelog.log, first, second)?;
-    match filelog.kept(alloc, files, parents, file.body.as_slice())? {
-        Some(rev) => Ok(TreeFile {
-            path: file.path.copy(alloc)?,
-            node: filelog.log.entry(rev).node,
-            flag: file.flag,
-            changed: rows.has_other_flag(file.flag),
-            growth: None,
-            listed: false,
-        }),
-        None => changed_file(alloc, files, fncache, link, file, filelog, parents, met),
-    }
+    let parents = match parents_by(alloc, &filelog, rows) {
+        Ok(parents) => parents,
+        Err(refusal) => return Err(refusal),
+    };
+    file_on(
+        alloc, files, fncache, link, file, rows, filelog, parents, met,
+    )
 }
 
 /// Adds all files of a commit to the tree, each after what is read of its filelog.
@@ -174,6 +265,8 @@ pub fn add_files<R: Reads>(
     requires empty { tree.old.rows ≡ [] }
     requires few { length new_files.now ≤ 20000 }
     requires order { can_follow [] new_files.now ≡ true }
+    ensures found { Finds (λ _. (tree_of tree.new, met_of met.new)) R.alone (R.seen files.new) (R.start files.new) (λ t. adding (tree_of tree.old) (met_of met.old) (files_in (listing fncache.now) link new_files.now tree.old.first tree.old.second t)) result }
+    ensures clash { OnOk result (R.alone ≡ true → IfSome (R.seen files.new) (λ log. ClashIn (listing fncache.now) (files_in (listing fncache.now) link new_files.now tree.old.first tree.old.second (after_all log (R.start files.new))) met.old.clash met.new.clash)) }
     ensures count { OnOk result (length tree.new.rows ≡ length new_files.now) }
     ensures same_start { R.start files.new ≡ R.start files.old }
     ensures still { R.alone ≡ true → R.seen files.new ≡ R.seen files.old }
@@ -182,7 +275,10 @@ pub fn add_files<R: Reads>(
     let mut rest = new_files;
     while let Some((file, behind)) = rest.split_first() {
         let rows = tree.parent_files(file.path.as_slice())?;
-        let added = file_of(alloc, files, fncache, link, file, rows, met)?;
+        let added = match file_of(alloc, files, fncache, link, file, rows, met) {
+            Ok(added) => added,
+            Err(refusal) => return Err(refusal),
+        };
         tree.add(added)?;
         rest = behind;
     }

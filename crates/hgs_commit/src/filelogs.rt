@@ -1,16 +1,22 @@
 //! What is read of filelogs, and what a file's text becomes in one.
-ghost use Rattle.std.specs.Prelude.{◌≡◌, ◌<◌, ◌≤◌, ◌^◌, false, true, length, IfOk, IfSome};
+ghost use Rattle.std.specs.Prelude.{◌≡◌, ◌<◌, ◌≤◌, ◌^◌, false, true, length, Result, Ok, IfOk, IfSome};
 ghost use Rattle.std.specs.Option.{option_map};
 ghost use Rattle.hgs_bytes.specs.Answer.{Gives};
 ghost use Rattle.hgs_commit.specs.Appended.{is_beside_path};
+ghost use Rattle.hgs_bytes.specs.Bytes.{same};
+ghost use Rattle.hgs_index.specs.FileText.{body_of};
 ghost use Rattle.hgs_path.specs.Fncache.{listing};
 ghost use Rattle.hgs_path.specs.StoreName.{store_name};
 ghost use Rattle.hgs_path.specs.declared.name.Ext.TheVariants.{I, D};
 ghost use Rattle.hgs_reader.specs.Answer.{is_of_outside, HasFaultCause, NeverFaults};
 ghost use Rattle.hgs_revlog.specs.Loaded.{AreEntries};
 ghost use Rattle.hgs_loading.specs.Found.{Finds};
+ghost use Rattle.hgs_revlog.specs.Fault.{is_memory};
+ghost use Rattle.hgs_revlog.specs.declared.fault.RevFault.{RevFault};
 ghost use Rattle.hgs_commit.specs.Revised.{Fits};
-ghost use Rattle.hgs_commit.specs.Files.{filelog_in, rev_of_node, view_filelog};
+ghost use Rattle.hgs_commit.specs.declared.growth.Revised.{Revised};
+ghost use Rattle.hgs_commit.specs.Files.{filelog_in, kept_in, rev_of_node, view_filelog};
+ghost use Rattle.hgs_commit.specs.Texts.{log_at, revised_in, revlog_answer};
 
 use crate::filelog::Filelog;
 use crate::growth::{Revised, revise};
@@ -71,6 +77,13 @@ pub fn load_filelog<R: Reads>(
     }
 }
 
+// Whether a text has this body.
+fn has_body(text: &[u8], body: &[u8]) -> bool
+    ensures { result ≡ same (body_of text.now) body.now }
+{
+    equal(past(text, unpack(text).body.from as usize), body)
+}
+
 impl Filelog {
     /// The revision of the node that a manifest names, none where it names none.
     pub fn rev_of(&self, alloc: Global, node: Option<Node>) -> Result<Option<u32>, ReadAnswer>
@@ -97,6 +110,7 @@ impl Filelog {
         body: &[u8],
     ) -> Result<Option<u32>, ReadAnswer>
         requires { IfSome parents.0 (λ rev. rev < length self.now.log.entries) }
+        ensures found { Finds (λ rev. rev) R.alone (R.seen files.new) (R.start files.new) (kept_in (view_filelog self.now) parents.0 parents.1 body.now) result }
         ensures below { IfOk result (λ rev. IfSome rev (λ r. r < length self.now.log.entries)) }
         ensures same_start { R.start files.new ≡ R.start files.old }
         ensures still { R.alone ≡ true → R.seen files.new ≡ R.seen files.old }
@@ -109,9 +123,26 @@ impl Filelog {
             return Ok(None);
         }
         let text = read_text(alloc, files, &self.paths, &self.log, rev)?;
-        let text = text.as_slice();
-        let is_same = equal(past(text, unpack(text).body.from as usize), body);
-        Ok(if is_same { Some(rev) } else { None })
+        if has_body(text.as_slice(), body) {
+            return Ok(Some(rev));
+        }
+        Ok(None)
+    }
+}
+
+// What a fault of a revlog is to a reader of it.
+fn answer_of(
+    alloc: Global,
+    paths: &RevlogPaths,
+    revised: Result<Revised, RevFault>,
+) -> Result<Revised, ReadAnswer>
+    ensures answer { (given : Result Revised RevFault) → Gives is_memory (λ r. r) revised given → Gives is_of_outside (λ r. r) result (revlog_answer paths.now.index given) }
+    ensures same { IfOk result (λ r. revised ≡ Ok r) }
+    ensures inner { NeverFaults result }
+{
+    match revised {
+        Ok(revised) => Ok(revised),
+        Err(fault) => Err(of_revlog(alloc, &paths.index, fault)),
     }
 }
 
@@ -131,20 +162,16 @@ pub fn revise_in<R: Reads>(
     requires first { IfSome p1 (λ rev. rev < length log.now.entries) }
     requires second { IfSome p2 (λ rev. rev < length log.now.entries) }
     requires link { link < 2 ^ 31 }
+    ensures found { Finds (λ r. r) R.alone (R.seen files.new) (R.start files.new) (revised_in (log_at paths.now log.now) (record { text = text.now; parents = (p1, p2); link = link })) result }
     ensures fits { IfOk result (λ r. Fits log.now r.node r.became) }
     ensures same_start { R.start files.new ≡ R.start files.old }
     ensures still { R.alone ≡ true → R.seen files.new ≡ R.seen files.old }
     ensures cause { HasFaultCause (R.faults files.old) (R.faults files.new) (R.denied files.old) (R.denied files.new) result }
 {
-    let revised = match log.standing(text, p1, p2) {
-        None => revise(log, text, p1, p2, link, None),
-        Some(rev) => {
-            let chunk = read_chunk(alloc, files, paths, log, rev)?;
-            revise(log, text, p1, p2, link, Some(chunk.as_slice()))
-        }
+    let Some(rev) = log.standing(text, p1, p2) else {
+        return answer_of(alloc, paths, revise(log, text, p1, p2, link, None));
     };
-    match revised {
-        Ok(revised) => Ok(revised),
-        Err(fault) => Err(of_revlog(alloc, &paths.index, fault)),
-    }
+    let chunk = read_chunk(alloc, files, paths, log, rev)?;
+    let revised = revise(log, text, p1, p2, link, Some(chunk.as_slice()));
+    answer_of(alloc, paths, revised)
 }

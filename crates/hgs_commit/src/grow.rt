@@ -1,14 +1,16 @@
 //! What is appended of what a text became, or what keeps it from being written.
 ghost use Rattle.std.specs.Prelude.{◌≡◌, true, false, is_some, IfOk, IfSome, length};
+ghost use Rattle.std.specs.Option.{option_map};
 ghost use Rattle.hgs_bytes.specs.Bytes.{same};
 ghost use Rattle.hgs_index.specs.Node.{null_node};
-ghost use Rattle.hgs_reader.specs.Answer.{NeverFaults};
 ghost use Rattle.hgs_revlog.specs.Load.{entry_behind};
 ghost use Rattle.hgs_revlog.specs.Loaded.{AreEntries};
 ghost use Rattle.hgs_commit.specs.Hindered.{is_met};
 ghost use Rattle.hgs_commit.specs.Appended.{is_beside_path};
 ghost use Rattle.hgs_commit.specs.Pushed.{AppendsTo, Pushes};
+ghost use Rattle.hgs_commit.specs.Obstacles.{met_of, noted};
 ghost use Rattle.hgs_commit.specs.Revised.{Fits, is_standing};
+ghost use Rattle.hgs_commit.specs.Texts.{growth_with, log_at, obstacles_with, view_growth};
 
 use crate::appended::Growth;
 use crate::growth::{Became, Revised};
@@ -16,10 +18,9 @@ use crate::hindrance::Hindrances;
 use crate::hindrance_kind::Hindrance;
 use hgs_bytes::parts::equal;
 use hgs_index::node::Node;
-use hgs_reader::answer::ReadAnswer;
 use hgs_reader::find::RevlogPaths;
 use hgs_revlog::revlog::Revlog;
-use std::alloc::Global;
+use std::alloc::{AllocError, Global};
 
 // Whether this is the null node.
 fn is_no_revisions(node: &Node) -> bool
@@ -36,14 +37,16 @@ pub fn growth_in(
     log: &Revlog,
     revised: Revised,
     met: &mut Hindrances,
-) -> Result<Option<Growth>, ReadAnswer>
+) -> Result<Option<Growth>, AllocError>
     requires entries { AreEntries log.now.entries }
     requires chunks { is_beside_path paths.chunks ≡ true }
     requires fits { Fits log.now revised.node revised.became }
+    ensures growth { IfOk result (λ growth. option_map view_growth growth ≡ growth_with (log_at paths log.now) revised.node revised.became) }
+    ensures met { IfOk result (λ growth. met_of met.new ≡ noted (met_of met.old) (obstacles_with (log_at paths log.now) revised.node revised.became)) }
+    ensures clash { met.new.clash ≡ met.old.clash }
     ensures index { IfOk result (λ growth. AppendsTo paths.index log.now growth) }
     ensures pushes { IfOk result (λ growth. Pushes log.now growth) }
     ensures lacking { IfOk result (λ growth. is_some growth ≡ false → is_standing revised.became ≡ false → is_met met.new ≡ true) }
-    ensures inner { NeverFaults result }
 {
     let Revised { node, became } = revised;
     match became {

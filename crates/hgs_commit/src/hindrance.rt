@@ -1,6 +1,8 @@
 //! What keeps an accepted commit from being written.
-ghost use Rattle.std.specs.Prelude.{◌≡◌, true, false, OnOk};
+ghost use Rattle.std.specs.Prelude.{◌≡◌, [], true, false, None, Some, OnOk};
+ghost use Rattle.hgs_model.specs.History.{first_of};
 ghost use Rattle.hgs_commit.specs.Hindered.{is_met, refusal_of};
+ghost use Rattle.hgs_commit.specs.Obstacles.{collides, met_of, nothing_met, noted_one, passes, stands};
 
 use hgs_bytes::bytes::Bytes;
 use hgs_files::path::StorePath;
@@ -30,7 +32,9 @@ pub struct Hindrances {
 impl Hindrances {
     /// Nothing was met.
     pub fn none() -> Hindrances
-        ensures { is_met result ≡ false }
+        ensures none { is_met result ≡ false }
+        ensures met { met_of result ≡ nothing_met }
+        ensures clash { result.clash ≡ None }
     {
         Hindrances {
             limit: None,
@@ -42,7 +46,9 @@ impl Hindrances {
 
     /// Notes a limit that would be passed. The first in the order of their numbers is told.
     pub fn meet_limit(&mut self, which: Which)
-        ensures { is_met self.new ≡ true }
+        ensures some { is_met self.new ≡ true }
+        ensures met { met_of self.new ≡ noted_one (met_of self.old) (passes which) }
+        ensures clash { self.new.clash ≡ self.old.clash }
     {
         let is_first = match self.limit {
             Some(met) => which.number() < met.number(),
@@ -55,7 +61,9 @@ impl Hindrances {
 
     /// Notes another path with the same store name. The first is told.
     pub fn meet_clash(&mut self, other: Bytes)
-        ensures { is_met self.new ≡ true }
+        ensures some { is_met self.new ≡ true }
+        ensures met { met_of self.new ≡ met_of self.old }
+        ensures clash { self.new.clash ≡ first_of self.old.clash (Some other) }
     {
         if self.clash.is_none() {
             self.clash = Some(other);
@@ -64,7 +72,9 @@ impl Hindrances {
 
     /// Notes a file that stands where a new filelog would be. The first is told.
     pub fn meet_file(&mut self, path: StorePath)
-        ensures { is_met self.new ≡ true }
+        ensures some { is_met self.new ≡ true }
+        ensures met { met_of self.new ≡ noted_one (met_of self.old) (stands path) }
+        ensures clash { self.new.clash ≡ self.old.clash }
     {
         if self.in_the_way.is_none() {
             self.in_the_way = Some(path);
@@ -73,7 +83,9 @@ impl Hindrances {
 
     /// Notes a revision that has the node of a new one of the revlog with this index. The first is told.
     pub fn meet_collision(&mut self, path: StorePath, rev: u32)
-        ensures { is_met self.new ≡ true }
+        ensures some { is_met self.new ≡ true }
+        ensures met { met_of self.new ≡ noted_one (met_of self.old) (collides path rev) }
+        ensures clash { self.new.clash ≡ self.old.clash }
     {
         if self.collision.is_none() {
             self.collision = Some(Collided { path, rev });

@@ -2,6 +2,7 @@
 #![tactic(auto)]
 
 pub mod appended;
+pub mod appends;
 pub mod changeset;
 pub mod commit;
 pub mod fault;
@@ -13,9 +14,12 @@ pub mod growth;
 pub mod hindrance;
 pub mod hindrance_kind;
 pub mod laws;
+pub mod new_text;
 pub mod parents;
 #[cfg(test)]
 mod tests;
+pub mod texts;
 pub mod tree;
+pub mod tree_file;
 pub mod walk;
 pub mod written;

@@ -1,13 +1,19 @@
 //! The tree of a commit that is under way: its files up to some path, and what they change.
-ghost use Rattle.std.specs.Prelude.{◌≡◌, ◌≤◌, ◌<◌, ◌+◌, ◌*◌, ◌++◌, ◌∷◌, [], true, length, map, is_ok, OnOk, IfOk};
+ghost use Rattle.std.specs.Prelude.{◌≡◌, ◌≤◌, ◌<◌, ◌+◌, ◌*◌, ◌++◌, ◌∷◌, [], true, length, map, is_ok, Some, OnOk, IfOk};
 ghost use Rattle.std.specs.List.{list_all};
 ghost use Rattle.hgs_index.specs.Manifest.{Row};
 ghost use Rattle.hgs_manifest.specs.Held.{with_last};
+ghost use Rattle.hgs_model.specs.History.{first_of, in_order, inserted};
+ghost use Rattle.std.specs.Option.{ForSome, option_map};
 ghost use Rattle.hgs_commit.specs.Appended.{is_beside};
+ghost use Rattle.hgs_commit.specs.Files.{has_other_flag, new_path};
+ghost use Rattle.hgs_commit.specs.Texts.{changes_of, view_growth};
+ghost use Rattle.hgs_commit.specs.Tree.{new_lines, passed_at, paths_of, rest_at, row_at};
+ghost use Rattle.hgs_commit.specs.Walk.{told_of_found};
 ghost use Rattle.hgs_transaction.specs.declared.parts.Change.TheVariants.{Append};
-ghost use Rattle.std.specs.Option.{ForSome};
 
 use crate::appended::Growth;
+use crate::tree_file::TreeFile;
 use crate::walk::Walk;
 use hgs_bytes::bytes::Bytes;
 use hgs_bytes::names::Names;
@@ -30,26 +36,15 @@ pub struct ParentFiles {
 
 impl ParentFiles {
     /// Whether the first parent that has the file has it with another flag.
-    pub fn has_other_flag(&self, flag: Flag) -> bool {
+    pub fn has_other_flag(&self, flag: Flag) -> bool
+        ensures { result ≡ has_other_flag flag (first_of (option_map told_of_found self.now.first) (option_map told_of_found self.now.second)) }
+    {
         match (self.first, self.second) {
             (Some((_, old)), _) => flag != old,
             (None, Some((_, old))) => flag != old,
             (None, None) => false,
         }
     }
-}
-
-/// A file of the new tree: its revision, whether the changeset lists it as changed, and what is appended of a new revision.
-#[derive(Drop)]
-pub struct TreeFile {
-    pub path: Bytes,
-    pub node: Node,
-    pub flag: Flag,
-    pub changed: bool,
-    pub growth: Option<Growth>,
-    /// Whether its filelog is new, so that the list of filelogs gets its two names.
-    pub listed: bool,
-    pub ghost growth_beside: { ForSome growth (λ g. is_beside (Append g.entry) ≡ true) },
 }
 
 /// The files of a tree up to some path, beside the manifests of the two parents.
@@ -78,12 +73,31 @@ pub struct Grown {
     pub lines: Vec<u8>,
 }
 
-// The paths in the order of their bytes, each once.
-fn in_order(alloc: Global, paths: Vec<Bytes>) -> Result<Names, AllocError> {
-    let mut ordered: BTreeSet<Vec<u8>> = BTreeSet::new(alloc);
-    for path in paths {
-        ordered.insert(path.into_vec())?;
+// Adds the path to a set.
+fn insert_path(path: Bytes, ordered: &mut BTreeSet<Vec<u8>>) -> Result<(), AllocError>
+    ensures { OnOk result (map (λ p. p.items) ordered.new.keys ≡ inserted path (map (λ p. p.items) ordered.old.keys)) }
+{
+    ordered.insert(path.into_vec())?;
+    Ok(())
+}
+
+// The set of these paths.
+fn set_of(alloc: Global, paths: Vec<Bytes>) -> Result<BTreeSet<Vec<u8>>, AllocError>
+    ensures { IfOk result (λ ordered. map (λ p. p.items) ordered.keys ≡ in_order paths.items) }
+{
+    let mut ordered = BTreeSet::new(alloc);
+    let mut rest = paths;
+    while let Some(path) = rest.pop() {
+        insert_path(path, &mut ordered)?;
     }
+    Ok(ordered)
+}
+
+// The paths in the order of their bytes, each once.
+fn in_order(alloc: Global, paths: Vec<Bytes>) -> Result<Names, AllocError>
+    ensures { IfOk result (λ names. names ≡ in_order paths.items) }
+{
+    let ordered = set_of(alloc, paths)?;
     let mut names = Names::new(alloc);
     for path in &ordered {
         names.push(Bytes::from_slice(alloc, path)?)?;
@@ -94,7 +108,12 @@ fn in_order(alloc: Global, paths: Vec<Bytes>) -> Result<Names, AllocError> {
 impl NewTree {
     /// A tree of no files yet, on parents with these manifests. Takes no memory.
     pub fn new(alloc: Global, first: Manifest, second: Manifest) -> NewTree
-        ensures { result.rows ≡ [] }
+        ensures first { result.first ≡ first }
+        ensures second { result.second ≡ second }
+        ensures rows { result.rows ≡ [] }
+        ensures changed { result.changed.items ≡ [] }
+        ensures growth { result.growth.items ≡ [] }
+        ensures lines { result.lines.items ≡ [] }
     {
         NewTree {
             alloc,
@@ -107,16 +126,15 @@ impl NewTree {
         }
     }
 
-    /// The number of files.
-    pub fn len(&self) -> u32
-        ensures { result ≡ length self.now.rows }
-    {
-        self.rows.len()
-    }
-
     /// The next path in the trees of the parents. The paths before it that a parent has are changed: they are removed.
     pub fn parent_files(&mut self, path: &[u8]) -> Result<ParentFiles, AllocError>
+        ensures found { IfOk result (λ files. (option_map told_of_found files.first ≡ row_at path.now self.old.first) × (option_map told_of_found files.second ≡ row_at path.now self.old.second)) }
+        ensures first { OnOk result (self.new.first ≡ rest_at path.now self.old.first) }
+        ensures second { OnOk result (self.new.second ≡ rest_at path.now self.old.second) }
+        ensures changed { OnOk result (self.new.changed.items ≡ self.old.changed.items ++ passed_at path.now self.old.first self.old.second) }
         ensures rows { self.new.rows ≡ self.old.rows }
+        ensures growth { self.new.growth ≡ self.old.growth }
+        ensures lines { self.new.lines ≡ self.old.lines }
     {
         self.first.pass_before(self.alloc, path, &mut self.changed)?;
         self.second
@@ -133,6 +151,10 @@ impl NewTree {
         requires next { is_ok (with_last self.old.rows (record { path = path.now; node = node.0; flag = flag })) ≡ true }
         ensures rows { OnOk result (self.new.rows ≡ self.old.rows ++ (record { path = path.now; node = node.0; flag = flag }) ∷ []) }
         ensures growth { self.new.growth ≡ self.old.growth }
+        ensures first { self.new.first ≡ self.old.first }
+        ensures second { self.new.second ≡ self.old.second }
+        ensures changed { self.new.changed ≡ self.old.changed }
+        ensures lines { self.new.lines ≡ self.old.lines }
     {
         match self.rows.push(path, node, flag) {
             Ok(()) => Ok(()),
@@ -142,20 +164,51 @@ impl NewTree {
     }
 
     // Adds what is appended of a file's new revision, or a part of it where there is no memory.
-    fn push_growth(&mut self, growth: Growth) -> Result<(), AllocError>
+    fn push_growth(&mut self, growth: Option<Growth>) -> Result<(), AllocError>
         requires few { length self.old.growth.items + 2 ≤ 2 * length self.old.rows }
-        requires beside { is_beside (Append growth.entry) ≡ true }
-        ensures { self.new.rows ≡ self.old.rows }
+        requires beside { ForSome growth (λ g. is_beside (Append g.entry) ≡ true) }
+        ensures growth { OnOk result (self.new.growth.items ≡ self.old.growth.items ++ changes_of (option_map view_growth growth)) }
+        ensures rows { self.new.rows ≡ self.old.rows }
+        ensures first { self.new.first ≡ self.old.first }
+        ensures second { self.new.second ≡ self.old.second }
+        ensures changed { self.new.changed ≡ self.old.changed }
+        ensures lines { self.new.lines ≡ self.old.lines }
     {
-        growth.push_to(&mut self.growth)
+        match growth {
+            Some(growth) => growth.push_to(&mut self.growth),
+            None => Ok(()),
+        }
     }
 
-    // Adds the lines of a new filelog.
-    fn push_lines(&mut self, path: &[u8]) -> Result<(), AllocError>
-        ensures { self.new.rows ≡ self.old.rows }
+    // Adds the lines of a filelog that is new.
+    fn push_lines(&mut self, new: bool, path: &[u8]) -> Result<(), AllocError>
+        ensures lines { OnOk result (self.new.lines.items ≡ self.old.lines.items ++ new_lines new path.now) }
+        ensures rows { self.new.rows ≡ self.old.rows }
+        ensures growth { self.new.growth ≡ self.old.growth }
+        ensures first { self.new.first ≡ self.old.first }
+        ensures second { self.new.second ≡ self.old.second }
+        ensures changed { self.new.changed ≡ self.old.changed }
     {
+        if !new {
+            return Ok(());
+        }
         Fncache::add_line(path, Ext::I, &mut self.lines)?;
         Fncache::add_line(path, Ext::D, &mut self.lines)
+    }
+
+    // Adds a path that the changeset lists, if it does.
+    fn push_changed(&mut self, changed: bool, path: Bytes) -> Result<(), AllocError>
+        ensures changed { OnOk result (self.new.changed.items ≡ self.old.changed.items ++ new_path changed path) }
+        ensures rows { self.new.rows ≡ self.old.rows }
+        ensures growth { self.new.growth ≡ self.old.growth }
+        ensures first { self.new.first ≡ self.old.first }
+        ensures second { self.new.second ≡ self.old.second }
+        ensures lines { self.new.lines ≡ self.old.lines }
+    {
+        if changed {
+            self.changed.push(path)?;
+        }
+        Ok(())
     }
 
     /// Adds a file behind the others.
@@ -163,6 +216,11 @@ impl NewTree {
         requires few { length self.old.rows < 1000000 }
         requires next { is_ok (with_last self.old.rows (record { path = file.path; node = file.node.0; flag = file.flag })) ≡ true }
         ensures rows { OnOk result (self.new.rows ≡ self.old.rows ++ (record { path = file.path; node = file.node.0; flag = file.flag }) ∷ []) }
+        ensures changed { OnOk result (self.new.changed.items ≡ self.old.changed.items ++ new_path file.changed file.path) }
+        ensures growth { OnOk result (self.new.growth.items ≡ self.old.growth.items ++ changes_of (option_map view_growth file.growth)) }
+        ensures lines { OnOk result (self.new.lines.items ≡ self.old.lines.items ++ new_lines file.listed file.path) }
+        ensures first { OnOk result (self.new.first ≡ self.old.first) }
+        ensures second { OnOk result (self.new.second ≡ self.old.second) }
     {
         let TreeFile {
             path,
@@ -173,21 +231,17 @@ impl NewTree {
             listed,
         } = file;
         self.push_row(path.as_slice(), node, flag)?;
-        if let Some(growth) = growth {
-            self.push_growth(growth)?;
-        }
-        if listed {
-            self.push_lines(path.as_slice())?;
-        }
-        if changed {
-            self.changed.push(path)?;
-        }
-        Ok(())
+        self.push_growth(growth)?;
+        self.push_lines(listed, path.as_slice())?;
+        self.push_changed(changed, path)
     }
 
     /// The whole tree. The paths of the parents' trees that are left are removed ones.
     pub fn finish(self) -> Result<Grown, AllocError>
         ensures rows { IfOk result (λ grown. grown.rows ≡ self.rows) }
+        ensures changed { IfOk result (λ grown. grown.changed ≡ in_order (self.changed.items ++ (paths_of self.first ++ paths_of self.second))) }
+        ensures growth { IfOk result (λ grown. grown.growth ≡ self.growth) }
+        ensures lines { IfOk result (λ grown. grown.lines ≡ self.lines) }
         ensures few { IfOk result (λ grown. length grown.growth.items ≤ 2 * length self.rows) }
         ensures beside { IfOk result (λ grown. list_all is_beside grown.growth.items ≡ true) }
     {

@@ -1,19 +1,25 @@
 //! The parts of a commit's transaction, put together of what is appended and replaced.
-ghost use Rattle.std.specs.Prelude.{◌≡◌, ◌≤◌, ◌<◌, ◌+◌, ◌++◌, ◌^◌, true, false, codes, length, IsOk, Some, IfOk, IfSome, OnOk};
+ghost use Rattle.std.specs.Prelude.{◌≡◌, ◌≤◌, ◌<◌, ◌+◌, ◌++◌, ◌∷◌, [], ◌^◌, true, false, codes, length, IsOk, Some, IfOk, IfSome, OnOk};
+ghost use Rattle.std.specs.Option.{option_map};
+ghost use Rattle.hgs_bytes.specs.Answer.{Gives};
+ghost use Rattle.hgs_loading.specs.Small.{fncache_path};
+ghost use Rattle.hgs_steps.specs.Fault.{is_memory};
+ghost use Rattle.hgs_commit.specs.Commit.{entries_with, new_phase, new_roots, replaced_after, step_of, view_written};
+ghost use Rattle.hgs_commit.specs.Texts.{changes_of, view_growth};
 ghost use Rattle.std.specs.List.{All, list_all};
 ghost use Rattle.hgs_index.specs.TrackedPath.{is_tracked};
 ghost use Rattle.hgs_model.specs.Valid.{IsNewChange, new_paths};
 ghost use Rattle.hgs_revlog.specs.Load.{entry_behind};
 ghost use Rattle.hgs_reader.specs.View.{changelog_index};
 ghost use Rattle.hgs_reader.specs.Contents.{manifest_index};
-ghost use Rattle.hgs_commit.specs.Appended.{is_beside, optional_append};
+ghost use Rattle.hgs_commit.specs.Appended.{append_some, is_beside, optional_append};
 ghost use Rattle.hgs_steps.specs.Steps.{CanBeAssembled};
 ghost use Rattle.hgs_transaction.specs.declared.parts.ReplacedFile.TheVariants.{PhaseRoots};
 ghost use Rattle.hgs_commit.specs.OfCommit.{ArePartsOfCommit, AreReplacedAfter, optional_replace};
 ghost use Rattle.hgs_commit.specs.Pushed.{AppendsTo, Pushes};
 
 use crate::appended::Growth;
-use crate::changeset::NewText;
+use crate::new_text::NewText;
 use hgs_bytes::bytes::Bytes;
 use hgs_bytes::names::Names;
 use hgs_index::node::Node;
@@ -55,6 +61,7 @@ pub struct Written {
 fn new_phase(loaded: &Loaded, parents: (Option<u32>, Option<u32>), asked: Phase) -> Phase
     requires first { IfSome parents.0 (λ r. r < length loaded.now.changelog.entries) }
     requires second { IfSome parents.1 (λ r. r < length loaded.now.changelog.entries) }
+    ensures { result ≡ new_phase loaded.now parents asked }
 {
     let (first, second) = parents;
     let phase = match first {
@@ -70,7 +77,8 @@ fn new_phase(loaded: &Loaded, parents: (Option<u32>, Option<u32>), asked: Phase)
 // The changelog with the new entry.
 fn next_changelog(loaded: &Loaded, entry: &[u8; 64]) -> Result<Revlog, AllocError>
     requires { IsOk (entry_behind loaded.now.changelog.entries entry.now) }
-    ensures { IfOk result (λ log. length log.entries ≡ length loaded.now.changelog.entries + 1) }
+    ensures entries { IfOk result (λ log. log.entries ≡ entries_with loaded.now.changelog.entries entry.now) }
+    ensures count { IfOk result (λ log. length log.entries ≡ length loaded.now.changelog.entries + 1) }
 {
     let mut changelog = loaded.changelog.copy()?;
     match changelog.push(entry) {
@@ -81,7 +89,8 @@ fn next_changelog(loaded: &Loaded, entry: &[u8; 64]) -> Result<Revlog, AllocErro
 
 // The phases with the new changeset's.
 fn next_phases(loaded: &Loaded, phase: Phase) -> Result<Phases, AllocError>
-    ensures { IfOk result (λ phases. length phases ≡ length loaded.now.changelog.entries + 1) }
+    ensures phases { IfOk result (λ phases. phases ≡ loaded.now.phases ++ phase ∷ []) }
+    ensures count { IfOk result (λ phases. length phases ≡ length loaded.now.changelog.entries + 1) }
 {
     let mut phases = loaded.phases.copy()?;
     phases.push(phase)?;
@@ -96,7 +105,8 @@ fn new_roots(
     entry: &[u8; 64],
 ) -> Result<Option<Replacing>, AllocError>
     requires { IsOk (entry_behind loaded.now.changelog.entries entry.now) }
-    ensures { IfOk result (λ roots. IfSome roots (λ x. x.file ≡ PhaseRoots)) }
+    ensures roots { IfOk result (λ roots. roots ≡ new_roots loaded.now phase entry.now) }
+    ensures file { IfOk result (λ roots. IfSome roots (λ x. x.file ≡ PhaseRoots)) }
 {
     let phases = next_phases(loaded, phase)?;
     let changelog = next_changelog(loaded, entry)?;
@@ -111,6 +121,7 @@ fn push_lines(
     into: &mut Vec<Change>,
 ) -> Result<(), AllocError>
     requires { list_all is_beside into.old.items ≡ true }
+    ensures ok { OnOk result (into.new.items ≡ into.old.items ++ append_some fncache_path loaded.now.fncache_length lines.items) }
     ensures count { OnOk result (length into.new.items ≤ length into.old.items + 1) }
     ensures beside { OnOk result (list_all is_beside into.new.items ≡ true) }
 {
@@ -128,7 +139,8 @@ fn push_lines(
 // The paths of the new tree.
 fn new_paths(alloc: Global, files: &[NewFile]) -> Result<Names, AllocError>
     requires { list_all is_tracked (new_paths files.now) ≡ true }
-    ensures { IfOk result (λ paths. All (λ path. length path < 2 ^ 32) paths) }
+    ensures paths { IfOk result (λ paths. paths ≡ new_paths files.now) }
+    ensures short { IfOk result (λ paths. All (λ path. length path < 2 ^ 32) paths) }
 {
     let mut paths = Names::new(alloc);
     let mut rest = files;
@@ -147,7 +159,8 @@ fn replaced_after(
     node: Node,
 ) -> Result<Replacings, PlanFault>
     requires { IsNewChange change.now }
-    ensures { IfOk result AreReplacedAfter }
+    ensures after { Gives is_memory (λ after. after) result (replaced_after loaded.now change.now node.0) }
+    ensures files { IfOk result AreReplacedAfter }
 {
     let mut after = Vec::new(alloc);
     let paths = new_paths(alloc, change.files.as_slice())?;
@@ -171,6 +184,7 @@ fn appends_before(
     requires beside { list_all is_beside filelogs.items ≡ true }
     requires manifest { AppendsTo manifest_index loaded.now.manifest manifest }
     requires chunk { list_all is_beside (optional_append chunk) ≡ true }
+    ensures appends { IfOk result (λ appends. appends.items ≡ filelogs.items ++ (append_some fncache_path loaded.now.fncache_length lines.items ++ (changes_of (option_map view_growth manifest) ++ optional_append chunk))) }
     ensures few { IfOk result (λ appends. length appends.items ≤ 40010) }
     ensures beside { IfOk result (λ appends. list_all is_beside appends.items ≡ true) }
 {
@@ -212,6 +226,7 @@ pub fn step_of(
     requires manifest { AppendsTo manifest_index loaded.now.manifest written.manifest }
     requires few { length written.filelogs.items ≤ 40000 }
     requires beside { list_all is_beside written.filelogs.items ≡ true }
+    ensures step { Gives is_memory (λ step. step) result (step_of loaded.now change.now parents (view_written written)) }
     ensures ready { IfOk result (λ step. CanBeAssembled step.parts) }
     ensures parts { IfOk result (λ step. ArePartsOfCommit loaded.now.changelog step.parts) }
     ensures rev { IfOk result (λ step. step.rev ≡ length loaded.now.changelog.entries) }

@@ -18,3 +18,5 @@ pub mod PieceLemmas
 pub mod TailLemmas
 pub mod ChainLemmas
 pub mod Growing
+pub mod EndLemmas
+pub mod FrontLemmas

@@ -1,5 +1,5 @@
 -- A log that is made of whole pieces is legal.
-use Rattle.std.proofs.Common.{◌≡◌, ℕ, List, [], ◌∷◌, ◌++◌, length, map, refl, sym, ◌∙◌, ap, subst, inl, inr, arith, append_assoc, append-nil, length-append}
+use Rattle.std.proofs.Common.{◌≡◌, ℕ, ◌-◌, List, [], ◌∷◌, ◌++◌, length, map, take, take_at, refl, sym, ◌∙◌, ap, subst, inl, inr, arith, append_assoc, append-nil, length-append}
 use Rattle.std.specs.Prelude.{Option, Some, None}
 use Rattle.hgs_files.specs.declared.op.Op.{Op}
 use Rattle.hgs_files.specs.declared.op.Op.TheVariants.{Create, Remove}
@@ -12,6 +12,7 @@ use Rattle.hgs_ops.specs.Operations.{lock_path, removals, strays, wlock_path}
 use Rattle.hgs_stands.specs.Stands.{IsClean}
 use Rattle.hgs_legal.specs.LegalLog.{Acts, Doing, Goes, Idle, IsLegal, IsTurn, Leaves, Preparing, Published, Refused, Run, State, Turn, Undoing, Working, begins, breaks, breaks_after, breaks_undo, drops_journal, drops_none, finished, finishes, gives_up, goes_on_knocking, goes_on_undoing, is_refused, journals, knocks, knocks_again, last_repo, lock_removals, prepares, removes, start_of, stays, through_publishing, through_removal, to_publishing, undoes, undone, works}
 use Rattle.hgs_legal.specs.Pieces.{AreSome, HasBegun, LeavesJournal, Piece, Pieces, Refusal, Refusals, and_then, at_last, before, behind, dropped, dropped_before, given_up, no_more, no_pieces, once, one_more, refused, twice, was_undone, whole_list, within}
+use Rattle.hgs_legal.proofs.Invariant.{kept_at, less-none}
 use Rattle.hgs_legal.proofs.Runs.{run-join, run-split}
 
 -- a state, field by field
@@ -160,27 +161,32 @@ pub record Ends (t : Tree) (f : Repo) (from : State) (log : List Op) (l : Option
 -- a run, and then removals
 end : (t u : Tree) (f : Repo) (from : State) (done_so : List Turn) (S : Doing) (l : Option (List Op)) (paths : List (List ℕ)) (log c : List Op)
     → u ≡ after_all log t → Run from log (at u f done_so S) → Leaves S (Idle l (map (λ p. Remove p) paths)) → AreSome (map (λ p. Remove p) paths) c
-    → Ends t f from (log ++ c) l (last_repo f done_so)
-end t u f from done_so S l paths log [] e run leaves some = record {
-  so = done_so;
-  doing = S;
-  rest = map (λ p. Remove p) paths;
-  leaves = leaves;
-  repo = refl;
-  run = subst (λ k. Run from k (at (after_all k t) f done_so S)) (sym (append-nil log)) (subst (λ v. Run from log (at v f done_so S)) e run);
-}
+    → (ends : Ends t f from (log ++ c) l (last_repo f done_so)) × (ends.so ≡ done_so)
+end t u f from done_so S l paths log [] e run leaves some = (
+  record {
+    so = done_so;
+    doing = S;
+    rest = map (λ p. Remove p) paths;
+    leaves = leaves;
+    repo = refl;
+    run = subst (λ k. Run from k (at (after_all k t) f done_so S)) (sym (append-nil log)) (subst (λ v. Run from log (at v f done_so S)) e run);
+  },
+  refl,
+)
 end t u f from done_so S l paths log (op ∷ c) e run leaves some =
-    let more = some-run u f done_so l [] paths (op ∷ c) some in
-    record {
-      so = done_so;
-      doing = Idle l more.0;
-      rest = more.0;
-      leaves = stays;
-      repo = refl;
-      run = subst (λ v. Run from (log ++ op ∷ c) (at v f done_so (Idle l more.0))) (ap (after_all (op ∷ c)) e ∙ sym (after_all-append log (op ∷ c) t))
-          (run-join Goes from log (op ∷ c) (at u f done_so S) (at (after_all (op ∷ c) u) f done_so (Idle l more.0)) run
-          (from-idle u f done_so S l (map (λ p. Remove p) paths) op c _ leaves more.1));
-    }
+    let more = some-run u f done_so l [] paths (op ∷ c) some in (
+      record {
+        so = done_so;
+        doing = Idle l more.0;
+        rest = more.0;
+        leaves = stays;
+        repo = refl;
+        run = subst (λ v. Run from (log ++ op ∷ c) (at v f done_so (Idle l more.0))) (ap (after_all (op ∷ c)) e ∙ sym (after_all-append log (op ∷ c) t))
+            (run-join Goes from log (op ∷ c) (at u f done_so S) (at (after_all (op ∷ c) u) f done_so (Idle l more.0)) run
+            (from-idle u f done_so S l (map (λ p. Remove p) paths) op c _ leaves more.1));
+      },
+      refl,
+    )
 
 abbrev all_paths : List (List ℕ)
 all_paths = strays ++ lock_path ∷ wlock_path ∷ []
@@ -217,17 +223,17 @@ knock-again-run t f done_so l who op log left h =
 
 refusal-run : (t : Tree) (f : Repo) (done_so : List Turn) (l : Option (List Op)) (rest : List Op) (a : List Op) → Refusal a → Ends t f (at t f done_so (Idle l rest)) a l (last_repo f done_so)
 refusal-run t f done_so l rest _ (once who c op more left d some) =
-    end t (after_all (op ∷ more) t) f _ done_so (Refused l left (Remove wlock_path ∷ [])) l (wlock_path ∷ []) (op ∷ more) c refl (knock-run t f done_so l rest who op more left d) is_refused some
+    (end t (after_all (op ∷ more) t) f _ done_so (Refused l left (Remove wlock_path ∷ [])) l (wlock_path ∷ []) (op ∷ more) c refl (knock-run t f done_so l rest who op more left d) is_refused some).0
 refusal-run t f done_so l rest _ (twice who other c o first op more left d e some) =
     let a = o ∷ first in
     let b = op ∷ more in
     let both = run-join Goes (at t f done_so (Idle l rest)) a b (at (after_all a t) f done_so (Refused l [] (Remove wlock_path ∷ []))) (at (after_all b (after_all a t)) f done_so (Refused l left lock_removals))
     (knock-run t f done_so l rest who o first [] d) (knock-again-run (after_all a t) f done_so l other op more left e) in
-    end t (after_all b (after_all a t)) f _ done_so (Refused l left lock_removals) l (lock_path ∷ wlock_path ∷ []) (a ++ b) c (sym (after_all-append a b t)) both is_refused some
+    (end t (after_all b (after_all a t)) f _ done_so (Refused l left lock_removals) l (lock_path ∷ wlock_path ∷ []) (a ++ b) c (sym (after_all-append a b t)) both is_refused some).0
 
 two : (t : Tree) (f : Repo) (from : State) (d e : List Turn) (S M : Doing) (l : Option (List Op)) (paths : List (List ℕ)) (a b c : List Op)
     → Run from a (at (after_all a t) f d S) → Run (at (after_all a t) f d S) b (at (after_all b (after_all a t)) f e M) → Leaves M (Idle l (map (λ p. Remove p) paths)) → AreSome (map (λ p. Remove p) paths) c
-    → Ends t f from (a ++ b ++ c) l (last_repo f e)
+    → (ends : Ends t f from (a ++ b ++ c) l (last_repo f e)) × (ends.so ≡ e)
 two t f from d e S M l paths a b c first second leaves some =
     end t (after_all b (after_all a t)) f from e M l paths (a ++ b) c (sym (after_all-append a b t)) (run-join Goes from a b _ _ first second) leaves some
 
@@ -235,52 +241,61 @@ one_remove : (t : Tree) (f : Repo) (done_so : List Turn) (S : Doing) → Acts t 
     → Run (at t f done_so S) (Remove journal_path ∷ []) (at (apply (Remove journal_path) t) f done_so (Idle None removals))
 one_remove t f done_so S a = (at (apply (Remove journal_path) t) f done_so (Idle None removals), step t f done_so S S (Idle None removals) (Remove journal_path) stays a, refl)
 
-piece-run : (t : Tree) (f : Repo) (done_so : List Turn) (rest : List Op) (a : List Op) (r' : Repo) → Piece t (last_repo f done_so) a r' → Ends t f (at t f done_so (Idle None rest)) a None r'
+pub piece-run : (t : Tree) (f : Repo) (done_so : List Turn) (rest : List Op) (a : List Op) (r' : Repo) → Piece t (last_repo f done_so) a r' → Ends t f (at t f done_so (Idle None rest)) a None r'
 piece-run t f done_so rest _ _ (whole_list x a c o b begun d some) =
     subst (Ends t f (at t f done_so (Idle None rest)) (a ++ (o ∷ b) ++ c) None) (last_repo-push f done_so x)
     (two t f _ (done_so ++ x ∷ []) (done_so ++ x ∷ []) (Published x (through_removal x.ops)) (Idle None removals) None all_paths a (o ∷ b) c
-    (published-run f done_so x t rest a begun) (finish-run (after_all a t) f (done_so ++ x ∷ []) x o b [] d) stays some)
+    (published-run f done_so x t rest a begun) (finish-run (after_all a t) f (done_so ++ x ∷ []) x o b [] d) stays some).0
 piece-run t f done_so rest _ _ (was_undone x a c op left o b begun d some) =
-    two t f _ done_so done_so (Working x (op ∷ left)) (Idle None removals) None all_paths a (o ∷ b) c
-    (begun-run f done_so x t rest a op left begun) (undo-run (after_all a t) f done_so x op left o b [] d) stays some
+    (two t f _ done_so done_so (Working x (op ∷ left)) (Idle None removals) None all_paths a (o ∷ b) c
+    (begun-run f done_so x t rest a op left begun) (undo-run (after_all a t) f done_so x op left o b [] d) stays some).0
 piece-run t f done_so rest _ _ (given_up x c op left more it d some) =
-    end t (after_all (op ∷ more) t) f _ done_so (Preparing x left) None all_paths (op ∷ more) c refl (prepare f done_so x t rest op more left it d) gives_up some
+    (end t (after_all (op ∷ more) t) f _ done_so (Preparing x left) None all_paths (op ∷ more) c refl (prepare f done_so x t rest op more left it d) gives_up some).0
 piece-run t f done_so rest _ _ (dropped x a c op left front begun e some) =
     subst (λ k. Ends t f (at t f done_so (Idle None rest)) k None (last_repo f done_so)) (append_assoc a (Remove journal_path ∷ []) c)
     (two t f _ done_so done_so (Working x (op ∷ left)) (Idle None removals) None all_paths a (Remove journal_path ∷ []) c
-    (begun-run f done_so x t rest a op left begun) (one_remove (after_all a t) f done_so (Working x (op ∷ left)) (drops_journal front e)) stays some)
+    (begun-run f done_so x t rest a op left begun) (one_remove (after_all a t) f done_so (Working x (op ∷ left)) (drops_journal front e)) stays some).0
 piece-run t f done_so rest _ _ (dropped_before x c op more it d some) =
     subst (λ k. Ends t f (at t f done_so (Idle None rest)) k None (last_repo f done_so)) (append_assoc (op ∷ more) (Remove journal_path ∷ []) c)
     (two t f _ done_so done_so (Preparing x []) (Idle None removals) None all_paths (op ∷ more) (Remove journal_path ∷ []) c
-    (prepare f done_so x t rest op more [] it d) (one_remove (after_all (op ∷ more) t) f done_so (Preparing x []) drops_none) stays some)
+    (prepare f done_so x t rest op more [] it d) (one_remove (after_all (op ∷ more) t) f done_so (Preparing x []) drops_none) stays some).0
 piece-run t f done_so rest _ _ (refused a h) = refusal-run t f done_so None rest a h
 
+-- where one ends that leaves the journal: the repository before it is kept
+pub record Breaks (t : Tree) (f : Repo) (from : State) (log : List Op) (kept : Repo) : Type 0 where
+  pub left : List Op
+  pub next : Repo
+  pub ends : Ends t f from log (Some left) next
+  pub is_kept : kept_at left f ends.so ≡ kept
+
+kept-none : (f : Repo) (so done_so : List Turn) → so ≡ done_so → kept_at [] f so ≡ last_repo f done_so
+kept-none f so done_so e = less-none f so ∙ ap (last_repo f) e
+
+kept-last : (f : Repo) (so done_so : List Turn) (x : Turn) (o : Op) (more : List Op) → so ≡ done_so ++ x ∷ [] → kept_at (o ∷ more) f so ≡ last_repo f done_so
+kept-last f so done_so x o more e =
+    ap (λ p. last_repo f (take (length p - 1) p)) e
+    ∙ ap (last_repo f) (take_at done_so (x ∷ []) (length (done_so ++ x ∷ []) - 1) (omega (arith, length-append done_so (x ∷ []))))
+
 -- after a piece that leaves the journal
-leaves-run : (t : Tree) (f : Repo) (done_so : List Turn) (rest : List Op) (a : List Op) → LeavesJournal t (last_repo f done_so) a
-    → (l : List Op) × (r : Repo) × Ends t f (at t f done_so (Idle None rest)) a (Some l) r
+pub leaves-run : (t : Tree) (f : Repo) (done_so : List Turn) (rest : List Op) (a : List Op) → LeavesJournal t (last_repo f done_so) a → Breaks t f (at t f done_so (Idle None rest)) a (last_repo f done_so)
 leaves-run t f done_so rest _ (before x a c op left begun some) =
-    ([], last_repo f done_so, end t (after_all a t) f _ done_so (Working x (op ∷ left)) (Some []) (lock_path ∷ wlock_path ∷ []) a c refl (begun-run f done_so x t rest a op left begun) breaks some)
-leaves-run t f done_so rest _ (within x a c op left o more u b begun d some) = (
-  [],
-  last_repo f done_so,
-  two t f _ done_so done_so (Working x (op ∷ left)) (Undoing (o ∷ more)) (Some []) (lock_path ∷ wlock_path ∷ []) a (u ∷ b) c
-      (begun-run f done_so x t rest a op left begun) (undo-run (after_all a t) f done_so x op left u b (o ∷ more) d) breaks_undo some,
-)
+    let e = end t (after_all a t) f (at t f done_so (Idle None rest)) done_so (Working x (op ∷ left)) (Some []) (lock_path ∷ wlock_path ∷ []) a c refl (begun-run f done_so x t rest a op left begun) breaks some in
+    record { left = []; next = last_repo f done_so; ends = e.0; is_kept = kept-none f e.0.so done_so e.1 }
+leaves-run t f done_so rest _ (within x a c op left o more u b begun d some) =
+    let e = two t f (at t f done_so (Idle None rest)) done_so done_so (Working x (op ∷ left)) (Undoing (o ∷ more)) (Some []) (lock_path ∷ wlock_path ∷ []) a (u ∷ b) c
+    (begun-run f done_so x t rest a op left begun) (undo-run (after_all a t) f done_so x op left u b (o ∷ more) d) breaks_undo some in
+    record { left = []; next = last_repo f done_so; ends = e.0; is_kept = kept-none f e.0.so done_so e.1 }
 leaves-run t f done_so rest _ (behind x a [] c o more begun d some) =
-    let so = done_so ++ x ∷ [] in (
-      o ∷ more,
-      last_repo f so,
-      end t (after_all a t) f _ so (Published x (o ∷ more)) (Some (o ∷ more)) (lock_path ∷ wlock_path ∷ []) (a ++ []) c (ap (λ k. after_all k t) (sym (append-nil a)))
-          (subst (λ k. Run (at t f done_so (Idle None rest)) k (at (after_all a t) f so (Published x (o ∷ more)))) (sym (append-nil a))
-          (subst (λ k. Run (at t f done_so (Idle None rest)) a (at (after_all a t) f so (Published x k))) d (published-run f done_so x t rest a begun))) breaks_after some,
-    )
+    let so = done_so ++ x ∷ [] in
+    let e = end t (after_all a t) f (at t f done_so (Idle None rest)) so (Published x (o ∷ more)) (Some (o ∷ more)) (lock_path ∷ wlock_path ∷ []) (a ++ []) c (ap (λ k. after_all k t) (sym (append-nil a)))
+    (subst (λ k. Run (at t f done_so (Idle None rest)) k (at (after_all a t) f so (Published x (o ∷ more)))) (sym (append-nil a))
+    (subst (λ k. Run (at t f done_so (Idle None rest)) a (at (after_all a t) f so (Published x k))) d (published-run f done_so x t rest a begun))) breaks_after some in
+    record { left = o ∷ more; next = last_repo f so; ends = e.0; is_kept = kept-last f e.0.so done_so x o more e.1 }
 leaves-run t f done_so rest _ (behind x a (u ∷ b) c o more begun d some) =
-    let so = done_so ++ x ∷ [] in (
-      o ∷ more,
-      last_repo f so,
-      two t f _ so so (Published x (through_removal x.ops)) (Published x (o ∷ more)) (Some (o ∷ more)) (lock_path ∷ wlock_path ∷ []) a (u ∷ b) c
-          (published-run f done_so x t rest a begun) (finish-run (after_all a t) f so x u b (o ∷ more) d) breaks_after some,
-    )
+    let so = done_so ++ x ∷ [] in
+    let e = two t f (at t f done_so (Idle None rest)) so so (Published x (through_removal x.ops)) (Published x (o ∷ more)) (Some (o ∷ more)) (lock_path ∷ wlock_path ∷ []) a (u ∷ b) c
+    (published-run f done_so x t rest a begun) (finish-run (after_all a t) f so x u b (o ∷ more) d) breaks_after some in
+    record { left = o ∷ more; next = last_repo f so; ends = e.0; is_kept = kept-last f e.0.so done_so x o more e.1 }
 
 -- from a doing that may leave
 from-leaves : (t : Tree) (f : Repo) (done_so : List Turn) (S : Doing) (l : Option (List Op)) (rest : List Op) (log : List Op) → Leaves S (Idle l rest)
@@ -306,8 +321,8 @@ pieces-run t f done_so S rest r _ leaves is (and_then a b r' piece more) =
 pieces-run t f done_so S rest r _ leaves is (at_last a b left more) =
     from-leaves t f done_so S None rest (a ++ b) leaves
     (let e = leaves-run t f done_so rest a (subst (λ q. LeavesJournal t q a) (sym is) left) in
-    let k = refusals-run (after_all a t) f e.2.so e.2.doing (Some e.0) e.2.rest b e.2.leaves more in
-    (k.0, run-join Goes (at t f done_so (Idle None rest)) a b (at (after_all a t) f e.2.so e.2.doing) k.0 e.2.run k.1))
+    let k = refusals-run (after_all a t) f e.ends.so e.ends.doing (Some e.left) e.ends.rest b e.ends.leaves more in
+    (k.0, run-join Goes (at t f done_so (Idle None rest)) a b (at (after_all a t) f e.ends.so e.ends.doing) k.0 e.ends.run k.1))
 
 -- A prefix of whole pieces is legal.
 pub pieces-legal : (t : Tree) (log rest : List Op) → ((r : Repo) → IsClean t r → Pieces t r (log ++ rest)) → IsLegal t log

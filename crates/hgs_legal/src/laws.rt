@@ -13,9 +13,11 @@ ghost use Rattle.hgs_stands.specs.Places.{bookmarks_path, dirstate_path, roots_p
 ghost use Rattle.hgs_stands.specs.Shows.{Shows};
 ghost use Rattle.hgs_stands.specs.Stands.{HoldsChangesets, IsClean, Stands};
 ghost use Rattle.hgs_ops.specs.Operations.{lock_path, operations, removals, strays, wlock_path};
+ghost use Rattle.hgs_ops.specs.Stops.{IsBetween};
 ghost use Rattle.hgs_legal.specs.LegalLog.{Goes, Idle, IsLegal, IsRun, IsTurn, Run, State, Turn, last_repo, lock_removals, state_at, through_publishing};
 ghost use Rattle.hgs_legal.specs.Numbers.{StopsAt, acknowledged_of, b_of, n_of, repo_at, w_of};
-ghost use Rattle.hgs_legal.specs.Pieces.{Pieces};
+ghost use Rattle.hgs_legal.specs.Pieces.{LeavesJournal, Piece, Pieces};
+ghost use Rattle.hgs_stands.specs.Open.{IsOpen};
 ghost use Rattle.hgs_legal.specs.Recovers.{Recovers};
 
 use hgs_journal::laws::{
@@ -75,6 +77,27 @@ pub fn numbers_rise()
 pub fn stops_are_safe()
     ensures ends { (t : Tree) (r : Repo) (log : List Op) (s : State) → Stands t r → IsRun t r log s → StopsAt s.doing (after_all log t) (repo_at s (acknowledged_of s)) }
     ensures stops { (t : Tree) (r : Repo) (log : List Op) (s : State) → Stands t r → IsRun t r log s → (u : Tree) → StopLeaves t log u → (done : List Op) × (s' : State) × IsRun t r done s' × (u ≡ after_all done t) × StopsAt s'.doing u (repo_at s' (acknowledged_of s')) }
+{
+    transactions_stay_open();
+    undo_leads_back();
+    transactions_show();
+    strays_are_apart();
+    transactions_stay_covered();
+    journal_undo_leads_back();
+    undo_may_stop();
+    other_files_do_not_matter();
+    open_trees_lead_back();
+    standing_trees_show();
+}
+
+/// Behind a piece the tree stands for the repository that it leads to. Behind one that leaves its journal it is open for the
+/// repository before, also where that one's transaction was published. Wherever such a piece is stopped, the tree stands for
+/// the repository before or is open for it, or it stands for the next one.
+pub fn pieces_end()
+    ensures stands { (t : Tree) (r next : Repo) (log : List Op) → Stands t r → Piece t r log next → Stands (after_all log t) next }
+    ensures left_open { (t : Tree) (r : Repo) (log : List Op) → Stands t r → LeavesJournal t r log → IsOpen strays (after_all log t) r }
+    ensures stops { (t : Tree) (r next : Repo) (log : List Op) (u : Tree) → Stands t r → Piece t r log next → StopLeaves t log u → IsBetween u r next }
+    ensures left_stops { (t : Tree) (r : Repo) (log : List Op) (u : Tree) → Stands t r → LeavesJournal t r log → StopLeaves t log u → Stands u r ⊎ IsOpen strays u r }
 {
     transactions_stay_open();
     undo_leads_back();

@@ -4,7 +4,9 @@ use Rattle.std.specs.Prelude.{Option, Some, None, Result, Ok, Err}
 use Rattle.hgs_files.specs.declared.op.Op.{Op}
 use Rattle.hgs_files.specs.declared.op.Op.TheVariants.{Create, Remove}
 use Rattle.hgs_files.specs.Files.{GoesOn}
+use Rattle.hgs_files.specs.Log.{IsDone}
 use Rattle.hgs_files.specs.Tree.{Tree, after_all}
+use Rattle.hgs_files.proofs.LogLemmas.{after-done}
 use Rattle.hgs_journal.specs.Names.{journal_path}
 use Rattle.hgs_ops.specs.Operations.{lock_path, wlock_path}
 use Rattle.hgs_machine.specs.declared.locks.LockRefusal.{LockRefusal}
@@ -50,6 +52,10 @@ removed-some lock wlock a b h k e =
 
 -- ---- refusals
 
+-- the first lock is not the second
+lock-apart : (who : List ℕ) (t : Tree) (a : List Op) → IsDone (Create wlock_path who ∷ []) a [] → after_all a t lock_path ≡ t lock_path
+lock-apart who t a d = ap (λ (u : Tree). u lock_path) (after-done (Create wlock_path who ∷ []) a [] t d)
+
 pub barred-first : (who : List ℕ) (t : Tree) (why : LockRefusal) (done : List Op) → Makes wlock_path who t (Err why) done → TakesLocks {T = Unit {0}} who t (Err (record { why = why; swept = true })) done
 barred-first who t why done h = subst (IsTurnedAway who t why true) (sym h.0) (at_wlock why h.1)
 
@@ -57,18 +63,20 @@ barred-first who t why done h = subst (IsTurnedAway who t why true) (sym h.0) (a
 pub barred-second : (who : List ℕ) (t : Tree) (why : LockRefusal) (swept : Bool) (a b c : List Op) → Makes wlock_path who t (Ok tt) a → Makes lock_path who (after_all a t) (Err why) b → AreRemoved (Remove wlock_path ∷ []) swept c
     → TakesLocks {T = Unit {0}} who t (Err (record { why = why; swept = swept })) (a ++ (b ++ c))
 barred-second who t why swept a b c h k r =
-    subst (λ (l : List Op). IsTurnedAway who t why swept (a ++ (l ++ c))) (sym k.0) (at_lock why swept a c h.1 k.1 r)
+    subst (λ (l : List Op). IsTurnedAway who t why swept (a ++ (l ++ c))) (sym k.0) (at_lock why swept a c h.0 h.1 k.1 r)
 
 pub abandoned : (who : List ℕ) (t : Tree) (why : LockRefusal) (swept : Bool) (a b l c : List Op) → Makes wlock_path who t (Ok tt) a → Makes lock_path who (after_all a t) (Ok tt) b → Looks (after_all b (after_all a t)) (Err why) l → AreRemoved lock_removals swept c
     → TakesLocks {T = Unit {0}} who t (Err (record { why = why; swept = swept })) (a ++ (b ++ (l ++ c)))
 abandoned who t why swept a b l c h k s r =
     subst (λ (x : List Op). IsTurnedAway who t why swept (a ++ (b ++ (x ++ c)))) (sym s.0)
-    (subst (IsTurnedAway who t why swept) (append_assoc a b c) (at_journal why swept a b c h.1 k.1 (subst (λ (u : Tree). IsFree (u journal_path) (Err why)) (sym (after_all-append a b t)) s.1) r))
+    (subst (IsTurnedAway who t why swept) (append_assoc a b c) (at_journal why swept a b c h.0 (sym (lock-apart who t a h.1) ∙ k.0) h.1 k.1 (subst (λ (u : Tree). IsFree (u journal_path) (Err why)) (sym (after_all-append a b t)) s.1) r))
 
 pub locked : (who : List ℕ) (t : Tree) (a b l : List Op) → Makes wlock_path who t (Ok tt) a → Makes lock_path who (after_all a t) (Ok tt) b → Looks (after_all b (after_all a t)) (Ok tt) l → AreLocked who t (a ++ (b ++ l))
 locked who t a b l h k s =
     subst (λ (x : List Op). AreLocked who t (a ++ x)) (sym (ap (λ (x : List Op). b ++ x) s.0 ∙ append-nil b))
     (record {
+      no_wlock = h.0;
+      no_lock = sym (lock-apart who t a h.1) ∙ k.0;
       made = done-both (Create wlock_path who ∷ []) a (Create lock_path who ∷ []) b [] h.1 k.1;
       free = ap (λ (u : Tree). u journal_path) (after_all-append a b t) ∙ s.1;
     })

@@ -49,14 +49,16 @@ abbrev pub AreRemoved : List Op → Bool → List Op → Type 0
 AreRemoved removals true done = done ≡ removals
 AreRemoved removals false done = AreSome removals done
 
--- What a writer leaves that did not get the locks: those that it made are removed again, and no other.
+-- What a writer leaves that did not get the locks: those that it made, of which none stood, are removed again, and no other.
 pub data IsTurnedAway (who : List ℕ) (t : Tree) : LockRefusal → Bool → List Op → Type 0 where
   at_wlock : (why : LockRefusal) → IsBarred (t wlock_path) why → IsTurnedAway who t why true []
-  at_lock : (why : LockRefusal) (swept : Bool) (a c : List Op) → IsDone (Create wlock_path who ∷ []) a [] → IsBarred (after_all a t lock_path) why → AreRemoved (Remove wlock_path ∷ []) swept c → IsTurnedAway who t why swept (a ++ c)
-  at_journal : (why : LockRefusal) (swept : Bool) (a b c : List Op) → IsDone (Create wlock_path who ∷ []) a [] → IsDone (Create lock_path who ∷ []) b [] → IsFree (after_all (a ++ b) t journal_path) (Err why) → AreRemoved lock_removals swept c → IsTurnedAway who t why swept (a ++ b ++ c)
+  at_lock : (why : LockRefusal) (swept : Bool) (a c : List Op) → t wlock_path ≡ None → IsDone (Create wlock_path who ∷ []) a [] → IsBarred (after_all a t lock_path) why → AreRemoved (Remove wlock_path ∷ []) swept c → IsTurnedAway who t why swept (a ++ c)
+  at_journal : (why : LockRefusal) (swept : Bool) (a b c : List Op) → t wlock_path ≡ None → t lock_path ≡ None → IsDone (Create wlock_path who ∷ []) a [] → IsDone (Create lock_path who ∷ []) b [] → IsFree (after_all (a ++ b) t journal_path) (Err why) → AreRemoved lock_removals swept c → IsTurnedAway who t why swept (a ++ b ++ c)
 
--- Both locks are made, and no journal stands.
+-- Both locks are made, of which neither stood, and no journal stands.
 pub record AreLocked (who : List ℕ) (t : Tree) (done : List Op) : Type 0 where
+  pub no_wlock : t wlock_path ≡ None
+  pub no_lock : t lock_path ≡ None
   pub made : IsDone (Create wlock_path who ∷ Create lock_path who ∷ []) done []
   pub free : after_all done t journal_path ≡ None
 

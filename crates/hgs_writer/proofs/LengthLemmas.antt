@@ -1,5 +1,5 @@
 -- An index that was loaded is as long as its entries.
-use Rattle.std.proofs.Common.{◌≡◌, ℕ, zero, suc, ◌+◌, ◌*◌, ◌/◌, ◌-◌, ◌≤◌, ◌==◌, List, [], ◌∷◌, ◌++◌, length, length-drop, take, drop, Result, Ok, Err, refl, sym, ◌∙◌, ap, arith}
+use Rattle.std.proofs.Common.{◌≡◌, ℕ, zero, suc, ◌+◌, ◌*◌, ◌/◌, ◌-◌, ◌≤◌, ◌==◌, List, [], ◌∷◌, ◌++◌, length, length-drop, take, drop, Result, Ok, Err, refl, ◌∙◌, ap, arith}
 use Rattle.std.specs.Prelude.{Bool, true, false, if◌then◌else◌}
 use Rattle.std.proofs.lemmas.List.{length-take}
 use Rattle.std.proofs.lemmas.Bool.Decides.{nat_tests}
@@ -7,19 +7,17 @@ use Rattle.hgs_files.specs.Tree.{Tree, bytes_at}
 use Rattle.hgs_index.specs.declared.entry.Entry.{Entry}
 use Rattle.hgs_loading.specs.Found.{and_then}
 use Rattle.hgs_loading.specs.Logs.{data_in, index_in, log_in, most_index, whole_log_in}
-use Rattle.hgs_loading.specs.Small.{Small, small_in}
+use Rattle.hgs_loading.specs.Small.{small_in}
 use Rattle.hgs_loading.specs.Store.{Loaded, loaded_in, loaded_with, logs_in}
 use Rattle.hgs_reader.specs.declared.answer.ReadAnswer.{ReadAnswer}
 use Rattle.hgs_reader.specs.Contents.{manifest_data, manifest_index}
-use Rattle.hgs_reader.specs.Marks.{Working, working_answer}
+use Rattle.hgs_reader.specs.Marks.{working_answer}
 use Rattle.hgs_reader.specs.View.{changelog_data, changelog_index, log_answer}
-use Rattle.hgs_model.specs.declared.phase.Phase.{Phase}
 use Rattle.hgs_phases.specs.Phases.{phases_by}
 use Rattle.hgs_revlog.specs.declared.fault.RevFault.{RevFault}
 use Rattle.hgs_revlog.specs.declared.fault.RevFault.TheVariants as faults
-use Rattle.hgs_revlog.specs.declared.fault.Tail.{Tail}
 use Rattle.hgs_revlog.specs.declared.fault.Tail.TheVariants.{Refuse}
-use Rattle.hgs_revlog.specs.Load.{after, at_end, entry_behind, load_from, loaded, most_revisions}
+use Rattle.hgs_revlog.specs.Load.{after, entry_behind, load_from, loaded, most_revisions}
 use Rattle.hgs_revlog.specs.Log.{Log, with_entry}
 
 one_longer : (entries : List Entry) (e : Entry) → length (entries ++ e ∷ []) ≡ length entries + 1
@@ -54,7 +52,7 @@ refused (suc n) log end bytes count h =
         omega (arith, rest, more, longer, count)
     by next (Err f) k = cc
 
-both : {A B : Type 0} (r : Result A ReadAnswer) (more : A → Result B ReadAnswer) (b : B) → and_then r more ≡ Ok b → (a : A) × (r ≡ Ok a) × (more a ≡ Ok b)
+pub both : {A B : Type 0} (r : Result A ReadAnswer) (more : A → Result B ReadAnswer) (b : B) → and_then r more ≡ Ok b → (a : A) × (r ≡ Ok a) × (more a ≡ Ok b)
 both (Ok a) more b h = (a, refl, h)
 both (Err e) more b h = cc
 
@@ -62,7 +60,7 @@ answered : (index : List ℕ) (r : Result Log RevFault) (log : Log) → log_answ
 answered index (Ok l) log h = cc
 answered index (Err f) log h = cc
 
-ok_is : {A : Type 0} (x y : A) → (let a : Result A ReadAnswer = Ok x in a ≡ Ok y) → x ≡ y
+pub ok_is : {A : Type 0} (x y : A) → (let a : Result A ReadAnswer = Ok x in a ≡ Ok y) → x ≡ y
 ok_is x y e = cc
 
 -- the index of a log that was loaded from it, at most so many bytes of it
@@ -73,7 +71,7 @@ counted index t log few h =
     let taken = length-take most_index (bytes_at t index) in
     omega (arith, l, taken, few)
 
-whole : (index chunks : List ℕ) (t : Tree) (log : Log) → whole_log_in index chunks t ≡ Ok log → log_in index t ≡ Ok log
+pub whole : (index chunks : List ℕ) (t : Tree) (log : Log) → whole_log_in index chunks t ≡ Ok log → log_in index t ≡ Ok log
 whole index chunks t log h =
     let a = both (log_in index t) (λ l. and_then (data_in index chunks l t) (λ x. Ok l)) log h in
     let b = both (data_in index chunks a.0 t) (λ x. Ok a.0) log a.2 in

@@ -1,4 +1,10 @@
 pub mod LengthLemmas
+pub mod LoadedLemmas
 pub mod PlanLemmas
 pub mod SoundLemmas
 pub mod StepLemmas
+pub mod WrittenLemmas
+pub mod AloneLemmas
+pub mod CleanLemmas
+pub mod StandingLemmas
+pub mod OutcomeLemmas

@@ -1,6 +1,12 @@
 -- A plan that is made of what was read can be carried out.
-use Rattle.std.proofs.Common.{◌≡◌, ◌*◌, List, length, Option, Some, None, Result, Ok, Err, IfOk, IfSome, sym, ◌∙◌, ap, subst}
+use Rattle.std.proofs.Common.{◌≡◌, ◌*◌, List, length, Option, Some, None, Result, Ok, Err, IfOk, IfSome, sym, subst}
 use Rattle.hgs_bytes.specs.Answer.{Gives}
+use Rattle.hgs_commit.specs.declared.fault.CommitFault.TheVariants.{Unread}
+use Rattle.hgs_loading.specs.Store.{loaded_in, view_store}
+use Rattle.hgs_model.specs.declared.command.Command.{Command}
+use Rattle.hgs_reader.specs.Answer.{is_of_outside}
+use Rattle.hgs_reader.specs.declared.answer.ReadAnswer.{ReadAnswer}
+use Rattle.hgs_writer.specs.Planning.{Plans, is_unread}
 use Rattle.hgs_commit.specs.declared.fault.CommitFault.{CommitFault}
 use Rattle.hgs_files.specs.declared.op.Op.{Op}
 use Rattle.hgs_files.specs.Tree.{Tree, after_all, bytes_at}
@@ -21,3 +27,8 @@ told P Q seen now start later same_log same_start follows h =
     by : (o : Option (List Op)) → IfSome o (λ log. P (after_all log start)) → IfSome o (λ log. Q (after_all log start))
     by None k = tt
     by (Some log) k = follows (after_all log start) k
+
+-- what was read is refused
+pub refusal-told : (seen : Option (List Op)) (start : Tree) (command : Command) (refusal : ReadAnswer) → IfSome seen (λ log. Gives is_of_outside view_store (Err refusal) (loaded_in (after_all log start))) → IfSome seen (λ log. Plans command (after_all log start) (Err (Unread refusal)))
+refusal-told None start command refusal h = tt
+refusal-told (Some log) start command refusal h = is_unread refusal h

@@ -1,1 +1,6 @@
+pub mod Alone
+pub mod Below
+pub mod Limits
 pub mod Outcomes
+pub mod Planning
+pub mod Written

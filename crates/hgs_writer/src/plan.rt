@@ -1,5 +1,5 @@
 //! What a command is planned to do, by what is read under the locks.
-ghost use Rattle.std.specs.Prelude.{◌≡◌, ◌≤◌, ◌<◌, ◌*◌, ℕ, true, false, length, IfOk, IfSome};
+ghost use Rattle.std.specs.Prelude.{◌≡◌, ◌≤◌, ◌<◌, ◌*◌, ℕ, [], true, false, length, unwrap_or, IfOk, IfSome};
 ghost use Rattle.hgs_commit.specs.Fault.{HasCause};
 ghost use Rattle.hgs_files.specs.Tree.{Tree, after_all, bytes_at};
 ghost use Rattle.hgs_machine.specs.Planned.{IsPlanned};
@@ -8,9 +8,12 @@ ghost use Rattle.hgs_index.specs.MarkName.{is_mark_name};
 ghost use Rattle.hgs_model.specs.Valid.{IsNewChange, IsValid};
 ghost use Rattle.hgs_reader.specs.View.{changelog_index};
 ghost use Rattle.hgs_revlog.specs.Loaded.{AreEntries};
-ghost use Rattle.hgs_steps.specs.Steps.{CanBeAssembled};
+ghost use Rattle.hgs_steps.specs.Steps.{CanBeAssembled, mark_of, move_of, planned as planned_of, unmark_of};
+ghost use Rattle.hgs_loading.specs.Store.{view_store};
+ghost use Rattle.hgs_commit.specs.OfCommit.{ArePartsOfCommit};
+ghost use Rattle.hgs_writer.specs.Planning.{ComesTo, GivesStep, IsLoadedFrom, Plans};
 
-use crate::laws::{changelogs_are_counted, commits_are_sound, steps_are_sound};
+use crate::laws::{changelogs_are_counted, commits_are_sound, steps_are_sound, stores_are_loaded};
 use hgs_bytes::bytes::Bytes;
 use hgs_commit::commit::commit;
 use hgs_commit::fault::CommitFault;
@@ -37,7 +40,9 @@ pub struct Planned {
 }
 
 // How many bytes were read.
-fn length_of(bytes: &Option<Bytes>) -> u64 {
+fn length_of(bytes: &Option<Bytes>) -> u64
+    ensures { result ≡ length (unwrap_or bytes.now []) }
+{
     match bytes {
         Some(bytes) => bytes.len() as u64,
         None => 0,
@@ -49,8 +54,7 @@ fn loaded_of(store: LoadedStore) -> Loaded
     requires first { IfSome store.working.first (λ rev. rev < length store.changelog.entries) }
     requires second { IfSome store.working.second (λ rev. rev < length store.changelog.entries) }
     requires phases { length store.phases ≡ length store.changelog.entries }
-    ensures changelog { result.changelog ≡ store.changelog }
-    ensures manifest { result.manifest ≡ store.manifest }
+    ensures { IsLoadedFrom (view_store store) result }
 {
     let LoadedStore {
         files,
@@ -90,6 +94,7 @@ fn moved(
     to: Phase,
     force: bool,
 ) -> Result<Step, CommitFault>
+    ensures comes { GivesStep result (planned_of loaded.now (move_of loaded.now name.now to force)) }
     ensures ready { IfOk result (λ step. CanBeAssembled step.parts) }
     ensures sound { IfOk result (λ step. (t : Tree) → AreSound t step.parts) }
     ensures cause { (faults : ℕ) → HasCause faults faults result }
@@ -104,6 +109,7 @@ fn moved(
 // The step that sets a bookmark.
 fn marked(alloc: Global, loaded: &Loaded, name: &[u8], rev: &[u8]) -> Result<Step, CommitFault>
     requires { is_mark_name name.now ≡ true }
+    ensures comes { GivesStep result (planned_of loaded.now (mark_of loaded.now name.now rev.now)) }
     ensures ready { IfOk result (λ step. CanBeAssembled step.parts) }
     ensures sound { IfOk result (λ step. (t : Tree) → AreSound t step.parts) }
     ensures cause { (faults : ℕ) → HasCause faults faults result }
@@ -117,6 +123,7 @@ fn marked(alloc: Global, loaded: &Loaded, name: &[u8], rev: &[u8]) -> Result<Ste
 
 // The step that deletes a bookmark.
 fn unmarked(alloc: Global, loaded: &Loaded, name: &[u8]) -> Result<Step, CommitFault>
+    ensures comes { GivesStep result (planned_of loaded.now (unmark_of loaded.now name.now)) }
     ensures ready { IfOk result (λ step. CanBeAssembled step.parts) }
     ensures sound { IfOk result (λ step. (t : Tree) → AreSound t step.parts) }
     ensures cause { (faults : ℕ) → HasCause faults faults result }
@@ -138,6 +145,7 @@ fn committed<R: Reads>(
     requires changelog { AreEntries loaded.changelog.entries × (loaded.changelog.inline ≡ false) }
     requires manifest { AreEntries loaded.manifest.entries × (loaded.manifest.inline ≡ false) }
     requires valid { IsNewChange change.now }
+    ensures parts { IfOk result (λ step. ArePartsOfCommit loaded.changelog step.parts) }
     ensures ready { IfOk result (λ step. CanBeAssembled step.parts) }
     ensures sound { IfOk result (λ step. (t : Tree) → length (bytes_at t changelog_index) ≡ 64 * length loaded.changelog.entries → AreSound t step.parts) }
     ensures same_start { R.start files.new ≡ R.start files.old }
@@ -163,6 +171,7 @@ fn step_of<R: Reads>(
     requires changelog { AreEntries loaded.changelog.entries × (loaded.changelog.inline ≡ false) }
     requires manifest { AreEntries loaded.manifest.entries × (loaded.manifest.inline ≡ false) }
     requires valid { IsValid command.now }
+    ensures comes { ComesTo loaded command.now result }
     ensures ready { IfOk result (λ step. CanBeAssembled step.parts) }
     ensures sound { IfOk result (λ step. (t : Tree) → length (bytes_at t changelog_index) ≡ 64 * length loaded.changelog.entries → AreSound t step.parts) }
     ensures same_start { R.start files.new ≡ R.start files.old }
@@ -188,6 +197,7 @@ pub fn plan<R: Reads>(
     command: &Command,
 ) -> Result<Planned, CommitFault>
     requires { IsValid command.now }
+    ensures found { R.alone ≡ true → IfSome (R.seen files.new) (λ log. Plans command.now (after_all log (R.start files.new)) result) }
     ensures planned { R.alone ≡ true → IfOk result (λ planned. IfSome (R.seen files.new) (λ log. IsPlanned (after_all log (R.start files.new)) planned.plan)) }
     ensures same_start { R.start files.new ≡ R.start files.old }
     ensures still { R.alone ≡ true → R.seen files.new ≡ R.seen files.old }
@@ -196,6 +206,7 @@ pub fn plan<R: Reads>(
     ensures cause { HasCause (R.faults files.old) (R.faults files.new) result }
 {
     plans_can_be_carried_out();
+    stores_are_loaded();
     let store = match history(alloc, files) {
         Ok(store) => store,
         Err(refusal) => return Err(CommitFault::Unread(refusal)),

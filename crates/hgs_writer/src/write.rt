@@ -7,6 +7,9 @@ ghost use Rattle.hgs_files.specs.Reads.{Rose};
 ghost use Rattle.std.specs.Option.{ForSome};
 ghost use Rattle.hgs_files.specs.Tree.{after_all};
 ghost use Rattle.hgs_machine.specs.Planned.{IsPlanned};
+ghost use Rattle.hgs_machine.specs.Carry.{tree_now};
+ghost use Rattle.hgs_files.specs.Files.{GoesOn};
+ghost use Rattle.hgs_writer.specs.Written.{IsCarriedOut, IsWritten};
 ghost use Rattle.hgs_model.specs.Valid.{IsValid};
 
 use crate::answers::{of_commit, of_ended, of_locks};
@@ -22,6 +25,7 @@ use std::alloc::Global;
 fn carried<F: Files>(files: &mut F, planned: Planned) -> Answer
     requires allows { (log : List Op) → F.allows (F.start files.old) log }
     requires planned { ForSome (F.log files.old) (λ log. IsPlanned (after_all log (F.start files.old)) planned.plan) }
+    ensures log { GoesOn (F.log files.old) (F.log files.new) (IsCarriedOut (tree_now (F.log files.old) (F.start files.old)) planned result) }
     ensures fault { result.outcome ≡ Fault → Rose (F.faults files.old) (F.faults files.new) }
     ensures unfinished { (published : Published) → result.outcome ≡ Unfinished published → Rose (F.faults files.old) (F.faults files.new) ⊎ Rose (F.denied files.old) (F.denied files.new) }
     ensures later { F.faults files.old ≤ F.faults files.new }
@@ -42,6 +46,7 @@ pub fn write<F: Files>(alloc: Global, files: &mut F, command: &Command, who: &[u
     requires least { 1 ≤ length who.now }
     requires most { length who.now ≤ 255 }
     requires allows { (log : List Op) → F.allows (F.start files.old) log }
+    ensures log { GoesOn (F.log files.old) (F.log files.new) (IsWritten who.now command.now (tree_now (F.log files.old) (F.start files.old)) result) }
     ensures fault { result.outcome ≡ Fault → Rose (F.faults files.old) (F.faults files.new) }
     ensures unfinished { (published : Published) → result.outcome ≡ Unfinished published → Rose (F.faults files.old) (F.faults files.new) ⊎ Rose (F.denied files.old) (F.denied files.new) }
     ensures later { F.faults files.old ≤ F.faults files.new }

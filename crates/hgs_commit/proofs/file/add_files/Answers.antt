@@ -1,24 +1,98 @@
-use Rattle.std.proofs.Common.{◌≡◌, ◌∷◌, ◌≤◌, ◌+◌, length, sym, ◌∙◌, ap, arith}
+use Rattle.std.proofs.Common.{◌≡◌, ◌∷◌, ◌+◌, ℕ, List, Option, length, Ok, Err, sym, ◌∙◌, ap, subst, arith}
+use Rattle.std.specs.Prelude.{⊤}
+use Rattle.std.specs.Bool.{MatchBool}
+use Rattle.std.specs.Option.{option_map}
+use Rattle.hgs_loading.proofs.FoundLemmas.{either}
+use Rattle.hgs_reader.specs.Answer.{is_of_outside}
 use Rattle.hgs_index.specs.Manifest.{Row, last_path}
-use Rattle.hgs_commit.specs.Files.{can_follow}
+use Rattle.hgs_model.specs.declared.files.NewFile.{NewFile}
+use Rattle.hgs_path.specs.Fncache.{listing}
+use Rattle.hgs_commit.specs.Files.{OfFile, can_follow, file_in, view_file}
+use Rattle.hgs_commit.specs.NewTree.{tree_of}
+use Rattle.hgs_commit.specs.Obstacles.{Met, met_of, noting}
+use Rattle.hgs_commit.specs.Tree.{ClashIn, OfTree, files_in, row_at, with_file}
+use Rattle.hgs_commit.specs.Walk.{told_of_found}
+use Rattle.hgs_commit.proofs.AnswerLemmas.{alone-both}
 use Rattle.hgs_commit.proofs.FileLemmas.{next_count, next_order}
+use Rattle.hgs_commit.proofs.TreeLemmas.{given, grown-is, next, next-clash, none}
 use Rattle.hgs_commit.proofs.file.add_files.Goals as goal
 
 pub loop-file-preserved : goal.loop-file-preserved
 loop-file-preserved g c =
     let i = c.loop-file.invariant in
     let split : c.loop-file.rest.now ≡ c.in-Some.file.now ∷ c.in-Some.behind.now = c.in-Some.ensures.cases.0 in
-    let r : Row = record { path = c.in_ok-added.added.path; node = c.in_ok-added.added.node.0; flag = c.in_ok-added.added.flag } in
+    let r : Row = record { path = c.in-Ok.added.path; node = c.in-Ok.added.node.0; flag = c.in-Ok.added.flag } in
     let grown = c.in_ok-add.ensures.rows in
     let rows = c.in_ok-rows.ensures.rows in
-    let later = c.in_ok-added.ensures.cause.later in
+    let later = c.in-Ok.ensures.cause.later in
     let before = i.later in
+    let lists = listing c.args.fncache.now in
+    let link = c.args.link in
+    let file : NewFile = c.in-Some.file.now in
+    let behind = c.in-Some.behind.now in
+    let tree : OfTree = tree_of c.loop-file.tree in
+    let tree_next : OfTree = tree_of c.add.new.self in
+    let m : Met = met_of c.loop-file.met in
+    let m_next : Met = met_of c.file_of.new.met in
+    let x : OfFile = view_file c.in-Ok.added in
+    let first = option_map told_of_found c.in_ok-rows.rows.first in
+    let second = option_map told_of_found c.in_ok-rows.rows.second in
+    let path : x.row.path ≡ file.path = c.in-Ok.ensures.path in
+    let is_first : first ≡ row_at file.path tree.first = c.in_ok-rows.ensures.found.0 ∙ ap (λ p. row_at p tree.first) c.as_slice.ensures in
+    let is_second : second ≡ row_at file.path tree.second = c.in_ok-rows.ensures.found.1 ∙ ap (λ p. row_at p tree.second) c.as_slice.ensures in
+    let is : tree_next ≡ with_file tree x =
+    grown-is tree (tree_of c.parent_files.new.self) tree_next x c.as_slice.result.now (c.as_slice.ensures ∙ sym path)
+    c.in_ok-rows.ensures.first c.in_ok-rows.ensures.second c.in_ok-rows.ensures.rows c.in_ok-rows.ensures.changed (ap (λ v. v.items) c.in_ok-rows.ensures.growth) (ap (λ v. v.items) c.in_ok-rows.ensures.lines)
+    c.in_ok-add.ensures.first c.in_ok-add.ensures.second c.in_ok-add.ensures.rows c.in_ok-add.ensures.changed c.in_ok-add.ensures.growth c.in_ok-add.ensures.lines in
     record {
-      order = next_order c.parent_files.new.self.rows c.add.new.self.rows r c.in-Some.file.now c.loop-file.rest.now c.in-Some.behind.now split c.in_ok-added.ensures.path grown (ap (λ q. can_follow (last_path q) c.loop-file.rest.now) rows ∙ i.order);
+      found =
+          alone-both g.R.Reads.alone (g.R.Reads.seen c.loop-file.files) (g.R.Reads.seen c.file_of.new.files) (g.R.Reads.start c.loop-file.files) (g.R.Reads.start c.file_of.new.files)
+          (λ t. given lists link tree m c.loop-file.rest.now t ≡ given lists link (tree_of c.args.tree.now) (met_of c.args.met.now) c.args.new_files.now t)
+          (λ t. noting m (file_in lists link file first second t) ≡ Ok (x, m_next))
+          (λ t. given lists link tree_next m_next behind t ≡ given lists link (tree_of c.args.tree.now) (met_of c.args.met.now) c.args.new_files.now t)
+          c.in-Ok.ensures.still c.in-Ok.ensures.same_start
+          (λ t p q. sym (next lists link file behind tree first second t is_first is_second x m m_next tree_next path is q) ∙ ap (λ l. given lists link tree m l t) (sym split) ∙ p)
+          i.found c.in-Ok.ensures.found;
+      clash =
+          alone-both g.R.Reads.alone (g.R.Reads.seen c.loop-file.files) (g.R.Reads.seen c.file_of.new.files) (g.R.Reads.start c.loop-file.files) (g.R.Reads.start c.file_of.new.files)
+          (λ t. (clash : Option (List ℕ)) → ClashIn lists (files_in lists link c.loop-file.rest.now tree.first tree.second t) c.loop-file.met.clash clash → ClashIn lists (files_in lists link c.args.new_files.now c.args.tree.now.first c.args.tree.now.second t) c.args.met.now.clash clash)
+          (λ t. noting m (file_in lists link file first second t) ≡ Ok (x, m_next))
+          (λ t. (clash : Option (List ℕ)) → ClashIn lists (files_in lists link behind tree_next.first tree_next.second t) c.file_of.new.met.clash clash → ClashIn lists (files_in lists link c.args.new_files.now c.args.tree.now.first c.args.tree.now.second t) c.args.met.now.clash clash)
+          c.in-Ok.ensures.still c.in-Ok.ensures.same_start
+          (λ t p q clash k. p clash (
+          let P : List NewFile → Type 0 = λ l. ClashIn lists (files_in lists link l tree.first tree.second t) c.loop-file.met.clash clash in
+          subst P (sym split) (next-clash lists link file behind tree first second t is_first is_second x m m_next tree_next path is q c.loop-file.met.clash c.file_of.new.met.clash clash c.in-Ok.ensures.clash k)
+          ))
+          i.clash c.in-Ok.ensures.found;
+      order = next_order c.parent_files.new.self.rows c.add.new.self.rows r c.in-Some.file.now c.loop-file.rest.now c.in-Some.behind.now split c.in-Ok.ensures.path grown (ap (λ q. can_follow (last_path q) c.loop-file.rest.now) rows ∙ i.order);
       count = next_count c.parent_files.new.self.rows c.add.new.self.rows r c.in-Some.file.now c.loop-file.rest.now c.in-Some.behind.now (length c.args.new_files.now) split grown (ap (λ q. length q + length c.loop-file.rest.now) rows ∙ i.count);
       few = i.few;
-      same_start = c.in_ok-added.ensures.same_start ∙ i.same_start;
-      still = λ alone. c.in_ok-added.ensures.still alone ∙ i.still alone;
+      same_start = c.in-Ok.ensures.same_start ∙ i.same_start;
+      still = λ alone. c.in-Ok.ensures.still alone ∙ i.still alone;
       later = omega (arith, later, before);
-      refused = (let l = c.in_ok-added.ensures.cause.refused in let k = i.refused in omega (arith, l, k));
+      refused = (let l = c.in-Ok.ensures.cause.refused in let k = i.refused in omega (arith, l, k));
     }
+
+pub returns-in-Err-clause-found : goal.returns-in-Err-clause-found
+returns-in-Err-clause-found g c =
+    let i = c.loop-file.invariant in
+    let split : c.loop-file.rest.now ≡ c.in-Some.file.now ∷ c.in-Some.behind.now = c.in-Some.ensures.cases.0 in
+    let lists = listing c.args.fncache.now in
+    let link = c.args.link in
+    let file : NewFile = c.in-Some.file.now in
+    let behind = c.in-Some.behind.now in
+    let tree : OfTree = tree_of c.loop-file.tree in
+    let m : Met = met_of c.loop-file.met in
+    let e = c.in-Err.refusal in
+    let first = option_map told_of_found c.in_ok-rows.rows.first in
+    let second = option_map told_of_found c.in_ok-rows.rows.second in
+    let is_first : first ≡ row_at file.path tree.first = c.in_ok-rows.ensures.found.0 ∙ ap (λ p. row_at p tree.first) c.as_slice.ensures in
+    let is_second : second ≡ row_at file.path tree.second = c.in_ok-rows.ensures.found.1 ∙ ap (λ p. row_at p tree.second) c.as_slice.ensures in
+    alone-both g.R.Reads.alone (g.R.Reads.seen c.loop-file.files) (g.R.Reads.seen c.file_of.new.files) (g.R.Reads.start c.loop-file.files) (g.R.Reads.start c.file_of.new.files)
+    (λ t. given lists link tree m c.loop-file.rest.now t ≡ given lists link (tree_of c.args.tree.now) (met_of c.args.met.now) c.args.new_files.now t)
+    (λ t. MatchBool (is_of_outside e) ⊤ (noting m (file_in lists link file first second t) ≡ Err e))
+    (λ t. MatchBool (is_of_outside e) ⊤ (given lists link (tree_of c.args.tree.now) (met_of c.args.met.now) c.args.new_files.now t ≡ Err e))
+    c.in-Err.ensures.still c.in-Err.ensures.same_start
+    (λ t p q. either (is_of_outside e) (noting m (file_in lists link file first second t) ≡ Err e) (given lists link (tree_of c.args.tree.now) (met_of c.args.met.now) c.args.new_files.now t ≡ Err e)
+    (λ k. sym p ∙ ap (λ l. given lists link tree m l t) split ∙ none lists link file behind tree first second t is_first is_second m e k) q)
+    i.found c.in-Err.ensures.found

@@ -1,4 +1,4 @@
-use Rattle.std.proofs.Common.{◌≡◌, ◌++◌, ◌∷◌, [], ℕ, Option, drop, length, arith}
+use Rattle.std.proofs.Common.{arith}
 use Rattle.hgs_index.specs.Revision.{Parents}
 use Rattle.hgs_index.specs.declared.entry.Entry.{Entry}
 use Rattle.hgs_revlog.specs.Loaded.{parents_in}

@@ -1,4 +1,4 @@
-use Rattle.std.proofs.Common.{◌<◌, ◌++◌, map, length, arith}
+use Rattle.std.proofs.Common.{◌++◌, map, arith}
 use Rattle.hgs_manifest.specs.Held.{view_row}
 use Rattle.hgs_commit.proofs.WalkLemmas.{told_next}
 use Rattle.hgs_commit.proofs.walk.Walk.pass_all.Goals as goal

@@ -1,4 +1,4 @@
-use Rattle.std.proofs.Common.{◌<◌, ◌++◌, map, length, sym, ◌∙◌, arith}
+use Rattle.std.proofs.Common.{◌++◌, map, sym, ◌∙◌, arith}
 use Rattle.hgs_manifest.specs.Held.{view_row}
 use Rattle.hgs_commit.specs.Walk.{before}
 use Rattle.hgs_commit.proofs.WalkLemmas.{rest_kept, rest_passed, told_kept, told_passed}

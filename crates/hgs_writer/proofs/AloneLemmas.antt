@@ -1,0 +1,236 @@
+-- What a call leaves of a tree that stands for a repository.
+use Rattle.std.proofs.Common.{◌≡◌, ◌⊎◌, ℕ, List, [], ◌++◌, Bool, refl, sym, ◌∙◌, ap, subst, inl, inr, append-nil}
+use Rattle.std.specs.Prelude.{Result, Ok, Err, ⊤}
+use Rattle.std.specs.Bool.{MatchBool}
+use Rattle.hgs_answers.specs.declared.answer.Answer.{Answer}
+use Rattle.hgs_commit.specs.declared.fault.CommitFault.{CommitFault}
+use Rattle.hgs_commit.specs.declared.fault.CommitFault.TheVariants as commits
+use Rattle.hgs_files.specs.declared.op.Op.{Op}
+use Rattle.hgs_files.specs.Tree.{Tree, after_all}
+use Rattle.hgs_index.specs.declared.node.Node.{Node}
+use Rattle.hgs_files.specs.Stop.{IsStopped, StopLeaves}
+use Rattle.hgs_legal.specs.Pieces.{LeavesJournal, Piece, Pieces, and_then, at_last, no_more, no_pieces}
+use Rattle.hgs_machine.specs.Course.{lock_removals}
+use Rattle.hgs_machine.specs.Locks.{AreLocked, AreRemoved, IsTurnedAway}
+use Rattle.hgs_machine.specs.declared.ended.Published.TheVariants.{No, Yes, Unknown}
+use Rattle.hgs_machine.specs.declared.ended.Short.{Short}
+use Rattle.hgs_machine.specs.declared.ended.Short.TheVariants.{Done, Fault, Unfinished, Memory}
+use Rattle.hgs_machine.specs.declared.locks.LockRefusal.{LockRefusal}
+use Rattle.hgs_machine.specs.declared.locks.LockRefusal.TheVariants as locked
+use Rattle.hgs_model.specs.Repo.{Repo}
+use Rattle.hgs_model.specs.Step.{Next, step}
+use Rattle.hgs_model.specs.Valid.{IsValid}
+use Rattle.hgs_model.specs.declared.command.Command.{Command}
+use Rattle.hgs_model.specs.declared.command.Command.TheVariants.{Commit, Mark, Move, Unmark}
+use Rattle.hgs_model.specs.declared.command.Refusal.{Refusal}
+use Rattle.hgs_model.specs.declared.command.Refusal.TheVariants as refusals
+use Rattle.hgs_ops.specs.Operations.{strays}
+use Rattle.hgs_ops.specs.Stops.{IsBetween}
+use Rattle.hgs_ops.specs.Unhindered.{IsReady}
+use Rattle.hgs_pieces.specs.Made.{IsPieceOf}
+use Rattle.hgs_reader.specs.declared.answer.ReadAnswer.{ReadAnswer}
+use Rattle.hgs_reader.specs.declared.answer.ReadAnswer.TheVariants as reads
+use Rattle.hgs_stands.specs.Open.{IsOpen}
+use Rattle.hgs_stands.specs.Stands.{Stands}
+use Rattle.hgs_steps.specs.Fault.{is_memory}
+use Rattle.hgs_steps.specs.Planned.{AnswersAs, IsLoadedOf, IsStepOf}
+use Rattle.hgs_steps.specs.Steps.{mark_of, move_of, planned, unmark_of}
+use Rattle.hgs_steps.specs.declared.fault.PlanFault.{PlanFault}
+use Rattle.hgs_steps.specs.declared.fault.PlanFault.TheVariants as plans
+use Rattle.hgs_steps.specs.declared.loaded.Loaded.{Loaded}
+use Rattle.hgs_steps.specs.declared.step.Step.{Step}
+use Rattle.hgs_transaction.specs.Assembled.{IsPlanOf}
+use Rattle.hgs_transaction.specs.OfTransaction.{ArePartsOf}
+use Rattle.hgs_transaction.specs.declared.parts.Parts.{Parts}
+use Rattle.hgs_writer.specs.Alone.{IsAnswered, IsDoneAs, IsNoCommit, IsStopOf}
+use Rattle.hgs_writer.specs.Outcomes.{outcome_of_commit, outcome_of_ended, outcome_of_lock, outcome_of_plan, outcome_of_read}
+use Rattle.hgs_writer.specs.Planning.{ComesTo, GivesStep, IsNotPlannedFor, IsPlannedFor, has_no_memory, is_refused, is_unread}
+use Rattle.hgs_writer.specs.Written.{IsCarriedOut, IsWritten, is_carried_out, is_not_planned, is_turned_away}
+use Rattle.hgs_writer.specs.declared.plan.Planned.{Planned}
+use Rattle.hgs_writer.specs.Below.{Below}
+
+-- ---- what is done, as pieces
+
+-- nothing, a piece that leads back, one that leaves its journal, or one that leads to the next repository
+abbrev pub IsMadeOf : Tree → Repo → Result Next Refusal → List Op → Type 0
+IsMadeOf t r stepped log = (log ≡ []) ⊎ (Piece t r log r ⊎ (LeavesJournal t r log ⊎ ((next : Next) × (stepped ≡ Ok next) × Piece t r log next.0)))
+
+one-piece : (t : Tree) (r next : Repo) (log : List Op) → Piece t r log next → Pieces t r log
+one-piece t r next log piece = subst (Pieces t r) (append-nil log) (and_then log [] next piece no_pieces)
+
+pub pieces-of : (t : Tree) (r : Repo) (stepped : Result Next Refusal) (log : List Op) → IsMadeOf t r stepped log → Pieces t r log
+pieces-of t r stepped log (inl none) = subst (Pieces t r) (sym none) no_pieces
+pieces-of t r stepped log (inr (inl piece)) = one-piece t r r log piece
+pieces-of t r stepped log (inr (inr (inl left))) = subst (Pieces t r) (append-nil log) (at_last log [] left no_more)
+pieces-of t r stepped log (inr (inr (inr (next, accepted, piece)))) = one-piece t r next.0 log piece
+
+-- where it is stopped
+pub stops-of : ((t : Tree) (r next : Repo) (log : List Op) (u : Tree) → Stands t r → Piece t r log next → StopLeaves t log u → IsBetween u r next)
+    → ((t : Tree) (r : Repo) (log : List Op) (u : Tree) → Stands t r → LeavesJournal t r log → StopLeaves t log u → Stands u r ⊎ IsOpen strays u r)
+    → (t : Tree) (r : Repo) (stepped : Result Next Refusal) (log : List Op) (u : Tree) → Stands t r → IsMadeOf t r stepped log → StopLeaves t log u → IsStopOf r stepped u
+stops-of between left_between t r stepped log u s (inl none) stop =
+    let nothing : stop.0 ≡ [] = subst (λ l. IsStopped l stop.0) none stop.1 in
+    inl (subst (λ v. Stands v r) (sym (stop.2 ∙ ap (λ l. after_all l t) nothing)) s)
+stops-of between left_between t r stepped log u s (inr (inl piece)) stop = elim (between t r r log u s piece stop) [
+  | inl h ↦ inl h
+  | inr h ↦ elim h [
+    | inl is_open ↦ inr (inl is_open)
+    | inr k ↦ inl k
+  ]
+]
+stops-of between left_between t r stepped log u s (inr (inr (inl left))) stop = elim (left_between t r log u s left stop) [
+  | inl h ↦ inl h
+  | inr h ↦ inr (inl h)
+]
+stops-of between left_between t r stepped log u s (inr (inr (inr (next, accepted, piece)))) stop = elim (between t r next.0 log u s piece stop) [
+  | inl h ↦ inl h
+  | inr h ↦ elim h [
+    | inl is_open ↦ inr (inl is_open)
+    | inr k ↦ inr (inr (next, accepted, k))
+  ]
+]
+
+-- ---- what the repository makes of a command, and what is planned
+
+-- a refusal of the command is answered as such
+refusal-answered : (r : Repo) (e : Refusal) (u : Tree) → Stands u r → IsAnswered r (Err e) (outcome_of_plan (plans.Refused e)) u
+refusal-answered r refusals.UnknownRevision u s = (refl, s)
+refusal-answered r (refusals.NeedsForce rev) u s = (refl, s)
+refusal-answered r (refusals.NothingChanged rev) u s = (refl, s)
+
+-- what is refused as the repository refuses it, or for its limit, leaves the repository as it was
+fault-answered : (u : Tree) (r : Repo) (command : Command) (fault : PlanFault) (stepped : Result Next Refusal) (v : Tree) → AnswersAs u r command (Err fault) stepped → Stands v r → IsAnswered r stepped (outcome_of_plan fault) v
+fault-answered u r command fault (Err e) v is s = subst (λ f. IsAnswered r (Err e) (outcome_of_plan f) v) (sym is) (refusal-answered r e v s)
+fault-answered u r command fault (Ok next) v is s = subst (λ f. IsAnswered r (Ok next) (outcome_of_plan f) v) (sym is.0) s
+
+read-answered : (r : Repo) (stepped : Result Next Refusal) (e : ReadAnswer) (v : Tree) → Stands v r → IsAnswered r stepped (outcome_of_read e) v
+read-answered r stepped (reads.Damaged d) v s = s
+read-answered r stepped reads.Fault v s = s
+read-answered r stepped (reads.Limit w) v s = s
+read-answered r stepped reads.UnknownPath v s = s
+read-answered r stepped reads.NotARepository v s = s
+read-answered r stepped (reads.Requirement w) v s = s
+read-answered r stepped reads.Memory v s = s
+
+given-answered : (u : Tree) (r : Repo) (command : Command) (fault : PlanFault) (stepped : Result Next Refusal) (a : Result Step PlanFault) (v : Tree) → MatchBool (is_memory fault) ⊤ (a ≡ Err fault) → AnswersAs u r command a stepped → Stands v r → IsAnswered r stepped (outcome_of_plan fault) v
+given-answered u r command plans.Memory stepped a v m is s = s
+given-answered u r command (plans.Refused e) stepped a v m is s = fault-answered u r command (plans.Refused e) stepped v (subst (λ x. AnswersAs u r command x stepped) m is) s
+given-answered u r command (plans.Limit w) stepped a v m is s = fault-answered u r command (plans.Limit w) stepped v (subst (λ x. AnswersAs u r command x stepped) m is) s
+given-answered u r command (plans.NameClash p) stepped a v m is s = fault-answered u r command (plans.NameClash p) stepped v (subst (λ x. AnswersAs u r command x stepped) m is) s
+given-answered u r command (plans.InTheWay p) stepped a v m is s = fault-answered u r command (plans.InTheWay p) stepped v (subst (λ x. AnswersAs u r command x stepped) m is) s
+given-answered u r command (plans.Collision p rev) stepped a v m is s = fault-answered u r command (plans.Collision p rev) stepped v (subst (λ x. AnswersAs u r command x stepped) m is) s
+
+-- nothing hinders a phase or bookmark command
+ready : (t : Tree) (r next : Repo) (command : Command) → IsNoCommit command → IsReady t r command next
+ready t r next (Commit n) no_commit = absurd no_commit
+ready t r next (Move rev phase force) no_commit = tt
+ready t r next (Mark name rev) no_commit = tt
+ready t r next (Unmark name) no_commit = tt
+
+module _ (laws : Below) where
+  -- what such a command comes to is what the repository makes of it
+  pub comes-as : (u : Tree) (r : Repo) (l : Loaded) (command : Command) (result : Result Step CommitFault) → IsNoCommit command → Stands u r → IsLoadedOf u l → ComesTo l command result
+      → (a : Result Step PlanFault) × GivesStep result a × AnswersAs u r command a (step r command)
+  comes-as u r l (Commit n) result no_commit s is comes = absurd no_commit
+  comes-as u r l (Move name to force) result no_commit s is comes = (planned l (move_of l name to force), comes, laws.moved u r l name to force s is)
+  comes-as u r l (Mark mark name) result no_commit s is comes = (planned l (mark_of l mark name), comes, laws.marked u r l mark name s is)
+  comes-as u r l (Unmark mark) result no_commit s is comes = (planned l (unmark_of l mark), comes, laws.unmarked u r l mark s is)
+
+  not-planned-answered : (u : Tree) (r : Repo) (command : Command) (fault : CommitFault) (v : Tree) → IsNoCommit command → Stands u r → IsNotPlannedFor command u fault → Stands v r → IsAnswered r (step r command) (outcome_of_commit fault) v
+  not-planned-answered u r command _ v no_commit s (is_unread e m) after = read-answered r (step r command) e v after
+  not-planned-answered u r command _ v no_commit s has_no_memory after = after
+  not-planned-answered u r command _ v no_commit s (is_refused l fault is comes) after = by fault (comes-as u r l command (Err fault) no_commit s is comes)
+    where
+      by : (f : CommitFault) → (a : Result Step PlanFault) × GivesStep (Err f) a × AnswersAs u r command a (step r command) → IsAnswered r (step r command) (outcome_of_commit f) v
+      by (commits.Unread e) c = absurd c.1
+      by (commits.Refused f) c = given-answered u r command f (step r command) c.0 v c.1 c.2 after
+
+  -- ---- a transaction that is carried out
+
+  ended-answered : (t : Tree) (r : Repo) (next : Next) (planned : Planned) (log : List Op) (ended : Short) → Stands t r → planned.rev ≡ next.1.rev → planned.node.0 ≡ next.1.node → IsPieceOf t r next.0 ended log
+      → IsAnswered r (Ok next) (outcome_of_ended ended planned.rev planned.node) (after_all log t)
+  ended-answered t r next planned log Done s rev_is node_is piece = (laws.ends t r next.0 log s piece, rev_is, node_is)
+  ended-answered t r next planned log Fault s rev_is node_is piece = laws.ends t r r log s piece
+  ended-answered t r next planned log Memory s rev_is node_is piece = laws.ends t r r log s piece
+  ended-answered t r next planned log (Unfinished No) s rev_is node_is (inl left) = (refl, inl (laws.left_open t r log s left))
+  ended-answered t r next planned log (Unfinished No) s rev_is node_is (inr piece) = (refl, inr (laws.ends t r r log s piece))
+  ended-answered t r next planned log (Unfinished Yes) s rev_is node_is left = (refl, laws.left_open t r log s left)
+  ended-answered t r next planned log (Unfinished Unknown) s rev_is node_is left = (refl, laws.left_open t r log s left)
+
+  ended-made : (t : Tree) (r : Repo) (next : Next) (log : List Op) (ended : Short) → IsPieceOf t r next.0 ended log → IsMadeOf t r (Ok next) log
+  ended-made t r next log Done piece = inr (inr (inr (next, refl, piece)))
+  ended-made t r next log Fault piece = inr (inl piece)
+  ended-made t r next log Memory piece = inr (inl piece)
+  ended-made t r next log (Unfinished No) (inl left) = inr (inr (inl left))
+  ended-made t r next log (Unfinished No) (inr piece) = inr (inl piece)
+  ended-made t r next log (Unfinished Yes) left = inr (inr (inl left))
+  ended-made t r next log (Unfinished Unknown) left = inr (inr (inl left))
+
+  -- where the repository accepts the command, and the parts that were planned under the locks are those of its transaction
+  pub carried : (t : Tree) (r : Repo) (command : Command) (next : Next) (who : List ℕ) (p : Parts) (planned : Planned) (answer : Answer) (locking carrying : List Op) → Stands t r → IsValid command → step r command ≡ Ok next → IsReady (after_all locking t) r command next.0
+      → ArePartsOf (after_all locking t) r command next.0 p → IsPlanOf p planned.plan → planned.rev ≡ next.1.rev → planned.node.0 ≡ next.1.node → AreLocked who t locking → IsCarriedOut (after_all locking t) planned answer carrying
+      → IsAnswered r (step r command) answer.outcome (after_all (locking ++ carrying) t) × IsMadeOf t r (step r command) (locking ++ carrying)
+  carried t r command next who p planned answer locking carrying s valid accepted is_ready are is rev_is node_is locks c =
+      let log = locking ++ carrying in
+      let u = after_all log t in
+      let piece = laws.transaction t r next.0 command who next.1 p planned.plan c.ended answer.swept locking carrying valid accepted (laws.ready t r next.0 command who locking locks is_ready) (laws.parts t r next.0 command who p locking locks are) is locks c.carried in
+      let said = ended-answered t r next planned log c.ended s rev_is node_is piece in (
+        subst (λ o. IsAnswered r (step r command) o u) (sym c.outcome) (subst (λ x. IsAnswered r x (outcome_of_ended c.ended planned.rev planned.node) u) (sym accepted) said),
+        subst (λ x. IsMadeOf t r x log) (sym accepted) (ended-made t r next log c.ended piece),
+      )
+
+  -- ---- a writer that is turned away
+
+  lock-answered : (t : Tree) (r : Repo) (who : List ℕ) (why : LockRefusal) (swept : Bool) (log : List Op) (stepped : Result Next Refusal) (v : Tree) → Stands t r → IsTurnedAway who t why swept log → Stands v r → IsAnswered r stepped (outcome_of_lock why) v
+  lock-answered t r who (locked.Held holder) swept log stepped v s turned after = after
+  lock-answered t r who locked.Abandoned swept log stepped v s turned after = absurd (laws.abandoned t who swept log s.no_journal turned)
+  lock-answered t r who locked.Fault swept log stepped v s turned after = after
+  lock-answered t r who locked.Memory swept log stepped v s turned after = after
+
+  nothing-or-piece : (t : Tree) (r : Repo) (stepped : Result Next Refusal) (log : List Op) → Stands t r → (log ≡ []) ⊎ Piece t r log r → Stands (after_all log t) r × IsMadeOf t r stepped log
+  nothing-or-piece t r stepped log s (inl none) = (subst (λ l. Stands (after_all l t) r) (sym none) s, inl none)
+  nothing-or-piece t r stepped log s (inr piece) = (laws.ends t r r log s piece, inr (inl piece))
+
+  -- ---- the whole
+
+  abbrev LeavesAs : Tree → Repo → Command → Answer → List Op → Type 0
+  LeavesAs t r command answer done = IsAnswered r (step r command) answer.outcome (after_all done t) × IsMadeOf t r (step r command) done
+
+  turned-away-leaves : (t : Tree) (r : Repo) (command : Command) (who : List ℕ) (answer : Answer) (done : List Op) (why : LockRefusal) → Stands t r → IsTurnedAway who t why answer.swept done → answer.outcome ≡ outcome_of_lock why → LeavesAs t r command answer done
+  turned-away-leaves t r command who answer done why s turned outcome =
+      let after = nothing-or-piece t r (step r command) done s (laws.turned_away t r who why answer.swept done turned) in
+      (subst (λ o. IsAnswered r (step r command) o (after_all done t)) (sym outcome) (lock-answered t r who why answer.swept done (step r command) (after_all done t) s turned after.0), after.1)
+
+  not-planned-leaves : (t : Tree) (r : Repo) (command : Command) (who : List ℕ) (answer : Answer) (fault : CommitFault) (locking releasing : List Op) → Stands t r → IsNoCommit command → AreLocked who t locking → IsNotPlannedFor command (after_all locking t) fault
+      → AreRemoved lock_removals answer.swept releasing → answer.outcome ≡ outcome_of_commit fault → LeavesAs t r command answer (locking ++ releasing)
+  not-planned-leaves t r command who answer fault locking releasing s no_commit locks plans removed outcome =
+      let piece = laws.released t r who answer.swept locking releasing locks removed in
+      let after = laws.ends t r r (locking ++ releasing) s piece in (
+        subst (λ o. IsAnswered r (step r command) o (after_all (locking ++ releasing) t)) (sym outcome) (not-planned-answered (after_all locking t) r command fault (after_all (locking ++ releasing) t) no_commit (laws.stands t r who locking locks s) plans after),
+        inr (inl piece),
+      )
+
+  -- the step that was planned is the repository's
+  pub planned-as : (u : Tree) (r : Repo) (command : Command) (step_is : Step) (a : Result Step PlanFault) (stepped : Result Next Refusal) → a ≡ Ok step_is → AnswersAs u r command a stepped → (next : Next) × (stepped ≡ Ok next) × IsStepOf u r command next step_is
+  planned-as u r command step_is a (Ok next) e is = (next, refl, subst (λ x. AnswersAs u r command x (Ok next)) e is)
+  planned-as u r command step_is a (Err f) e is = absurd (subst (λ x. AnswersAs u r command x (Err f)) e is)
+
+  carried-leaves : (t : Tree) (r : Repo) (command : Command) (who : List ℕ) (answer : Answer) (planned : Planned) (locking carrying : List Op) → Stands t r → IsValid command → IsNoCommit command → AreLocked who t locking → IsPlannedFor command (after_all locking t) planned
+      → IsCarriedOut (after_all locking t) planned answer carrying → LeavesAs t r command answer (locking ++ carrying)
+  carried-leaves t r command who answer planned locking carrying s valid no_commit locks plan c =
+      let u = after_all locking t in
+      let comes = comes-as u r plan.loaded command (Ok plan.step) no_commit (laws.stands t r who locking locks s) plan.is_loaded plan.comes in
+      let next = planned-as u r command plan.step comes.0 (step r command) comes.1 comes.2 in
+      carried t r command next.0 who plan.step.parts planned answer locking carrying s valid next.1 (ready u r next.0.0 command no_commit) next.2.parts plan.plan (plan.rev ∙ next.2.rev) (ap (λ n. n.0) plan.node ∙ next.2.node) locks c
+
+  pub written : (t : Tree) (r : Repo) (command : Command) (who : List ℕ) (answer : Answer) (done : List Op) → Stands t r → IsValid command → IsNoCommit command → IsWritten who command t answer done → LeavesAs t r command answer done
+  written t r command who answer done s valid no_commit (is_turned_away why turned outcome) = turned-away-leaves t r command who answer done why s turned outcome
+  written t r command who answer done s valid no_commit (is_not_planned fault locking releasing locks plans removed outcome whole) =
+      subst (LeavesAs t r command answer) (sym whole) (not-planned-leaves t r command who answer fault locking releasing s no_commit locks plans removed outcome)
+  written t r command who answer done s valid no_commit (is_carried_out made locking carrying locks plan c whole) =
+      subst (LeavesAs t r command answer) (sym whole) (carried-leaves t r command who answer made locking carrying s valid no_commit locks plan c)
+
+-- a call that is done: the repository accepts the command
+pub done-as : (r : Repo) (stepped : Result Next Refusal) (rev : ℕ) (node : Node) (u : Tree) → IsDoneAs stepped rev node u → (next : Next) × (stepped ≡ Ok next) × (rev ≡ next.1.rev) × (node.0 ≡ next.1.node) × Stands u next.0
+done-as r (Ok next) rev node u h = (next, refl, h.1, h.2, h.0)
+done-as r (Err e) rev node u h = absurd h

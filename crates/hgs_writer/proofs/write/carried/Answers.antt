@@ -1,0 +1,13 @@
+use Rattle.hgs_answers.specs.declared.answer.Answer.{Answer}
+use Rattle.hgs_machine.specs.Carry.{tree_now}
+use Rattle.hgs_machine.specs.Course.{CarriedOut}
+use Rattle.hgs_writer.specs.Written.{IsCarriedOut}
+use Rattle.hgs_writer.proofs.WrittenLemmas.{as_well}
+use Rattle.hgs_writer.proofs.write.carried.Goals as goal
+
+pub returns-clause-log : goal.returns-clause-log
+returns-clause-log g c =
+    let t = tree_now (g.F.Files.log c.args.files.now) (g.F.Reads.start c.args.files.now) in
+    let answer : Answer = record { outcome = c.of_ended.result; swept = c.carry_out-ended.result.swept } in
+    as_well (g.F.Files.log c.args.files.now) (g.F.Files.log c.carry_out-ended.new.files) (CarriedOut t c.args.planned.plan c.carry_out-ended.result.outcome c.carry_out-ended.result.swept) (IsCarriedOut t c.args.planned answer)
+    (λ done h. record { ended = c.carry_out-ended.result.outcome; carried = h; outcome = c.of_ended.ensures }) c.carry_out-ended.ensures.log

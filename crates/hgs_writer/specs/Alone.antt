@@ -1,0 +1,86 @@
+-- What a call that was alone leaves of a tree that stands for a repository, by its answer.
+use Rattle.std.specs.Prelude.{◌≡◌, ◌⊎◌, ℕ, Bool, true, false, Result, Ok, Err, IsOk}
+use Rattle.hgs_answers.specs.declared.outcome.Outcome.{Outcome}
+use Rattle.hgs_answers.specs.declared.outcome.Outcome.TheVariants.{Done, LockHeld, Abandoned, UnknownRevision, NothingChanged, Fault, Unfinished, Limit, NeedsForce, Memory}
+use Rattle.hgs_answers.specs.declared.outcome.Published.{Published}
+use Rattle.hgs_answers.specs.declared.outcome.Published.TheVariants.{No, Yes, Unknown}
+use Rattle.hgs_files.specs.Tree.{Tree}
+use Rattle.hgs_index.specs.declared.kinds.Which.TheVariants.{Bookmarks}
+use Rattle.hgs_index.specs.declared.node.Node.{Node}
+use Rattle.hgs_model.specs.Repo.{Repo}
+use Rattle.hgs_model.specs.Step.{Next}
+use Rattle.hgs_model.specs.declared.command.Command.{Command}
+use Rattle.hgs_model.specs.declared.command.Command.TheVariants.{Commit}
+use Rattle.hgs_model.specs.declared.command.Refusal.{Refusal}
+use Rattle.hgs_model.specs.declared.command.Refusal.TheVariants as refusals
+use Rattle.hgs_ops.specs.Operations.{strays}
+use Rattle.hgs_stands.specs.Open.{IsOpen}
+use Rattle.hgs_stands.specs.Stands.{Stands}
+use Rattle.hgs_steps.specs.Planned.{passes_limit}
+
+-- a phase or bookmark command
+abbrev pub IsNoCommit : Command → Type 0
+IsNoCommit (Commit n) = ⊥
+IsNoCommit command = Unit {0}
+
+-- The command was accepted, the tree stands for the next repository, and its changeset is answered.
+abbrev pub IsDoneAs : Result Next Refusal → ℕ → Node → Tree → Type 0
+IsDoneAs (Ok next) rev node u = Stands u next.0 × (rev ≡ next.1.rev) × (node.0 ≡ next.1.node)
+IsDoneAs (Err e) rev node u = ⊥
+
+-- It can be taken back to the repository before. Where it was not published it may have left no journal.
+abbrev pub IsLeftOpen : Repo → Published → Tree → Type 0
+IsLeftOpen r No u = IsOpen strays u r ⊎ Stands u r
+IsLeftOpen r Yes u = IsOpen strays u r
+IsLeftOpen r Unknown u = IsOpen strays u r
+
+-- What the tree stands for, by what the repository makes of the command and by what the call answers: its refusals are the
+-- repository's, and every refusal and each failure that was taken back leaves the repository as before. No journal stood.
+abbrev pub IsAnswered : Repo → Result Next Refusal → Outcome → Tree → Type 0
+IsAnswered r stepped (Done rev node) u = IsDoneAs stepped rev node u
+IsAnswered r stepped UnknownRevision u = (stepped ≡ Err refusals.UnknownRevision) × Stands u r
+IsAnswered r stepped (NeedsForce rev) u = (stepped ≡ Err (refusals.NeedsForce rev)) × Stands u r
+IsAnswered r stepped (NothingChanged rev) u = (stepped ≡ Err (refusals.NothingChanged rev)) × Stands u r
+IsAnswered r stepped (Unfinished published) u = IsOk stepped × IsLeftOpen r published u
+IsAnswered r stepped Abandoned u = ⊥
+IsAnswered r stepped _ u = Stands u r
+
+-- What a stop within the call leaves: the repository before, or a tree that is open for it, or the next one.
+abbrev pub IsStopOf : Repo → Result Next Refusal → Tree → Type 0
+IsStopOf r stepped u = Stands u r ⊎ (IsOpen strays u r ⊎ ((next : Next) × (stepped ≡ Ok next) × Stands u next.0))
+
+-- no transaction is left unfinished
+abbrev pub IsFinished : Outcome → Type 0
+IsFinished (Unfinished published) = ⊥
+IsFinished outcome = Unit {0}
+
+-- a lock that is held, or a failure before that is known
+abbrev pub IsHeld : Outcome → Type 0
+IsHeld (LockHeld holder) = Unit {0}
+IsHeld Fault = Unit {0}
+IsHeld Memory = Unit {0}
+IsHeld _ = ⊥
+
+-- the same, or a transaction that was left unfinished
+abbrev pub IsBarred : Outcome → Type 0
+IsBarred Abandoned = Unit {0}
+IsBarred outcome = IsHeld outcome
+
+-- The repository accepts the command, and with it the bookmarks before or behind it pass their limit or not.
+abbrev pub IsAccepted : Repo → Bool → Result Next Refusal → Type 0
+IsAccepted r passes stepped = (next : Next) × (stepped ≡ Ok next) × (passes_limit r next.0 ≡ passes)
+
+-- What a command comes to where the files are within the limits: where the repository accepts it, it is done, or left
+-- unfinished, or has too many bookmarks; else it is refused as the repository refuses it. A lock that is held, a fault and
+-- want of memory may stand in place of each.
+abbrev pub IsOutcomeOf : Repo → Result Next Refusal → Outcome → Type 0
+IsOutcomeOf r stepped (LockHeld holder) = Unit {0}
+IsOutcomeOf r stepped Fault = Unit {0}
+IsOutcomeOf r stepped Memory = Unit {0}
+IsOutcomeOf r stepped (Done rev node) = IsAccepted r false stepped
+IsOutcomeOf r stepped (Unfinished published) = IsAccepted r false stepped
+IsOutcomeOf r stepped (Limit which) = (which ≡ Bookmarks) × IsAccepted r true stepped
+IsOutcomeOf r stepped UnknownRevision = stepped ≡ Err refusals.UnknownRevision
+IsOutcomeOf r stepped (NeedsForce rev) = stepped ≡ Err (refusals.NeedsForce rev)
+IsOutcomeOf r stepped (NothingChanged rev) = stepped ≡ Err (refusals.NothingChanged rev)
+IsOutcomeOf r stepped _ = ⊥

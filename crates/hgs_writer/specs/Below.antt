@@ -1,0 +1,46 @@
+-- What the crates below say of pieces of legal logs and of steps, as their laws say it.
+use Rattle.std.specs.Prelude.{◌≡◌, ◌⊎◌, ◌++◌, [], Bool, List, Ok, None, ℕ}
+use Rattle.hgs_files.specs.declared.op.Op.{Op}
+use Rattle.hgs_files.specs.Tree.{Tree, after_all}
+use Rattle.hgs_journal.specs.Names.{journal_path}
+use Rattle.hgs_legal.specs.Pieces.{LeavesJournal, Piece}
+use Rattle.hgs_machine.specs.Course.{CarriedOut, lock_removals}
+use Rattle.hgs_machine.specs.Locks.{AreLocked, AreRemoved, IsTurnedAway}
+use Rattle.hgs_machine.specs.declared.ended.Short.{Short}
+use Rattle.hgs_machine.specs.declared.locks.LockRefusal.{LockRefusal}
+use Rattle.hgs_machine.specs.declared.locks.LockRefusal.TheVariants.{Abandoned}
+use Rattle.hgs_model.specs.Repo.{Repo}
+use Rattle.hgs_model.specs.Step.{Answer, step}
+use Rattle.hgs_model.specs.Valid.{IsValid}
+use Rattle.hgs_model.specs.declared.command.Command.{Command}
+use Rattle.hgs_model.specs.declared.command.Command.TheVariants.{Mark, Move, Unmark}
+use Rattle.hgs_model.specs.declared.phase.Phase.{Phase}
+use Rattle.hgs_ops.specs.Operations.{strays}
+use Rattle.hgs_ops.specs.Unhindered.{IsReady}
+use Rattle.hgs_pieces.specs.Made.{IsPieceOf}
+use Rattle.hgs_stands.specs.Open.{IsOpen}
+use Rattle.hgs_stands.specs.Stands.{Stands}
+use Rattle.hgs_steps.specs.Planned.{AnswersAs, IsLoadedOf}
+use Rattle.hgs_steps.specs.Steps.{mark_of, move_of, planned, unmark_of}
+use Rattle.hgs_steps.specs.declared.loaded.Loaded.{Loaded}
+use Rattle.hgs_transaction.specs.Assembled.{IsPlanOf}
+use Rattle.hgs_transaction.specs.OfTransaction.{ArePartsOf}
+use Rattle.hgs_transaction.specs.declared.assemble.Plan.{Plan}
+use Rattle.hgs_transaction.specs.declared.parts.Parts.{Parts}
+
+pub record Below : Type 0 where
+  -- pieces
+  pub transaction : (t : Tree) (r next : Repo) (command : Command) (who : List ℕ) (answer : Answer) (p : Parts) (plan : Plan) (outcome : Short) (swept : Bool) (locking carrying : List Op) → IsValid command → step r command ≡ Ok (next, answer) → IsReady t r command next → ArePartsOf t r command next p → IsPlanOf p plan → AreLocked who t locking → CarriedOut (after_all locking t) plan outcome swept carrying → IsPieceOf t r next outcome (locking ++ carrying)
+  pub turned_away : (t : Tree) (r : Repo) (who : List ℕ) (why : LockRefusal) (swept : Bool) (log : List Op) → IsTurnedAway who t why swept log → (log ≡ []) ⊎ Piece t r log r
+  pub released : (t : Tree) (r : Repo) (who : List ℕ) (swept : Bool) (locking releasing : List Op) → AreLocked who t locking → AreRemoved lock_removals swept releasing → Piece t r (locking ++ releasing) r
+  pub abandoned : (t : Tree) (who : List ℕ) (swept : Bool) (log : List Op) → t journal_path ≡ None → IsTurnedAway who t Abandoned swept log → ⊥
+  pub ends : (t : Tree) (r next : Repo) (log : List Op) → Stands t r → Piece t r log next → Stands (after_all log t) next
+  pub left_open : (t : Tree) (r : Repo) (log : List Op) → Stands t r → LeavesJournal t r log → IsOpen strays (after_all log t) r
+  -- under the locks
+  pub stands : (t : Tree) (r : Repo) (who : List ℕ) (locking : List Op) → AreLocked who t locking → Stands t r → Stands (after_all locking t) r
+  pub parts : (t : Tree) (r next : Repo) (command : Command) (who : List ℕ) (p : Parts) (locking : List Op) → AreLocked who t locking → ArePartsOf (after_all locking t) r command next p → ArePartsOf t r command next p
+  pub ready : (t : Tree) (r next : Repo) (command : Command) (who : List ℕ) (locking : List Op) → AreLocked who t locking → IsReady (after_all locking t) r command next → IsReady t r command next
+  -- steps
+  pub moved : (t : Tree) (r : Repo) (l : Loaded) (name : List ℕ) (to : Phase) (force : Bool) → Stands t r → IsLoadedOf t l → AnswersAs t r (Move name to force) (planned l (move_of l name to force)) (step r (Move name to force))
+  pub marked : (t : Tree) (r : Repo) (l : Loaded) (mark name : List ℕ) → Stands t r → IsLoadedOf t l → AnswersAs t r (Mark mark name) (planned l (mark_of l mark name)) (step r (Mark mark name))
+  pub unmarked : (t : Tree) (r : Repo) (l : Loaded) (mark : List ℕ) → Stands t r → IsLoadedOf t l → AnswersAs t r (Unmark mark) (planned l (unmark_of l mark)) (step r (Unmark mark))

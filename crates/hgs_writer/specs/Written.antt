@@ -1,0 +1,29 @@
+-- What a call leaves in the log of the files, by its answer.
+use Rattle.std.specs.Prelude.{◌≡◌, ℕ, List, ◌++◌, Ok, Err}
+use Rattle.hgs_answers.specs.declared.answer.Answer.{Answer}
+use Rattle.hgs_commit.specs.declared.fault.CommitFault.{CommitFault}
+use Rattle.hgs_files.specs.declared.op.Op.{Op}
+use Rattle.hgs_files.specs.Tree.{Tree, after_all}
+use Rattle.hgs_machine.specs.Course.{CarriedOut, lock_removals}
+use Rattle.hgs_machine.specs.Locks.{AreLocked, AreRemoved, IsTurnedAway}
+use Rattle.hgs_machine.specs.declared.ended.Short.{Short}
+use Rattle.hgs_machine.specs.declared.locks.LockRefusal.{LockRefusal}
+use Rattle.hgs_model.specs.declared.command.Command.{Command}
+use Rattle.hgs_writer.specs.Outcomes.{outcome_of_commit, outcome_of_ended, outcome_of_lock}
+use Rattle.hgs_writer.specs.Planning.{Plans}
+use Rattle.hgs_writer.specs.declared.plan.Planned.{Planned}
+
+-- A plan was carried out from this tree, and the answer says how it ended.
+pub record IsCarriedOut (t : Tree) (planned : Planned) (answer : Answer) (done : List Op) : Type 0 where
+  pub ended : Short
+  pub carried : CarriedOut t planned.plan ended answer.swept done
+  pub outcome : answer.outcome ≡ outcome_of_ended ended planned.rev planned.node
+
+-- What a call did from the tree that it found, and how it answers: its locks were not taken; or they were, nothing was planned
+-- from the tree under them, and they are released; or what was planned is carried out.
+pub data IsWritten (who : List ℕ) (command : Command) (t : Tree) (answer : Answer) (done : List Op) : Type 0 where
+  is_turned_away : (why : LockRefusal) → IsTurnedAway who t why answer.swept done → answer.outcome ≡ outcome_of_lock why → IsWritten who command t answer done
+  is_not_planned : (fault : CommitFault) (locking releasing : List Op) → AreLocked who t locking → Plans command (after_all locking t) (Err fault) → AreRemoved lock_removals answer.swept releasing
+      → answer.outcome ≡ outcome_of_commit fault → done ≡ locking ++ releasing → IsWritten who command t answer done
+  is_carried_out : (planned : Planned) (locking carrying : List Op) → AreLocked who t locking → Plans command (after_all locking t) (Ok planned) → IsCarriedOut (after_all locking t) planned answer carrying
+      → done ≡ locking ++ carrying → IsWritten who command t answer done
