@@ -1,16 +1,26 @@
 # Completion of hg_store for bash: commands, bookmarks as names of revisions, and the paths of a changeset.
 
-# The words that can stand at the end of the line, one a line.
+# The words that can stand at the end of the line, one a line. An option stands before the names.
 _hg_store_words() {
     local command=${COMP_WORDS[1]} place=$COMP_CWORD
     if [ "$place" = 1 ]; then
-        printf '%s\n' log heads files cat bookmarks parents phase --help --version
-    elif [ "$place" = 2 ] && [[ $command =~ ^(files|cat|phase)$ ]]; then
-        printf '%s\n' tip .
-        "${COMP_WORDS[0]}" bookmarks 2>/dev/null | cut -f 1
-    elif [ "$place" = 3 ] && [ "$command" = cat ]; then
-        "${COMP_WORDS[0]}" files "${COMP_WORDS[2]}" 2>/dev/null | cut -d ' ' -f 3-
+        printf '%s\n' log heads files cat bookmarks parents phase init commit bookmark recover --help --version
+        return
     fi
+    [[ $command = phase && ${COMP_WORDS[2]} = --force ]] && place=$((place - 1)) && [ "$place" = 1 ] && return
+    case $command.$place in
+    files.2 | cat.2 | phase.2 | bookmark.3)
+        printf '%s\n' tip .
+        [ "$command" = phase ] && echo --force
+        "${COMP_WORDS[0]}" bookmarks 2>/dev/null | cut -f 1
+        ;;
+    phase.3) printf '%s\n' public draft secret ;;
+    bookmark.2)
+        echo --delete
+        "${COMP_WORDS[0]}" bookmarks 2>/dev/null | cut -f 1
+        ;;
+    cat.3) "${COMP_WORDS[0]}" files "${COMP_WORDS[2]}" 2>/dev/null | cut -d ' ' -f 3- ;;
+    esac
 }
 
 _hg_store() {

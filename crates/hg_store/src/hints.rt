@@ -3,28 +3,58 @@
 /// The line for a status, where it is a refusal.
 pub fn hint(status: u8) -> Option<&'static str> {
     match status {
+        1 => Some(
+            "no transaction was left unfinished; locks and leftovers of stopped commands are removed",
+        ),
+        10 => Some(
+            "somebody else writes this repository; wait and try again. Where no process does, a stop left the locks: `hg_store recover` removes them",
+        ),
+        11 => Some(
+            "an earlier transaction was left unfinished; nothing was changed; `hg_store recover` undoes it, once no process writes this repository; `hg recover` does not",
+        ),
         12 => Some(
             "no changeset has this name; `hg_store log` shows numbers and nodes, `hg_store bookmarks` bookmarks",
+        ),
+        13 => Some("the repository is as the command asks already; nothing was changed"),
+        14 => Some(
+            "the input is no record of a changeset from the byte on that the line names; `bin/record` prints one of a folder; nothing was changed",
         ),
         15 => Some(
             "this file does not hold what it should; nothing was changed; `hg verify` says more of a repository of Mercurial's",
         ),
         16 => Some(
-            "the system could not read a file of .hg: see that it may be read and that the disk is sound; nothing was changed",
+            "the system failed a call on a file of .hg: see that it may be read and written and that the disk is sound and not full; the repository is as before",
         ),
-        19 => Some("standard output took no more: its disk is full, or its reader has gone"),
+        17 => Some(
+            "a call on a file failed, and so did the way back; `published yes` means that readers see the new state. `hg_store recover` leads back to the state before",
+        ),
+        18 => Some("the system failed to read standard input; nothing was changed"),
+        19 => Some(
+            "standard output took no more: its disk is full, or its reader has gone; what a command changes is done",
+        ),
         20 => Some(
-            "a file, a text or a count is larger than hg_store takes; docs/ANSWERS.md has the limits by their numbers",
+            "a file, a text or a count is larger than hg_store takes; docs/ANSWERS.md has the limits by their numbers; nothing was changed",
+        ),
+        21 => Some("the store has another text with the same SHA-1; nothing was changed"),
+        22 => Some(
+            "the path of the line and a new one would have the same files in the store; nothing was changed",
         ),
         23 => Some("the changeset has no file of this path; `hg_store files REV` lists its files"),
         24 => Some(
-            "there is no .hg/requires here: run it in the folder that has the .hg, not in one below it",
+            "there is no .hg/requires here: run it in the folder that has the .hg, not in one below it; `hg_store init` makes an empty repository",
+        ),
+        25 => Some("a repository stands here already; nothing was changed"),
+        26 => Some(
+            "a changeset goes from public to draft, or to secret, only with --force; nothing was changed",
         ),
         27 => Some(
-            "only repositories that require dotencode, fncache, revlogv1 and store, and at most generaldelta besides, are read; `bin/from_hg` makes one of any repository of Mercurial's",
+            "only repositories that require dotencode, fncache, revlogv1 and store, and at most generaldelta besides, are taken; `bin/from_hg` makes one of any repository of Mercurial's",
         ),
         28 => Some("`hg_store --help` lists the commands"),
-        30 => Some("there was not enough memory; nothing was changed"),
+        30 => Some("there was not enough memory; `hg_store log` shows whether a commit was made"),
+        34 => Some(
+            "this file stands where a new one is to be, and no list of the store names it; move it away; nothing was changed",
+        ),
         _ => None,
     }
 }

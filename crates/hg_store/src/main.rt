@@ -20,15 +20,18 @@ use crate::streams::{OsSink, OsSource};
 use crate::yard::OsYard;
 use hgs_files::streams::Sink;
 use hgs_top::command::refuse_words;
+use hgs_top::orders::Order;
 use hgs_top::run::run;
-use hgs_top::words::command_from;
+use hgs_top::words::{Asked, asked_by};
 use std::alloc::AllocError;
+use std::fs;
+use std::io::ErrorKind;
 use std::os::fd::AsFd;
 use std::process::ExitCode;
 
 // Refuses words of which the one behind these is not UTF-8: the first that does not fit is one of these, or that one.
 fn refuse_text<K: Sink>(rt: &HostRuntime, before: &[String], out: &mut K) -> u8 {
-    let place = match command_from(before) {
+    let place = match asked_by(before) {
         Err(place) => place,
         Ok(_) => before.len(),
     };
@@ -37,7 +40,7 @@ fn refuse_text<K: Sink>(rt: &HostRuntime, before: &[String], out: &mut K) -> u8 
 
 // Names the word that does not fit on standard error, or says that one is missing.
 fn say_word(rt: &HostRuntime, words: &[String]) {
-    if let Err(place) = command_from(words) {
+    if let Err(place) = asked_by(words) {
         let _ = match words.get(place) {
             Some(word) => eprintln!(rt; "hg_store: the word {word} does not fit here"),
             None => eprintln!(rt; "hg_store: a word is missing"),
@@ -52,10 +55,22 @@ fn say_hint(rt: &HostRuntime, status: u8) {
     }
 }
 
+// Makes the folder in which Mercurial takes its lock, where a repository is to be made. What fails here, fails there too.
+fn make_store(rt: &HostRuntime, words: &[String]) {
+    let is_new = match fs::metadata(rt, ".hg/requires") {
+        Err(error) => error.kind() == ErrorKind::NotFound,
+        Ok(_) => false,
+    };
+    if is_new && matches!(asked_by(words), Ok(Asked::Order(Order::Init))) {
+        let _ = fs::create_dir_all(rt, ".hg/store");
+    }
+}
+
 // Does what the words ask for, and gives the status.
 fn answer<K: Sink>(rt: &HostRuntime, out: &mut K) -> Result<u8, AllocError> {
     match read_words(rt)? {
         Words::All(words) => {
+            make_store(rt, &words);
             let yard = OsYard::new(OsFiles::new(*rt, ".hg")?);
             let mut input = OsSource::new(rt.stdin());
             let ran = run(rt, rt.alloc(), &words, yard, &mut input, out);

@@ -1,7 +1,11 @@
 pub mod ChangesetLemmas
 pub mod ConcludeLemmas
 pub mod ContentsLemmas
+pub mod EndedLemmas
+pub mod FoundLemmas
 pub mod HistoryLemmas
+pub mod InitLemmas
+pub mod InputLemmas
 pub mod ListingLemmas
 pub mod LogLemmas
 pub mod OpenLemmas

@@ -1,5 +1,5 @@
 -- One write after another.
-use Rattle.std.proofs.Common.{◌≡◌, ℕ, ◌+◌, List, ◌++◌, length, take, drop, min, Option, Some, None, Result, Ok, Err, OnErr, refl, sym, ◌∙◌, ap, subst, arith, append_assoc, append-nil, [], ◌<◌, length-append}
+use Rattle.std.proofs.Common.{◌≡◌, ℕ, ◌+◌, List, ◌++◌, length, take, drop, min, Option, Some, None, Result, Ok, Err, OnErr, refl, sym, ◌∙◌, ap, subst, arith, append_assoc, append-nil, [], length-append}
 use Rattle.std.proofs.lemmas.List.{drop-take, take-take, take-append-drop, take_at, drop_at, take-append-le, take_min}
 use Rattle.hgs_files.specs.Streams.{IsWritten}
 use Rattle.hgs_top.specs.Run.{IsFrontWritten, IsCut}

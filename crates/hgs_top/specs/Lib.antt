@@ -1,4 +1,5 @@
 pub mod History
+pub mod Orders
 pub mod Outcome
 pub mod Pages
 pub mod Repository

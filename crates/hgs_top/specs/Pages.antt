@@ -10,33 +10,51 @@ abbrev pub page_lines : Page → List (List ℕ)
 page_lines Help =
     codes "usage: hg_store COMMAND" ∷
     codes "" ∷
-    codes "Answers questions about the Mercurial repository whose .hg stands in the current folder." ∷
+    codes "Reads and writes the Mercurial repository whose .hg stands in the current folder." ∷
     codes "" ∷
-    codes "  log            a line for each changeset, newest first" ∷
-    codes "  heads          number and node of each changeset without a child" ∷
-    codes "  files REV      node, flag and path of each file of a changeset" ∷
-    codes "  cat REV PATH   the body of one of these files" ∷
-    codes "  bookmarks      name, number and node of each bookmark" ∷
-    codes "  parents        number and node of each working parent" ∷
-    codes "  phase REV      public, draft or secret" ∷
-    codes "  --help         this page" ∷
-    codes "  --version      the program, and the kit that it is proved with" ∷
+    codes "  log                        a line for each changeset, newest first" ∷
+    codes "  heads                      number and node of each changeset without a child" ∷
+    codes "  files REV                  node, flag and path of each file of a changeset" ∷
+    codes "  cat REV PATH               the body of one of these files" ∷
+    codes "  bookmarks                  name, number and node of each bookmark" ∷
+    codes "  parents                    number and node of each working parent" ∷
+    codes "  phase REV                  public, draft or secret" ∷
+    codes "  init                       makes an empty repository" ∷
+    codes "  commit                     commits the record on standard input; bin/record prints one" ∷
+    codes "  phase [--force] REV PHASE  sets a phase" ∷
+    codes "  bookmark NAME REV          sets a bookmark" ∷
+    codes "  bookmark --delete NAME     deletes one" ∷
+    codes "  recover                    undoes a transaction that was left unfinished" ∷
+    codes "  --help                     this page" ∷
+    codes "  --version                  the program, and the kit that it is proved with" ∷
     codes "" ∷
     codes "REV is . for the first working parent, tip, a number, 40 hex digits of a node, or a bookmark." ∷
     codes "Behind a word -- a word may begin with -." ∷
     codes "" ∷
     codes "Exit statuses:" ∷
-    codes "   0  the question was answered" ∷
+    codes "   0  it was done" ∷
+    codes "   1  there was nothing to recover" ∷
+    codes "  10  somebody else writes" ∷
+    codes "  11  an earlier transaction was left unfinished" ∷
     codes "  12  no changeset has the name" ∷
+    codes "  13  nothing would change" ∷
+    codes "  14  the input is no record" ∷
     codes "  15  a file does not hold what it should" ∷
-    codes "  16  the system failed a read" ∷
+    codes "  16  the system failed a call on a file" ∷
+    codes "  17  the transaction was left unfinished: see recover" ∷
+    codes "  18  the system failed to read the input" ∷
     codes "  19  the system failed a write, or the reader of the output has gone" ∷
     codes "  20  a limit is passed" ∷
+    codes "  21  another text has the same node" ∷
+    codes "  22  two paths would have the same files" ∷
     codes "  23  the changeset has no such file" ∷
     codes "  24  there is no repository here" ∷
+    codes "  25  there is one already" ∷
+    codes "  26  the phase is raised only by --force" ∷
     codes "  27  the repository requires a word that is not of the profile, or lacks one" ∷
     codes "  28  the words do not fit" ∷
     codes "  30  there was no memory" ∷
+    codes "  34  a file that is not the store's is in the way" ∷
     codes "" ∷
     codes "More: man hg_store, and docs/ANSWERS.md." ∷ []
 page_lines Version = codes "hg_store 0.1, proved with rattle-kit-13f logic dac8208d650f15bf" ∷ []

@@ -1,5 +1,5 @@
 -- What the top call leaves.
-use Rattle.std.specs.Prelude.{◌≡◌, ◌<◌, ◌⊎◌, ℕ, length, List, [], ◌∷◌, ◌++◌, take, Option, Some, None, Result, Ok, Err, IfSome, ⊤, true, codes, decimal}
+use Rattle.std.specs.Prelude.{◌≡◌, ◌<◌, ◌⊎◌, ℕ, length, List, [], ◌∷◌, ◌++◌, take, Option, Some, None, Result, Ok, Err, IfSome, ⊤, codes, decimal}
 use Rattle.std.specs.Bool.{MatchBool}
 use Rattle.hgs_files.specs.declared.op.Op.{Op}
 use Rattle.hgs_files.specs.declared.streams.IoFault.{IoFault}
@@ -16,7 +16,7 @@ use Rattle.hgs_top.specs.declared.stopped.Said.TheVariants.{Whole, UnknownRevisi
 use Rattle.hgs_top.specs.Outcome.{Outcome, Reply, told, unknown_revision, its_files, its_file, its_phase, log_outcome, listing_outcome, contents_reply}
 use Rattle.hgs_top.specs.declared.listing.Listing.TheVariants.{Heads, Bookmarks, Parents}
 use Rattle.hgs_top.specs.Pages.{page_outcome}
-use Rattle.hgs_top.specs.Words.{Question, ask_page, ask_log, ask_heads, ask_bookmarks, ask_parents, ask_files, ask_cat, ask_phase}
+use Rattle.hgs_top.specs.Words.{Question, ask_page, ask_log, ask_heads, ask_bookmarks, ask_parents, ask_files, ask_cat, ask_phase, Request, to_answer, to_do}
 
 -- a front of these bytes was written at the end
 abbrev pub IsFrontWritten : Option (List ℕ) → Option (List ℕ) → List ℕ → Type 0
@@ -152,9 +152,10 @@ abbrev pub OfReply : Question → Option (List Op) → Tree → (Reply → Type 
 OfReply (ask_page page) log start Holds = Holds (told (page_outcome page))
 OfReply question log start Holds = OfTree log start (λ t. Holds (reply_to question t))
 
--- what a run leaves in the sink, by its words, and by whether the files failed
-abbrev pub Says : Type 0 → Result Question ℕ → Option (List Op) → Tree → ℕ → Option (List ℕ) → Option (List ℕ) → Type 0
-Says Faulted (Ok question) log start status old new = OfReply question log start (λ reply. Replied Faulted reply status old new)
+-- What a run leaves in the sink that answers a question or whose words don't fit, by whether the files failed.
+abbrev pub Says : Type 0 → Result Request ℕ → Option (List Op) → Tree → ℕ → Option (List ℕ) → Option (List ℕ) → Type 0
+Says Faulted (Ok (to_answer question)) log start status old new = OfReply question log start (λ reply. Replied Faulted reply status old new)
+Says Faulted (Ok (to_do job)) log start status old new = ⊤
 Says Faulted (Err place) log start status old new = SaysBadWord place status old new
 
 -- one of these

@@ -1,28 +1,57 @@
 -- Which words fit, and what they ask for.
-use Rattle.std.specs.Prelude.{ℕ, ◌+◌, ◌-◌, Bool, true, false, ◌&&◌, ◌==◌, not, List, [], ◌∷◌, Option, Some, None, Result, Ok, Err, codes, map, slice_index_or, if◌then◌else◌}
+use Rattle.std.specs.Prelude.{ℕ, ◌+◌, Bool, true, false, ◌&&◌, not, List, [], ◌∷◌, Option, Some, None, Result, Ok, Err, codes, map, slice_index_or, if◌then◌else◌, is_some, unwrap_or}
 use Rattle.std.specs.String.{string_bytes}
 use Rattle.hgs_bytes.specs.Bytes.{same, begins_with}
-use Rattle.hgs_top.specs.declared.words.Command.{Command}
+use Rattle.hgs_index.specs.MarkName.{is_mark_name}
+use Rattle.hgs_model.specs.Phase.{phase_named}
+use Rattle.hgs_model.specs.declared.phase.Phase.{Phase}
+use Rattle.hgs_model.specs.declared.phase.Phase.TheVariants.{Draft}
+use Rattle.hgs_top.specs.declared.operands.Operand.{Operand}
+use Rattle.hgs_top.specs.declared.operands.Operand.TheVariants as operand_kinds
+use Rattle.hgs_top.specs.declared.operands.Rest.{Rest}
+use Rattle.hgs_top.specs.declared.orders.Order.{Order}
+use Rattle.hgs_top.specs.declared.orders.Order.TheVariants as orders
 use Rattle.hgs_top.specs.declared.pages.Page.{Page}
 use Rattle.hgs_top.specs.declared.pages.Page.TheVariants.{Help, Version}
-use Rattle.hgs_top.specs.declared.words.Command.TheVariants.{Shown, Log, Heads, Bookmarks, Parents, Files, Cat, Phase}
-use Rattle.hgs_top.specs.declared.words.Rest.{Rest}
+use Rattle.hgs_top.specs.declared.words.Asked.{Asked}
+use Rattle.hgs_top.specs.declared.words.Asked.TheVariants as asked
+use Rattle.hgs_top.specs.declared.words.Command.{Command}
+use Rattle.hgs_top.specs.declared.words.Command.TheVariants.{Shown, Log, Heads, Bookmarks, Parents, Files, Cat, Phase as PhaseOf}
 
 abbrev pub with_operand : List ℕ → Result (List (List ℕ)) ℕ → Result (List (List ℕ)) ℕ
 with_operand word (Ok words) = Ok (word ∷ words)
 with_operand word (Err place) = Err place
 
--- The operands among these words, the first of which has this place, or the place of the first word that doesn't fit, the count of all words where one is missing.
--- A command takes so many operands and no options; `--` ends the options, before which a word that begins with `-` is one.
-abbrev pub operands : Bool → ℕ → ℕ → List (List ℕ) → Result (List (List ℕ)) ℕ
-operands ended needed place [] = if needed == 0 then Ok [] else Err place
-operands ended needed place (word ∷ words) =
-    if not ended && same word (codes "--") then operands true needed (place + 1) words
-    else if not ended && begins_with word (codes "-") then Err place
-    else if needed == 0 then Err place
-    else with_operand word (operands ended (needed - 1) (place + 1) words)
+-- whether a word is what an operand has to be
+abbrev pub fits : Operand → List ℕ → Bool
+fits operand_kinds.Any word = true
+fits operand_kinds.MarkName word = is_mark_name word
+fits operand_kinds.PhaseName word = is_some (phase_named word)
 
--- what a command asks for; revisions by their names
+abbrev pub none_left : List Operand → Bool
+none_left [] = true
+none_left (kind ∷ kinds) = false
+
+abbrev pub next_kind : List Operand → Operand
+next_kind [] = operand_kinds.Any
+next_kind (kind ∷ kinds) = kind
+
+abbrev pub kinds_behind : List Operand → List Operand
+kinds_behind [] = []
+kinds_behind (kind ∷ kinds) = kinds
+
+-- The operands among these words, the first of which has this place, or the place of the first word that doesn't fit, the count of all words where one is missing.
+-- A command takes operands of these kinds and no options; `--` ends the options, before which a word that begins with `-` is one.
+abbrev pub operands : Bool → List Operand → ℕ → List (List ℕ) → Result (List (List ℕ)) ℕ
+operands ended kinds place [] = if none_left kinds then Ok [] else Err place
+operands ended kinds place (word ∷ words) =
+    if not ended && same word (codes "--") then operands true kinds (place + 1) words
+    else if not ended && begins_with word (codes "-") then Err place
+    else if none_left kinds then Err place
+    else if fits (next_kind kinds) word then with_operand word (operands ended (kinds_behind kinds) (place + 1) words)
+    else Err place
+
+-- what a question asks for; revisions by their names
 pub data Question : Type 0 where
   ask_page : Page → Question
   ask_log : Question
@@ -33,6 +62,19 @@ pub data Question : Type 0 where
   ask_cat : List ℕ → List ℕ → Question
   ask_phase : List ℕ → Question
 
+-- what a command does that changes files; revisions by their names
+pub data Job : Type 0 where
+  do_init : Job
+  do_commit : Job
+  do_recover : Job
+  do_move : List ℕ → Phase → Bool → Job
+  do_mark : List ℕ → List ℕ → Job
+  do_unmark : List ℕ → Job
+
+pub data Request : Type 0 where
+  to_answer : Question → Request
+  to_do : Job → Request
+
 abbrev pub question_of : Command → Question
 question_of (Shown page) = ask_page page
 question_of Log = ask_log
@@ -41,59 +83,97 @@ question_of Bookmarks = ask_bookmarks
 question_of Parents = ask_parents
 question_of (Files rev) = ask_files rev.now
 question_of (Cat rev path) = ask_cat rev.now path.now
-question_of (Phase rev) = ask_phase rev.now
+question_of (PhaseOf rev) = ask_phase rev.now
 
--- the question with these operands
-abbrev pub asked_with : (List (List ℕ) → Question) → Result (List (List ℕ)) ℕ → Result Question ℕ
-asked_with question (Ok words) = Ok (question words)
-asked_with question (Err place) = Err place
+abbrev pub job_of : Order → Job
+job_of orders.Init = do_init
+job_of orders.Commit = do_commit
+job_of orders.Recover = do_recover
+job_of (orders.Move rev phase force) = do_move rev.now phase force
+job_of (orders.Mark name rev) = do_mark name.now rev.now
+job_of (orders.Unmark name) = do_unmark name.now
+
+abbrev pub request_of : Asked → Request
+request_of (asked.Question command) = to_answer (question_of command)
+request_of (asked.Order order) = to_do (job_of order)
+
+-- the request with these operands
+abbrev pub asked_with : (List (List ℕ) → Request) → Result (List (List ℕ)) ℕ → Result Request ℕ
+asked_with request (Ok words) = Ok (request words)
+asked_with request (Err place) = Err place
 
 abbrev pub operand : List (List ℕ) → ℕ → List ℕ
 operand words n = slice_index_or words n []
 
--- the questions without operands
-abbrev pub alone_named : List ℕ → Option Question
+-- the requests without operands
+abbrev pub alone_named : List ℕ → Option Request
 alone_named name =
-    if same name (codes "log") then Some ask_log
-    else if same name (codes "heads") then Some ask_heads
-    else if same name (codes "bookmarks") then Some ask_bookmarks
-    else if same name (codes "parents") then Some ask_parents
+    if same name (codes "log") then Some (to_answer ask_log)
+    else if same name (codes "heads") then Some (to_answer ask_heads)
+    else if same name (codes "bookmarks") then Some (to_answer ask_bookmarks)
+    else if same name (codes "parents") then Some (to_answer ask_parents)
+    else if same name (codes "init") then Some (to_do do_init)
+    else if same name (codes "commit") then Some (to_do do_commit)
+    else if same name (codes "recover") then Some (to_do do_recover)
     else None
 
--- those about a changeset
-abbrev pub about_named : List ℕ → List (List ℕ) → Result Question ℕ
+-- the words behind this one, where it stands first
+abbrev pub behind_word : List ℕ → List (List ℕ) → Option (List (List ℕ))
+behind_word wanted [] = None
+behind_word wanted (word ∷ words) = if same word wanted then Some words else None
+
+-- a revision and a phase
+abbrev pub moved_with : Bool → Result (List (List ℕ)) ℕ → Result Request ℕ
+moved_with force words = asked_with (λ w. to_do (do_move (operand w 0) (unwrap_or (phase_named (operand w 1)) Draft) force)) words
+
+-- a revision alone is a question
+abbrev pub phase_or_move : Result (List (List ℕ)) ℕ → Result (List (List ℕ)) ℕ → Result Request ℕ
+phase_or_move (Ok words) both = Ok (to_answer (ask_phase (operand words 0)))
+phase_or_move (Err place) both = moved_with false both
+
+abbrev pub phase_with : Option (List (List ℕ)) → List (List ℕ) → Result Request ℕ
+phase_with (Some behind) words = moved_with true (operands false (operand_kinds.Any ∷ operand_kinds.PhaseName ∷ []) 2 behind)
+phase_with None words = phase_or_move (operands false (operand_kinds.Any ∷ []) 1 words) (operands false (operand_kinds.Any ∷ operand_kinds.PhaseName ∷ []) 1 words)
+
+abbrev pub bookmark_with : Option (List (List ℕ)) → List (List ℕ) → Result Request ℕ
+bookmark_with (Some behind) words = asked_with (λ w. to_do (do_unmark (operand w 0))) (operands false (operand_kinds.MarkName ∷ []) 2 behind)
+bookmark_with None words = asked_with (λ w. to_do (do_mark (operand w 0) (operand w 1))) (operands false (operand_kinds.MarkName ∷ operand_kinds.Any ∷ []) 1 words)
+
+-- those with operands
+abbrev pub about_named : List ℕ → List (List ℕ) → Result Request ℕ
 about_named name words =
-    if same name (codes "files") then asked_with (λ w. ask_files (operand w 0)) (operands false 1 1 words)
-    else if same name (codes "cat") then asked_with (λ w. ask_cat (operand w 0) (operand w 1)) (operands false 2 1 words)
-    else if same name (codes "phase") then asked_with (λ w. ask_phase (operand w 0)) (operands false 1 1 words)
+    if same name (codes "files") then asked_with (λ w. to_answer (ask_files (operand w 0))) (operands false (operand_kinds.Any ∷ []) 1 words)
+    else if same name (codes "cat") then asked_with (λ w. to_answer (ask_cat (operand w 0) (operand w 1))) (operands false (operand_kinds.Any ∷ operand_kinds.Any ∷ []) 1 words)
+    else if same name (codes "phase") then phase_with (behind_word (codes "--force") words) words
+    else if same name (codes "bookmark") then bookmark_with (behind_word (codes "--delete") words) words
     else Err 0
 
-abbrev pub alone_else : Option Question → Result Question ℕ → List (List ℕ) → Result Question ℕ
+abbrev pub alone_else : Option Request → Result Request ℕ → List (List ℕ) → Result Request ℕ
 alone_else None about words = about
-alone_else (Some question) about words = asked_with (λ w. question) (operands false 0 1 words)
+alone_else (Some request) about words = asked_with (λ w. request) (operands false [] 1 words)
 
--- the question of the command with this name
-abbrev pub question_named : List ℕ → List (List ℕ) → Result Question ℕ
-question_named name words = alone_else (alone_named name) (about_named name words) words
+-- the request of the command with this name
+abbrev pub request_named : List ℕ → List (List ℕ) → Result Request ℕ
+request_named name words = alone_else (alone_named name) (about_named name words) words
 
 -- the pages, which are shown where they are asked for by the first and only word
 abbrev pub page_named : List ℕ → Option Page
 page_named name = if same name (codes "--help") then Some Help else if same name (codes "--version") then Some Version else None
 
-abbrev pub page_else : Option Page → List (List ℕ) → Result Question ℕ → Result Question ℕ
-page_else None words question = question
-page_else (Some page) [] question = Ok (ask_page page)
-page_else (Some page) (word ∷ words) question = Err 1
+abbrev pub page_else : Option Page → List (List ℕ) → Result Request ℕ → Result Request ℕ
+page_else None words request = request
+page_else (Some page) [] request = Ok (to_answer (ask_page page))
+page_else (Some page) (word ∷ words) request = Err 1
 
--- the question that the words are, or the place of the first word that doesn't fit
-abbrev pub question_of_words : List (List ℕ) → Result Question ℕ
-question_of_words [] = Err 0
-question_of_words (name ∷ words) = page_else (page_named name) words (question_named name words)
+-- what the words ask for, or the place of the first word that doesn't fit
+abbrev pub request_of_words : List (List ℕ) → Result Request ℕ
+request_of_words [] = Err 0
+request_of_words (name ∷ words) = page_else (page_named name) words (request_named name words)
 
 -- ---- the words that are not read yet
 
-abbrev pub operands_in : Rest → ℕ → Result (List (List ℕ)) ℕ
-operands_in rest needed = operands rest.ended needed rest.place (map string_bytes rest.words.now)
+abbrev pub operands_in : Rest → List Operand → Result (List (List ℕ)) ℕ
+operands_in rest kinds = operands rest.ended kinds rest.place (map string_bytes rest.words.now)
 
 -- whether the `--` that ends the options stands first
 abbrev pub ends_here : Bool → List (List ℕ) → Bool

@@ -22,7 +22,7 @@ use hgs_reader::answer::ReadAnswer;
 use std::alloc::{AllocError, Global};
 
 // The line of want of memory, which takes none.
-const OUT_OF_MEMORY: &[u8; 21] = b"abort: out of memory\n";
+pub(crate) const OUT_OF_MEMORY: &[u8; 21] = b"abort: out of memory\n";
 
 // The status of a sink that takes no more.
 fn status_of_fault(fault: IoFault) -> u8
@@ -34,8 +34,8 @@ fn status_of_fault(fault: IoFault) -> u8
     }
 }
 
-// Writes the line of a refusal, and gives the status.
-fn end_with<K: Sink>(out: &mut K, line: &[u8], status: u8) -> u8
+/// Writes the last line of a run, and gives the status.
+pub(crate) fn end_with<K: Sink>(out: &mut K, line: &[u8], status: u8) -> u8
     ensures line { EndsLine line.now status result (K.written out.old) (K.written out.new) }
     ensures later { K.faults out.old ≤ K.faults out.new }
     ensures sink { status ≢ 19 → result ≡ 19 → Rose (K.faults out.old) (K.faults out.new) }

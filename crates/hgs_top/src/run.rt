@@ -1,15 +1,18 @@
 //! The top call.
-ghost use Rattle.std.specs.Prelude.{◌≡◌, Err, map, ℕ, [], ◌∷◌};
+ghost use Rattle.std.specs.Prelude.{◌≡◌, ◌⊎◌, Err, List, map, ℕ, [], ◌∷◌};
 ghost use Rattle.std.specs.String.{string_bytes};
 ghost use Rattle.hgs_files.specs.Reads.{Rose};
 ghost use Rattle.hgs_files.specs.Yard.{IfWhole};
+ghost use Rattle.hgs_files.specs.declared.op.Op.{Op};
+ghost use Rattle.hgs_top.specs.Orders.{KeepsInput, Obeys};
 ghost use Rattle.hgs_top.specs.Repository.{SaysOfRepository};
 ghost use Rattle.hgs_top.specs.Run.{Says, IsOneOf};
-ghost use Rattle.hgs_top.specs.Words.{question_of_words};
+ghost use Rattle.hgs_top.specs.Words.{request_of_words};
 
 use crate::command::{refuse_words, run_command};
 use crate::laws::replies_of_repository;
-use crate::words::command_from;
+use crate::told::run_order;
+use crate::words::{Asked, asked_by};
 use hgs_files::files::Files;
 use hgs_files::streams::{Sink, Source};
 use hgs_files::yard::{Left, Yard};
@@ -23,19 +26,30 @@ pub struct Ran<Y> {
 }
 
 // Does what the words ask for, over files at rest, and gives the status.
-fn run_words<F: Files, K: Sink>(alloc: Global, words: &[String], files: &mut F, out: &mut K) -> u8
-    ensures repository { SaysOfRepository (Rose (F.faults files.old) (F.faults files.new)) (question_of_words (map string_bytes words.now)) (F.log files.old) (F.start files.old) result (K.written out.old) (K.written out.new) }
-    ensures says { Says (Rose (F.faults files.old) (F.faults files.new)) (question_of_words (map string_bytes words.now)) (F.log files.old) (F.start files.old) result (K.written out.old) (K.written out.new) }
-    ensures statuses { IsOneOf (0 ∷ 12 ∷ 15 ∷ 16 ∷ 19 ∷ 20 ∷ 23 ∷ 24 ∷ 27 ∷ 28 ∷ 30 ∷ []) result }
-    ensures words { result ≡ 28 → (place : ℕ) × (question_of_words (map string_bytes words.now) ≡ Err place) }
+fn run_words<F: Files, S: Source, K: Sink>(
+    alloc: Global,
+    words: &[String],
+    files: &mut F,
+    input: &mut S,
+    out: &mut K,
+) -> u8
+    requires { (log : List Op) → F.allows (F.start files.old) log }
+    ensures repository { SaysOfRepository (Rose (F.faults files.old) (F.faults files.new)) (request_of_words (map string_bytes words.now)) (F.log files.old) (F.start files.old) result (K.written out.old) (K.written out.new) }
+    ensures says { Says (Rose (F.faults files.old) (F.faults files.new)) (request_of_words (map string_bytes words.now)) (F.log files.old) (F.start files.old) result (K.written out.old) (K.written out.new) }
+    ensures statuses { IsOneOf (0 ∷ 1 ∷ 10 ∷ 11 ∷ 12 ∷ 13 ∷ 14 ∷ 15 ∷ 16 ∷ 17 ∷ 18 ∷ 19 ∷ 20 ∷ 21 ∷ 22 ∷ 23 ∷ 24 ∷ 25 ∷ 26 ∷ 27 ∷ 28 ∷ 30 ∷ 34 ∷ []) result }
+    ensures words { result ≡ 28 → (place : ℕ) × (request_of_words (map string_bytes words.now) ≡ Err place) }
     ensures fault { result ≡ 16 → Rose (F.faults files.old) (F.faults files.new) }
+    ensures unfinished { result ≡ 17 → Rose (F.faults files.old) (F.faults files.new) ⊎ Rose (F.denied files.old) (F.denied files.new) }
+    ensures failed { result ≡ 18 → Rose (S.faults input.old) (S.faults input.new) }
     ensures sink { result ≡ 19 → Rose (K.faults out.old) (K.faults out.new) }
-    ensures log { F.log files.new ≡ F.log files.old }
+    ensures orders { Obeys (request_of_words (map string_bytes words.now)) (S.left input.old) (F.log files.old) (F.log files.new) (F.start files.old) result (K.written out.old) (K.written out.new) }
+    ensures input { KeepsInput (request_of_words (map string_bytes words.now)) (S.left input.old) (S.left input.new) (S.faults input.old) (S.faults input.new) }
     ensures same_start { F.start files.new ≡ F.start files.old }
 {
     replies_of_repository();
-    match command_from(words) {
-        Ok(command) => run_command(alloc, command, files, out),
+    match asked_by(words) {
+        Ok(Asked::Question(command)) => run_command(alloc, command, files, out),
+        Ok(Asked::Order(order)) => run_order(alloc, order, files, input, out),
         Err(place) => refuse_words(alloc, place, out),
     }
 }
@@ -51,18 +65,21 @@ pub fn run<T, Y: Yard, S: Source, K: Sink>(
     input: &mut S,
     out: &mut K,
 ) -> Ran<Y>
-    ensures repository { SaysOfRepository (IfWhole result.left (λ y. Rose (Y.A.faults (Y.files yard)) (Y.A.faults (Y.files y)))) (question_of_words (map string_bytes words.now)) (Y.A.log (Y.files yard)) (Y.A.start (Y.files yard)) result.status (K.written out.old) (K.written out.new) }
-    ensures says { Says (IfWhole result.left (λ y. Rose (Y.A.faults (Y.files yard)) (Y.A.faults (Y.files y)))) (question_of_words (map string_bytes words.now)) (Y.A.log (Y.files yard)) (Y.A.start (Y.files yard)) result.status (K.written out.old) (K.written out.new) }
-    ensures statuses { IsOneOf (0 ∷ 12 ∷ 15 ∷ 16 ∷ 19 ∷ 20 ∷ 23 ∷ 24 ∷ 27 ∷ 28 ∷ 30 ∷ []) result.status }
-    ensures words { result.status ≡ 28 → (place : ℕ) × (question_of_words (map string_bytes words.now) ≡ Err place) }
+    ensures repository { SaysOfRepository (IfWhole result.left (λ y. Rose (Y.A.faults (Y.files yard)) (Y.A.faults (Y.files y)))) (request_of_words (map string_bytes words.now)) (Y.A.log (Y.files yard)) (Y.A.start (Y.files yard)) result.status (K.written out.old) (K.written out.new) }
+    ensures says { Says (IfWhole result.left (λ y. Rose (Y.A.faults (Y.files yard)) (Y.A.faults (Y.files y)))) (request_of_words (map string_bytes words.now)) (Y.A.log (Y.files yard)) (Y.A.start (Y.files yard)) result.status (K.written out.old) (K.written out.new) }
+    ensures statuses { IsOneOf (0 ∷ 1 ∷ 10 ∷ 11 ∷ 12 ∷ 13 ∷ 14 ∷ 15 ∷ 16 ∷ 17 ∷ 18 ∷ 19 ∷ 20 ∷ 21 ∷ 22 ∷ 23 ∷ 24 ∷ 25 ∷ 26 ∷ 27 ∷ 28 ∷ 30 ∷ 34 ∷ []) result.status }
+    ensures words { result.status ≡ 28 → (place : ℕ) × (request_of_words (map string_bytes words.now) ≡ Err place) }
     ensures fault { result.status ≡ 16 → IfWhole result.left (λ y. Rose (Y.A.faults (Y.files yard)) (Y.A.faults (Y.files y))) }
+    ensures unfinished { result.status ≡ 17 → IfWhole result.left (λ y. Rose (Y.A.faults (Y.files yard)) (Y.A.faults (Y.files y)) ⊎ Rose (Y.A.denied (Y.files yard)) (Y.A.denied (Y.files y))) }
+    ensures failed { result.status ≡ 18 → Rose (S.faults input.old) (S.faults input.new) }
     ensures sink { result.status ≡ 19 → Rose (K.faults out.old) (K.faults out.new) }
-    ensures left { IfWhole result.left (λ y. (Y.A.log (Y.files y) ≡ Y.A.log (Y.files yard)) × (Y.A.start (Y.files y) ≡ Y.A.start (Y.files yard))) }
-    ensures unread { (S.left input.new ≡ S.left input.old) × (S.faults input.new ≡ S.faults input.old) }
+    ensures orders { IfWhole result.left (λ y. Obeys (request_of_words (map string_bytes words.now)) (S.left input.old) (Y.A.log (Y.files yard)) (Y.A.log (Y.files y)) (Y.A.start (Y.files yard)) result.status (K.written out.old) (K.written out.new)) }
+    ensures same_start { IfWhole result.left (λ y. Y.A.start (Y.files y) ≡ Y.A.start (Y.files yard)) }
+    ensures input { KeepsInput (request_of_words (map string_bytes words.now)) (S.left input.old) (S.left input.new) (S.faults input.old) (S.faults input.new) }
 {
     let _ = rt;
     let (mut files, rest) = yard.alone();
-    let status = run_words(alloc, words, &mut files, out);
+    let status = run_words(alloc, words, &mut files, input, out);
     Ran {
         status,
         left: Left::Whole(Y::again(files, rest)),

@@ -1,15 +1,19 @@
 //! The words of the command line.
-ghost use Rattle.std.specs.Prelude.{◌≡◌, ◌<◌, ◌+◌, ◌-◌, ◌^◌, ◌∷◌, [], ℕ, Ok, Err, true, false, codes, map, length, OnOk, IfOk, IfErr};
+ghost use Rattle.std.specs.Prelude.{◌≡◌, ◌<◌, ◌+◌, ◌^◌, ◌∷◌, [], Ok, Err, codes, map, length, IfOk, IfSome};
+ghost use Rattle.hgs_top.specs.Orders.{IsFitting};
 ghost use Rattle.std.specs.Option.{option_map};
 ghost use Rattle.std.specs.Result.{result_map_both};
 ghost use Rattle.std.specs.String.{string_bytes};
-ghost use Rattle.hgs_bytes.specs.Bytes.{same, begins_with};
-ghost use Rattle.hgs_top.specs.Words.{with_operand, operands_in, operand, asked_with, ends_here, ask_files, ask_cat, ask_phase, question_of, question_named, alone_named, about_named, page_named, page_else, question_of_words};
+ghost use Rattle.hgs_top.specs.Words.{operands_in, operand, operands, asked_with, ask_files, ask_cat, ask_phase, moved_with, phase_with, bookmark_with, behind_word, to_answer, to_do, do_mark, do_unmark, request_of, request_named, alone_named, about_named, page_named, request_of_words};
+ghost use Rattle.hgs_top.specs.declared.operands.Operand.TheVariants as operand_kinds;
 
+use crate::operands::{Operand, Rest, behind_word, no_operand, one_operand, two_operands};
+use crate::orders::Order;
 use crate::pages::Page;
-use hgs_bytes::parts::{equal, starts};
+use hgs_bytes::parts::equal;
+use hgs_model::phase::Phase;
 
-/// What the words ask for. Revisions are given by their names.
+/// A question. Revisions are given by their names.
 #[derive(Clone, Copy)]
 pub enum Command<'a> {
     Shown(Page),
@@ -22,212 +26,177 @@ pub enum Command<'a> {
     Phase { rev: &'a [u8] },
 }
 
-/// The words that are not read yet.
+/// What the words ask for.
 #[derive(Clone, Copy)]
-struct Rest<'a> {
-    words: &'a [String],
-    /// The place of the first of them among all words.
-    place: usize,
-    /// Whether `--` stands before them.
-    ended: bool,
-}
-
-// Whether the word is `--`, which ends the options.
-fn ends_options(word: &String) -> bool
-    ensures { result ≡ same (string_bytes word.now) (codes "--") }
-{
-    equal(word.as_bytes(), b"--")
-}
-
-// Whether the word is an option.
-fn is_option(word: &String) -> bool
-    ensures { result ≡ begins_with (string_bytes word.now) (codes "-") }
-{
-    starts(word.as_bytes(), b"-")
-}
-
-// The words behind the `--`, where they begin with it.
-fn behind_options(rest: Rest<'_>) -> Rest<'_>
-    requires { rest.place + length rest.words.now < 2 ^ 64 }
-    ensures operands { (needed : ℕ) → operands_in rest.entry needed ≡ operands_in result needed }
-    ensures past { ends_here result.ended (map string_bytes result.words.now) ≡ false }
-    ensures fits { result.place + length result.words.now < 2 ^ 64 }
-{
-    match rest.words {
-        [] => rest,
-        [word, words @ ..] => {
-            if !rest.ended && ends_options(word) {
-                Rest {
-                    words,
-                    place: rest.place + 1,
-                    ended: true,
-                }
-            } else {
-                rest
-            }
-        }
-    }
-}
-
-// The next operand and the words behind it, or the place of the word that doesn't fit.
-fn operand(rest: Rest<'_>) -> Result<(&[u8], Rest<'_>), usize>
-    requires { rest.place + length rest.words.now < 2 ^ 64 }
-    ensures ok { IfOk result (λ next. (needed : ℕ) → 0 < needed → operands_in rest.entry needed ≡ with_operand next.0.now (operands_in next.1 (needed - 1))) }
-    ensures err { IfErr result (λ place. (needed : ℕ) → 0 < needed → operands_in rest.entry needed ≡ Err place) }
-    ensures fits { IfOk result (λ next. next.1.place + length next.1.words.now < 2 ^ 64) }
-{
-    let rest = behind_options(rest);
-    match rest.words {
-        [] => Err(rest.place),
-        [word, words @ ..] => {
-            if !rest.ended && is_option(word) {
-                return Err(rest.place);
-            }
-            let behind = Rest {
-                words,
-                place: rest.place + 1,
-                ended: rest.ended,
-            };
-            Ok((word.as_bytes(), behind))
-        }
-    }
-}
-
-// Whether no words are left, or the place of the first.
-fn no_more(rest: Rest<'_>) -> Result<(), usize>
-    requires { rest.place + length rest.words.now < 2 ^ 64 }
-    ensures ok { OnOk result (operands_in rest.entry 0 ≡ Ok []) }
-    ensures err { IfErr result (λ place. operands_in rest.entry 0 ≡ Err place) }
-{
-    let rest = behind_options(rest);
-    match rest.words {
-        [] => Ok(()),
-        [_word, _words @ ..] => Err(rest.place),
-    }
-}
-
-// The one operand.
-fn one_operand(rest: Rest<'_>) -> Result<&[u8], usize>
-    requires { rest.place + length rest.words.now < 2 ^ 64 }
-    ensures { result_map_both (λ word. word.now ∷ []) (λ place. place) result ≡ operands_in rest.entry 1 }
-{
-    let (first, rest) = match operand(rest) {
-        Ok(next) => next,
-        Err(place) => return Err(place),
-    };
-    match no_more(rest) {
-        Ok(()) => Ok(first),
-        Err(place) => Err(place),
-    }
-}
-
-// The two operands.
-fn two_operands(rest: Rest<'_>) -> Result<(&[u8], &[u8]), usize>
-    requires { rest.place + length rest.words.now < 2 ^ 64 }
-    ensures { result_map_both (λ both. both.0.now ∷ both.1.now ∷ []) (λ place. place) result ≡ operands_in rest.entry 2 }
-{
-    let (first, rest) = match operand(rest) {
-        Ok(next) => next,
-        Err(place) => return Err(place),
-    };
-    match one_operand(rest) {
-        Ok(second) => Ok((first, second)),
-        Err(place) => Err(place),
-    }
+pub enum Asked<'a> {
+    Question(Command<'a>),
+    Order(Order<'a>),
 }
 
 // The command, where no operands stand behind its name.
-fn alone<'a>(command: Command<'a>, rest: Rest<'a>) -> Result<Command<'a>, usize>
-    requires { rest.place + length rest.words.now < 2 ^ 64 }
-    ensures { result_map_both question_of (λ place. place) result ≡ asked_with (λ w. question_of command.entry) (operands_in rest.entry 0) }
+fn alone<'a>(asked: Asked<'a>, rest: Rest<'a>) -> Result<Asked<'a>, usize>
+    requires fitting { IsFitting asked }
+    requires few { rest.place + length rest.words.now < 2 ^ 64 }
+    ensures asked { result_map_both request_of (λ place. place) result ≡ asked_with (λ w. request_of asked.entry) (operands_in rest.entry []) }
+    ensures fitting { IfOk result IsFitting }
 {
-    match no_more(rest) {
-        Ok(()) => Ok(command),
+    match no_operand(rest) {
+        Ok(()) => Ok(asked),
         Err(place) => Err(place),
     }
 }
 
 // `files` with its operand.
-fn files_from(rest: Rest<'_>) -> Result<Command<'_>, usize>
+fn files_from(rest: Rest<'_>) -> Result<Asked<'_>, usize>
     requires { rest.place + length rest.words.now < 2 ^ 64 }
-    ensures { result_map_both question_of (λ place. place) result ≡ asked_with (λ w. ask_files (operand w 0)) (operands_in rest.entry 1) }
+    ensures asked { result_map_both request_of (λ place. place) result ≡ asked_with (λ w. to_answer (ask_files (operand w 0))) (operands_in rest.entry (operand_kinds.Any ∷ [])) }
+    ensures fitting { IfOk result IsFitting }
 {
-    match one_operand(rest) {
-        Ok(rev) => Ok(Command::Files { rev }),
+    match one_operand(rest, Operand::Any) {
+        Ok(rev) => Ok(Asked::Question(Command::Files { rev })),
         Err(place) => Err(place),
     }
 }
 
 // `cat` with its operands.
-fn cat_from(rest: Rest<'_>) -> Result<Command<'_>, usize>
+fn cat_from(rest: Rest<'_>) -> Result<Asked<'_>, usize>
     requires { rest.place + length rest.words.now < 2 ^ 64 }
-    ensures { result_map_both question_of (λ place. place) result ≡ asked_with (λ w. ask_cat (operand w 0) (operand w 1)) (operands_in rest.entry 2) }
+    ensures asked { result_map_both request_of (λ place. place) result ≡ asked_with (λ w. to_answer (ask_cat (operand w 0) (operand w 1))) (operands_in rest.entry (operand_kinds.Any ∷ operand_kinds.Any ∷ [])) }
+    ensures fitting { IfOk result IsFitting }
 {
-    match two_operands(rest) {
-        Ok((rev, path)) => Ok(Command::Cat { rev, path }),
+    match two_operands(rest, Operand::Any, Operand::Any) {
+        Ok((rev, path)) => Ok(Asked::Question(Command::Cat { rev, path })),
         Err(place) => Err(place),
     }
 }
 
-// `phase` with its operand.
-fn phase_from(rest: Rest<'_>) -> Result<Command<'_>, usize>
+// `phase` with a revision and a phase.
+fn move_from(rest: Rest<'_>, force: bool) -> Result<Asked<'_>, usize>
     requires { rest.place + length rest.words.now < 2 ^ 64 }
-    ensures { result_map_both question_of (λ place. place) result ≡ asked_with (λ w. ask_phase (operand w 0)) (operands_in rest.entry 1) }
+    ensures asked { result_map_both request_of (λ place. place) result ≡ moved_with force (operands_in rest.entry (operand_kinds.Any ∷ operand_kinds.PhaseName ∷ [])) }
+    ensures fitting { IfOk result IsFitting }
 {
-    match one_operand(rest) {
-        Ok(rev) => Ok(Command::Phase { rev }),
+    match two_operands(rest, Operand::Any, Operand::PhaseName) {
+        Ok((rev, name)) => {
+            // the operand is a phase's name
+            let phase = Phase::named(name).unwrap_or(Phase::Draft);
+            Ok(Asked::Order(Order::Move { rev, phase, force }))
+        }
         Err(place) => Err(place),
+    }
+}
+
+// `phase` with its option and operands.
+fn phase_from(words: &[String]) -> Result<Asked<'_>, usize>
+    requires { 2 + length words.now < 2 ^ 64 }
+    ensures asked { result_map_both request_of (λ place. place) result ≡ phase_with (behind_word (codes "--force") (map string_bytes words.now)) (map string_bytes words.now) }
+    ensures fitting { IfOk result IsFitting }
+{
+    if let Some(behind) = behind_word(words, b"--force") {
+        return move_from(Rest::at(2, behind), true);
+    }
+    match one_operand(Rest::at(1, words), Operand::Any) {
+        Ok(rev) => Ok(Asked::Question(Command::Phase { rev })),
+        Err(_) => move_from(Rest::at(1, words), false),
+    }
+}
+
+// `bookmark --delete` with its operand.
+fn unmark_from(rest: Rest<'_>) -> Result<Asked<'_>, usize>
+    requires { rest.place + length rest.words.now < 2 ^ 64 }
+    ensures asked { result_map_both request_of (λ place. place) result ≡ asked_with (λ w. to_do (do_unmark (operand w 0))) (operands_in rest.entry (operand_kinds.MarkName ∷ [])) }
+    ensures fitting { IfOk result IsFitting }
+{
+    match one_operand(rest, Operand::MarkName) {
+        Ok(name) => Ok(Asked::Order(Order::Unmark { name })),
+        Err(place) => Err(place),
+    }
+}
+
+// `bookmark` with its operands.
+fn mark_from(rest: Rest<'_>) -> Result<Asked<'_>, usize>
+    requires { rest.place + length rest.words.now < 2 ^ 64 }
+    ensures asked { result_map_both request_of (λ place. place) result ≡ asked_with (λ w. to_do (do_mark (operand w 0) (operand w 1))) (operands_in rest.entry (operand_kinds.MarkName ∷ operand_kinds.Any ∷ [])) }
+    ensures fitting { IfOk result IsFitting }
+{
+    match two_operands(rest, Operand::MarkName, Operand::Any) {
+        Ok((name, rev)) => Ok(Asked::Order(Order::Mark { name, rev })),
+        Err(place) => Err(place),
+    }
+}
+
+// `bookmark` with its option and operands.
+fn bookmark_from(words: &[String]) -> Result<Asked<'_>, usize>
+    requires { 2 + length words.now < 2 ^ 64 }
+    ensures asked { result_map_both request_of (λ place. place) result ≡ bookmark_with (behind_word (codes "--delete") (map string_bytes words.now)) (map string_bytes words.now) }
+    ensures fitting { IfOk result IsFitting }
+{
+    match behind_word(words, b"--delete") {
+        Some(behind) => unmark_from(Rest::at(2, behind)),
+        None => mark_from(Rest::at(1, words)),
     }
 }
 
 // The command with this name that takes no operands.
-fn alone_named(name: &String) -> Option<Command<'static>>
-    ensures { option_map question_of result ≡ alone_named (string_bytes name.now) }
+fn alone_named(name: &String) -> Option<Asked<'static>>
+    ensures asked { option_map request_of result ≡ alone_named (string_bytes name.now) }
+    ensures fitting { IfSome result IsFitting }
 {
     let name = name.as_bytes();
     if equal(name, b"log") {
-        return Some(Command::Log);
+        return Some(Asked::Question(Command::Log));
     }
     if equal(name, b"heads") {
-        return Some(Command::Heads);
+        return Some(Asked::Question(Command::Heads));
     }
     if equal(name, b"bookmarks") {
-        return Some(Command::Bookmarks);
+        return Some(Asked::Question(Command::Bookmarks));
     }
     if equal(name, b"parents") {
-        return Some(Command::Parents);
+        return Some(Asked::Question(Command::Parents));
+    }
+    if equal(name, b"init") {
+        return Some(Asked::Order(Order::Init));
+    }
+    if equal(name, b"commit") {
+        return Some(Asked::Order(Order::Commit));
+    }
+    if equal(name, b"recover") {
+        return Some(Asked::Order(Order::Recover));
     }
     None
 }
 
-// The command with this name about a changeset, and the words behind it.
-fn about_named<'a>(name: &String, words: &'a [String]) -> Result<Command<'a>, usize>
-    ensures { result_map_both question_of (λ place. place) result ≡ about_named (string_bytes name.now) (map string_bytes words.now) }
+// The command with this name that takes operands, and the words behind it.
+fn about_named<'a>(name: &String, words: &'a [String]) -> Result<Asked<'a>, usize>
+    requires { 2 + length words.now < 2 ^ 64 }
+    ensures asked { result_map_both request_of (λ place. place) result ≡ about_named (string_bytes name.now) (map string_bytes words.now) }
+    ensures fitting { IfOk result IsFitting }
 {
-    let rest = Rest {
-        words,
-        place: 1,
-        ended: false,
-    };
-    match name.as_bytes() {
-        b"files" => files_from(rest),
-        b"cat" => cat_from(rest),
-        b"phase" => phase_from(rest),
-        _ => Err(0),
+    let name = name.as_bytes();
+    if equal(name, b"files") {
+        return files_from(Rest::at(1, words));
     }
+    if equal(name, b"cat") {
+        return cat_from(Rest::at(1, words));
+    }
+    if equal(name, b"phase") {
+        return phase_from(words);
+    }
+    if equal(name, b"bookmark") {
+        return bookmark_from(words);
+    }
+    Err(0)
 }
 
 // The command with this name, and the words behind it.
-fn command_named<'a>(name: &String, words: &'a [String]) -> Result<Command<'a>, usize>
-    ensures { result_map_both question_of (λ place. place) result ≡ question_named (string_bytes name.now) (map string_bytes words.now) }
+fn command_named<'a>(name: &String, words: &'a [String]) -> Result<Asked<'a>, usize>
+    requires { 2 + length words.now < 2 ^ 64 }
+    ensures asked { result_map_both request_of (λ place. place) result ≡ request_named (string_bytes name.now) (map string_bytes words.now) }
+    ensures fitting { IfOk result IsFitting }
 {
-    let rest = Rest {
-        words,
-        place: 1,
-        ended: false,
-    };
     match alone_named(name) {
-        Some(command) => alone(command, rest),
+        Some(asked) => alone(asked, Rest::at(1, words)),
         None => about_named(name, words),
     }
 }
@@ -246,15 +215,16 @@ fn page_named(name: &String) -> Option<Page>
     None
 }
 
-/// The command that the words are, or the place, from 0, of the first word that doesn't fit, the count of words where one is missing.
-pub fn command_from(words: &[String]) -> Result<Command<'_>, usize>
-    ensures { result_map_both question_of (λ place. place) result ≡ question_of_words (map string_bytes words.now) }
+/// What the words ask for, or the place, from 0, of the first word that doesn't fit, the count of words where one is missing.
+pub fn asked_by(words: &[String]) -> Result<Asked<'_>, usize>
+    ensures asked { result_map_both request_of (λ place. place) result ≡ request_of_words (map string_bytes words.now) }
+    ensures fitting { IfOk result IsFitting }
 {
     match words {
         [] => Err(0),
         [name, rest @ ..] => match page_named(name) {
             None => command_named(name, rest),
-            Some(page) if rest.is_empty() => Ok(Command::Shown(page)),
+            Some(page) if rest.is_empty() => Ok(Asked::Question(Command::Shown(page))),
             Some(_) => Err(1),
         },
     }

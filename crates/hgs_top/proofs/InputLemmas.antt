@@ -1,0 +1,65 @@
+-- Bytes that are taken from an input, read after read.
+use Rattle.std.proofs.Common.{◌≡◌, ◌⊎◌, inl, inr, true, false, ℕ, ◌+◌, ◌<◌, ◌≤◌, List, [], ◌∷◌, ◌++◌, length, take, drop, Option, Some, None, IfSome, Result, refl, sym, ◌∙◌, ap, subst, arith, append_assoc, length-append}
+use Rattle.std.proofs.lemmas.List.{take_all, take_at, take-append-drop, length-take}
+use Rattle.std.proofs.Math.Dec.{leb}
+use Rattle.std.proofs.lemmas.Bool.Decides.{leb_tells}
+use Rattle.hgs_files.specs.Streams.{IsTaken}
+use Rattle.hgs_input.specs.Record.{most_input}
+use Rattle.hgs_bytes.specs.Answer.{Gives}
+use Rattle.hgs_input.specs.Read.{is_memory, read_record}
+use Rattle.hgs_input.specs.declared.fault.InputFault.{InputFault}
+use Rattle.hgs_model.specs.declared.command.NewChange.{NewChange}
+use Rattle.hgs_top.specs.Orders.{Gave}
+
+-- all of these bytes were taken from what was left at first
+abbrev pub AreTaken : Option (List ℕ) → Option (List ℕ) → List ℕ → Type 0
+AreTaken None now bytes = now ≡ None
+AreTaken (Some all) now bytes = (rest : List ℕ) × (now ≡ Some rest) × (all ≡ bytes ++ rest)
+
+pub none_taken : (left : Option (List ℕ)) → AreTaken left left []
+none_taken None = refl
+none_taken (Some all) = (all, refl, refl)
+
+pub taken_on : (left now next : Option (List ℕ)) (bytes front more : List ℕ) (most : ℕ) → AreTaken left now bytes → IsTaken now next most front → more ≡ bytes ++ front → AreTaken left next more
+taken_on None now next bytes front more most h t e = let P : Option (List ℕ) → Type 0 = λ n. IsTaken n next most front in subst P h t
+taken_on (Some all) now next bytes front more most h t e =
+    let P : Option (List ℕ) → Type 0 = λ n. IsTaken n next most front in
+    let u : IsTaken (Some h.0) next most front = subst P h.1 t in
+    (u.0, u.1, h.2 ∙ ap (λ l. bytes ++ l) u.2 ∙ sym (append_assoc bytes front u.0) ∙ ap (λ l. l ++ u.0) (sym e))
+
+-- as many as are looked at
+pub most_taken : (left now : Option (List ℕ)) (bytes : List ℕ) → AreTaken left now bytes → length bytes ≡ most_input + 1 → IfSome left (λ all. bytes ≡ take (most_input + 1) all)
+most_taken None now bytes h e = tt
+most_taken (Some all) now bytes h e = sym (ap (take (most_input + 1)) h.2 ∙ take_at bytes h.0 (most_input + 1) e)
+
+no_bytes : (front : List ℕ) → length front ≡ 0 → front ≡ []
+no_bytes [] e = refl
+no_bytes (b ∷ front) e = absurd (omega (arith, e))
+
+-- all that there are
+pub all_taken : (left now next : Option (List ℕ)) (bytes front more : List ℕ) (most : ℕ) → AreTaken left now bytes → IsTaken now next most front → more ≡ bytes ++ front → length front ≡ 0 → 0 < most → length bytes ≤ most_input + 1 → IfSome left (λ all. more ≡ take (most_input + 1) all)
+all_taken None now next bytes front more most h t e z some few = tt
+all_taken (Some all) now next bytes front more most h t e z some few =
+    let P : Option (List ℕ) → Type 0 = λ n. IsTaken n next most front in
+    let u : IsTaken (Some h.0) next most front = subst P h.1 t in
+    let f = no_bytes front z in
+    let whole : all ≡ more = h.2 ∙ ap (λ l. bytes ++ l) (u.3 some f ∙ sym f) ∙ sym e in
+    let size = ap length e ∙ length-append bytes front in
+    sym (ap (take (most_input + 1)) whole ∙ take_all (most_input + 1) more (omega (arith, size, z, few)))
+
+-- what is looked at of an input decides what it is read as
+pub looked_at_decides : ((front more : List ℕ) → most_input < length front → read_record (front ++ more) ≡ read_record front) → (bytes : List ℕ) → read_record (take (most_input + 1) bytes) ≡ read_record bytes
+looked_at_decides long bytes = by (leb_tells (length bytes) (most_input + 1))
+  where
+    by : ((leb (length bytes) (most_input + 1) ≡ true) × (length bytes ≤ most_input + 1)) ⊎ ((leb (length bytes) (most_input + 1) ≡ false) × (most_input + 1 < length bytes)) → read_record (take (most_input + 1) bytes) ≡ read_record bytes
+    by (inl few) = ap read_record (take_all (most_input + 1) bytes few.1)
+    by (inr many) =
+        let l = length-take (most_input + 1) bytes in
+        let some = many.1 in
+        sym (ap read_record (sym (take-append-drop (most_input + 1) bytes)) ∙ long (take (most_input + 1) bytes) (drop (most_input + 1) bytes) (omega (arith, l, some)))
+
+pub gave : ((front more : List ℕ) → most_input < length front → read_record (front ++ more) ≡ read_record front) → (left : Option (List ℕ)) (bytes : List ℕ) (given : Result NewChange InputFault) → IfSome left (λ all. bytes ≡ take (most_input + 1) all) → Gives is_memory (λ change. change) given (read_record bytes) → Gave left given
+gave long None bytes given e h = tt
+gave long (Some all) bytes given e h =
+    let P : Result NewChange InputFault → Type 0 = λ r. Gives is_memory (λ change. change) given r in
+    subst P (ap read_record e ∙ looked_at_decides long all) h

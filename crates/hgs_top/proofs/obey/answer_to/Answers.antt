@@ -1,0 +1,33 @@
+use Rattle.std.proofs.Common.{◌≡◌, List, Option, Ok, Err, sym, ◌∙◌, subst}
+use Rattle.hgs_bytes.specs.Answer.{Gives}
+use Rattle.hgs_files.specs.Files.{GoesOn}
+use Rattle.hgs_files.specs.Tree.{Tree}
+use Rattle.hgs_files.specs.declared.op.Op.{Op}
+use Rattle.hgs_loading.specs.Found.{required_in}
+use Rattle.hgs_reader.specs.Answer.{is_of_outside}
+use Rattle.hgs_machine.specs.Carry.{tree_now}
+use Rattle.hgs_top.specs.Orders.{lock_text}
+use Rattle.hgs_writer.specs.Written.{IsWritten}
+use Rattle.hgs_top.proofs.FoundLemmas.{of_found}
+use Rattle.hgs_top.proofs.obey.answer_to.Goals as goal
+
+pub returns-in-Ok-clause-comes : goal.returns-in-Ok-clause-comes
+returns-in-Ok-clause-comes g c =
+    let e = c.in-Ok.ensures in
+    let alone = g.met.F.Files.only_writer in
+    let old = g.F.Files.log c.args.files.now in
+    let same = sym (g.met.F.Files.latest c.test_requires.new.files) ∙ e.still alone ∙ g.met.F.Files.latest c.args.files.now in
+    let P : Option (List Op) → Tree → Type 0 = λ log start. GoesOn log (g.F.Files.log c.write.new.files) (IsWritten lock_text c.args.command.now (tree_now log start) c.write.result) in (
+      of_found (g.F.Reads.seen c.test_requires.new.files) old (g.F.Reads.start c.test_requires.new.files) (g.F.Reads.start c.args.files.now) (λ t. required_in t ≡ Ok tt)
+          (e.still alone ∙ g.met.F.Files.latest c.args.files.now) e.same_start (e.found alone),
+      subst (λ start. P old start) e.same_start (subst (λ log. P log (g.F.Reads.start c.test_requires.new.files)) same c.write.ensures.log),
+    )
+
+pub returns-in-Err-clause-comes : goal.returns-in-Err-clause-comes
+returns-in-Err-clause-comes g c =
+    let e = c.in-Err.ensures in
+    let alone = g.met.F.Files.only_writer in (
+      of_found (g.F.Reads.seen c.test_requires.new.files) (g.F.Files.log c.args.files.now) (g.F.Reads.start c.test_requires.new.files) (g.F.Reads.start c.args.files.now)
+          (λ t. Gives is_of_outside (λ x. x) (Err c.in-Err.refusal) (required_in t)) (e.still alone ∙ g.met.F.Files.latest c.args.files.now) e.same_start (e.found alone),
+      sym (g.met.F.Files.latest c.test_requires.new.files) ∙ e.still alone ∙ g.met.F.Files.latest c.args.files.now,
+    )

@@ -1,0 +1,13 @@
+use Rattle.hgs_top.proofs.obey.commit.Goals as goal
+
+pub returns-in-Ok-clause-cause : goal.returns-in-Ok-clause-cause
+returns-in-Ok-clause-cause g c = c.obey.ensures.cause (g.S.Source.faults c.args.input.now) (g.S.Source.faults c.commit_from.new.input)
+
+pub returns-in-Err-clause-comes : goal.returns-in-Err-clause-comes
+returns-in-Err-clause-comes g c = c.in-Err.ensures.refused (g.F.Files.log c.args.files.now) (g.F.Reads.start c.args.files.now)
+
+pub returns-in-Err-clause-cause : goal.returns-in-Err-clause-cause
+returns-in-Err-clause-cause g c =
+    let faults = g.F.Reads.faults c.args.files.now in
+    let denied = g.F.Reads.denied c.args.files.now in
+    c.in-Err.ensures.cause faults faults denied denied

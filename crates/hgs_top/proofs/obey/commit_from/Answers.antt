@@ -1,0 +1,27 @@
+use Rattle.std.proofs.Common.{◌≡◌, ℕ, ◌+◌, List, Ok, Err, IfSome, take, refl, sym, subst}
+use Rattle.hgs_input.specs.Record.{most_input}
+use Rattle.hgs_top.proofs.InputLemmas.{gave}
+use Rattle.hgs_top.proofs.obey.commit_from.Goals as goal
+
+pub returns-in-Ok-read_commit-clause-valid : goal.returns-in-Ok-read_commit-clause-valid
+returns-in-Ok-read_commit-clause-valid g c =
+    (c.read_records_are_records.ensures c.deref.result.now c.in-Ok-read_commit.change c.in-Ok-read_commit.ensures).valid
+
+pub returns-in-Ok-read_commit-clause-command : goal.returns-in-Ok-read_commit-clause-command
+returns-in-Ok-read_commit-clause-command g c =
+    let left = g.S.Source.left c.args.input.now in
+    let P : List ℕ → Type 0 = λ bytes. IfSome left (λ all. bytes ≡ take (most_input + 1) all) in (
+      c.in-Ok-read_commit.change,
+      refl,
+      gave c.long_inputs_are_decided.ensures left c.deref.result.now (Ok c.in-Ok-read_commit.change) (subst P (sym c.deref.ensures.value) c.in-Ok.ensures.read) c.in-Ok-read_commit.ensures,
+    )
+
+pub returns-clause-refused : goal.returns-clause-refused
+returns-clause-refused g c =
+    let left = g.S.Source.left c.args.input.now in
+    let P : List ℕ → Type 0 = λ bytes. IfSome left (λ all. bytes ≡ take (most_input + 1) all) in
+    λ log start. (
+      refl,
+      gave c.long_inputs_are_decided.ensures left c.deref.result.now (Err c.in-Err.fault) (subst P (sym c.deref.ensures.value) c.in-Ok.ensures.read) c.in-Err.ensures,
+      refl,
+    )

@@ -1,0 +1,196 @@
+-- What a command that changes files comes to, and what it leaves.
+use Rattle.std.specs.Prelude.{◌≡◌, ◌⊎◌, ℕ, List, [], ◌∷◌, ◌++◌, Option, None, Result, Ok, Err, IfSome, IsSome, codes, decimal, ⊤, true}
+use Rattle.hgs_answers.specs.Answer.{answer_text, status_of as answer_status}
+use Rattle.hgs_answers.specs.declared.answer.Answer.{Answer}
+use Rattle.hgs_answers.specs.declared.outcome.Outcome.{Outcome}
+use Rattle.hgs_answers.specs.declared.outcome.Outcome.TheVariants as outcomes
+use Rattle.hgs_answers.specs.declared.outcome.Published.{Published}
+use Rattle.hgs_bytes.specs.Answer.{Gives}
+use Rattle.hgs_files.specs.Files.{GoesOn}
+use Rattle.hgs_files.specs.Log.{IsDone}
+use Rattle.hgs_files.specs.Reads.{Rose}
+use Rattle.hgs_files.specs.declared.files.FileFault.{FileFault}
+use Rattle.hgs_files.specs.declared.files.FileFault.TheVariants.{Failed, Memory as NoMemory}
+use Rattle.hgs_files.specs.declared.op.Op.{Op}
+use Rattle.hgs_files.specs.declared.op.Op.TheVariants.{Create, Rename}
+use Rattle.hgs_files.specs.Tree.{Tree, after_all}
+use Rattle.hgs_index.specs.MarkName.{is_mark_name}
+use Rattle.hgs_index.specs.Limit.{limit_number}
+use Rattle.hgs_input.specs.Read.{is_memory, read_record}
+use Rattle.hgs_input.specs.declared.fault.InputFault.{InputFault}
+use Rattle.hgs_input.specs.declared.fault.InputFault.TheVariants.{BadInput, Limit, Memory}
+use Rattle.hgs_loading.specs.Found.{required_in}
+use Rattle.hgs_model.specs.declared.command.Command.{Command}
+use Rattle.hgs_model.specs.declared.command.Command.TheVariants as commands
+use Rattle.hgs_model.specs.declared.command.NewChange.{NewChange}
+use Rattle.hgs_reader.specs.Answer.{is_of_outside, read_fault, refusal_line, status_of}
+use Rattle.hgs_reader.specs.Open.{requires_path}
+use Rattle.hgs_reader.specs.declared.answer.ReadAnswer.{ReadAnswer}
+use Rattle.hgs_reader.specs.declared.answer.ReadAnswer.TheVariants.{Fault}
+use Rattle.hgs_machine.specs.Carry.{tree_now}
+use Rattle.hgs_recover.specs.Answer.{recovered_text, status_of as recover_status}
+use Rattle.hgs_recover.specs.Found.{answer_in}
+use Rattle.hgs_recover.specs.Recovering.{Answers, RecoversBy}
+use Rattle.hgs_recover.specs.declared.answer.RecoverAnswer.{RecoverAnswer}
+use Rattle.hgs_recover.specs.declared.answer.RecoverAnswer.TheVariants as recoveries
+use Rattle.hgs_writer.specs.Written.{IsWritten}
+use Rattle.hgs_top.specs.declared.ended.Ended.{Ended}
+use Rattle.hgs_top.specs.declared.ended.Ended.TheVariants.{Made, Exists, NotMade, NoInput, NoRecord, Refused, Answered, Recovered}
+use Rattle.hgs_top.specs.declared.words.Asked.{Asked}
+use Rattle.hgs_top.specs.declared.words.Asked.TheVariants as asked
+use Rattle.hgs_top.specs.declared.orders.Order.{Order}
+use Rattle.hgs_top.specs.declared.orders.Order.TheVariants as orders
+use Rattle.hgs_top.specs.Run.{EndsLine, OfTree}
+use Rattle.hgs_top.specs.Words.{Job, do_init, do_commit, do_recover, do_move, do_mark, do_unmark, Request, to_answer, to_do}
+
+-- a bookmark's name is one that a bookmark can have
+abbrev pub IsFit : Order → Type 0
+IsFit orders.Init = ⊤
+IsFit orders.Commit = ⊤
+IsFit orders.Recover = ⊤
+IsFit (orders.Move rev phase force) = ⊤
+IsFit (orders.Mark name rev) = is_mark_name name.now ≡ true
+IsFit (orders.Unmark name) = ⊤
+
+abbrev pub IsFitting : Asked → Type 0
+IsFitting (asked.Question command) = ⊤
+IsFitting (asked.Order order) = IsFit order
+
+-- ---- what is said
+
+abbrev pub abort_line : List ℕ → List ℕ
+abort_line text = codes "abort: " ++ text ++ 10 ∷ []
+
+-- why an input is no record
+abbrev pub record_fault_text : InputFault → List ℕ
+record_fault_text (BadInput place) = codes "bad input at " ++ decimal place
+record_fault_text (Limit which) = codes "limit " ++ decimal (limit_number which)
+record_fault_text Memory = codes "out of memory"
+
+abbrev pub record_fault_status : InputFault → ℕ
+record_fault_status (BadInput place) = 14
+record_fault_status (Limit which) = 20
+record_fault_status Memory = 30
+
+-- what is said of a command at its end
+abbrev pub ended_text : Ended → List ℕ
+ended_text Made = []
+ended_text Exists = abort_line (codes "repository exists")
+ended_text (NotMade fault) = refusal_line (read_fault fault)
+ended_text NoInput = abort_line (codes "input failed")
+ended_text (NoRecord fault) = abort_line (record_fault_text fault)
+ended_text (Refused refusal) = refusal_line refusal
+ended_text (Answered command answer) = answer_text command answer
+ended_text (Recovered r) = recovered_text r
+
+abbrev pub ended_status : Ended → ℕ
+ended_status Made = 0
+ended_status Exists = 25
+ended_status (NotMade fault) = status_of (read_fault fault)
+ended_status NoInput = 18
+ended_status (NoRecord fault) = record_fault_status fault
+ended_status (Refused refusal) = status_of refusal
+ended_status (Answered command answer) = answer_status answer.outcome
+ended_status (Recovered r) = recover_status r.outcome
+
+-- ---- a new repository
+
+-- the words of a new repository, one on each line
+abbrev pub new_requires : List ℕ
+new_requires = codes "dotencode" ++ 10 ∷ codes "fncache" ++ 10 ∷ codes "revlogv1" ++ 10 ∷ codes "store" ++ 10 ∷ []
+
+abbrev pub new_requires_path : List ℕ
+new_requires_path = codes "journal.new.requires"
+
+-- `requires` gets its name once all of it stands
+abbrev pub init_operations : List Op
+init_operations = Create new_requires_path new_requires ∷ Rename new_requires_path requires_path ∷ []
+
+-- what making a repository leaves: all of it, or a part where a call was refused
+abbrev pub LeavesInit : Result Unit FileFault → List Op → Type 0
+LeavesInit (Ok x) done = IsDone init_operations done []
+LeavesInit (Err e) done = (rest : List Op) × IsDone init_operations done rest
+
+-- ---- what a command comes to
+
+-- the bytes of a lock
+abbrev pub lock_text : List ℕ
+lock_text = codes "hg-store"
+
+-- the changeset that the input is a record of, or its first fault, where the input is told
+abbrev pub Gave : Option (List ℕ) → Result NewChange InputFault → Type 0
+Gave left given = IfSome left (λ bytes. Gives is_memory (λ change. change) given (read_record bytes))
+
+-- The command that is carried out; that of a commit is on the input.
+abbrev pub IsCommandOf : Job → Option (List ℕ) → Command → Type 0
+IsCommandOf do_init left command = ⊥
+IsCommandOf do_recover left command = ⊥
+IsCommandOf do_commit left command = (change : NewChange) × (command ≡ commands.Commit change) × Gave left (Ok change)
+IsCommandOf (do_move rev phase force) left command = command ≡ commands.Move rev phase force
+IsCommandOf (do_mark name rev) left command = command ≡ commands.Mark name rev
+IsCommandOf (do_unmark name) left command = command ≡ commands.Unmark name
+
+-- Where `requires` is of the profile, a writer answers; else nothing is done.
+abbrev pub IsAllowed : Command → Option (List Op) → Option (List Op) → Tree → Result Answer ReadAnswer → Type 0
+IsAllowed command old new start (Ok answer) = OfTree old start (λ t. required_in t ≡ Ok tt) × GoesOn old new (IsWritten lock_text command (tree_now old start) answer)
+IsAllowed command old new start (Err refusal) = OfTree old start (λ t. Gives is_of_outside (λ x. x) (Err refusal) (required_in t)) × (new ≡ old)
+
+-- What a command came to of these files, and what it did to them. A repository is made only where none stands. An input that failed or is no record, and
+-- what `requires` says, are looked at before a file is changed. What a writer does, and what recovering does, is what the contracts of these calls say.
+abbrev pub ComesTo : Job → Option (List ℕ) → Option (List Op) → Option (List Op) → Tree → Ended → Type 0
+ComesTo job left old new start Made = (job ≡ do_init) × OfTree old start (λ t. t requires_path ≡ None) × GoesOn old new (λ ops. IsDone init_operations ops [])
+ComesTo job left old new start Exists = (job ≡ do_init) × OfTree old start (λ t. IsSome (t requires_path)) × (new ≡ old)
+ComesTo job left old new start (NotMade fault) = (job ≡ do_init) × GoesOn old new (λ ops. (rest : List Op) × IsDone init_operations ops rest)
+ComesTo job left old new start NoInput = (job ≡ do_commit) × (new ≡ old)
+ComesTo job left old new start (NoRecord fault) = (job ≡ do_commit) × Gave left (Err fault) × (new ≡ old)
+ComesTo job left old new start (Refused refusal) = OfTree old start (λ t. Gives is_of_outside (λ x. x) (Err refusal) (required_in t)) × (new ≡ old)
+ComesTo job left old new start (Answered command answer) = IsCommandOf job left command × OfTree old start (λ t. required_in t ≡ Ok tt) × GoesOn old new (IsWritten lock_text command (tree_now old start) answer)
+ComesTo job left old new start (Recovered r) =
+    (job ≡ do_recover) × IfSome old (λ log. Answers (answer_in (after_all log start)) r.outcome) × GoesOn old new (RecoversBy (tree_now old start) r.outcome r.swept)
+
+-- A writer answers so only where a count rose.
+pub record AnswerHasCause (faults_old faults_new denied_old denied_new : ℕ) (outcome : Outcome) : Type 0 where
+  pub fault : outcome ≡ outcomes.Fault → Rose faults_old faults_new
+  pub unfinished : (published : Published) → outcome ≡ outcomes.Unfinished published → Rose faults_old faults_new ⊎ Rose denied_old denied_new
+
+abbrev pub AllowedHasCause : ℕ → ℕ → ℕ → ℕ → Result Answer ReadAnswer → Type 0
+AllowedHasCause faults_old faults_new denied_old denied_new (Ok answer) = AnswerHasCause faults_old faults_new denied_old denied_new answer.outcome
+AllowedHasCause faults_old faults_new denied_old denied_new (Err refusal) = refusal ≡ Fault → Rose faults_old faults_new
+
+-- So does recovering.
+pub record RecoveredHasCause (faults_old faults_new denied_old denied_new : ℕ) (outcome : RecoverAnswer) : Type 0 where
+  pub fault : outcome ≡ recoveries.Fault → Rose faults_old faults_new
+  pub unfinished : outcome ≡ recoveries.Unfinished → Rose faults_old faults_new ⊎ Rose denied_old denied_new
+
+-- A command ends so only where a count of the files rose, or that of the input.
+abbrev pub HasCause : ℕ → ℕ → ℕ → ℕ → ℕ → ℕ → Ended → Type 0
+HasCause faults_old faults_new denied_old denied_new input_old input_new Made = ⊤
+HasCause faults_old faults_new denied_old denied_new input_old input_new Exists = ⊤
+HasCause faults_old faults_new denied_old denied_new input_old input_new (NotMade Failed) = Rose faults_old faults_new
+HasCause faults_old faults_new denied_old denied_new input_old input_new (NotMade NoMemory) = ⊤
+HasCause faults_old faults_new denied_old denied_new input_old input_new NoInput = Rose input_old input_new
+HasCause faults_old faults_new denied_old denied_new input_old input_new (NoRecord fault) = ⊤
+HasCause faults_old faults_new denied_old denied_new input_old input_new (Refused refusal) = refusal ≡ Fault → Rose faults_old faults_new
+HasCause faults_old faults_new denied_old denied_new input_old input_new (Answered command answer) = AnswerHasCause faults_old faults_new denied_old denied_new answer.outcome
+HasCause faults_old faults_new denied_old denied_new input_old input_new (Recovered r) = RecoveredHasCause faults_old faults_new denied_old denied_new r.outcome
+
+-- a run that does a job says what it came to
+abbrev pub Does : Job → Option (List ℕ) → Option (List Op) → Option (List Op) → Tree → ℕ → Option (List ℕ) → Option (List ℕ) → Type 0
+Does job left old new start status written_old written_new =
+    (ended : Ended) × ComesTo job left old new start ended × EndsLine (ended_text ended) (ended_status ended) status written_old written_new
+
+-- A run that has something to do does it; a question, and words that don't fit, change no file.
+abbrev pub Obeys : Result Request ℕ → Option (List ℕ) → Option (List Op) → Option (List Op) → Tree → ℕ → Option (List ℕ) → Option (List ℕ) → Type 0
+Obeys (Ok (to_do job)) left old new start status written_old written_new = Does job left old new start status written_old written_new
+Obeys (Ok (to_answer question)) left old new start status written_old written_new = new ≡ old
+Obeys (Err place) left old new start status written_old written_new = new ≡ old
+
+-- only a commit reads the input
+abbrev pub LeavesInput : Job → Option (List ℕ) → Option (List ℕ) → ℕ → ℕ → Type 0
+LeavesInput do_commit old new faults_old faults_new = ⊤
+LeavesInput job old new faults_old faults_new = (new ≡ old) × (faults_new ≡ faults_old)
+
+abbrev pub KeepsInput : Result Request ℕ → Option (List ℕ) → Option (List ℕ) → ℕ → ℕ → Type 0
+KeepsInput (Ok (to_do job)) old new faults_old faults_new = LeavesInput job old new faults_old faults_new
+KeepsInput (Ok (to_answer question)) old new faults_old faults_new = (new ≡ old) × (faults_new ≡ faults_old)
+KeepsInput (Err place) old new faults_old faults_new = (new ≡ old) × (faults_new ≡ faults_old)

@@ -1,0 +1,166 @@
+//! Doing what a command asks for that changes files.
+ghost use Rattle.std.specs.Prelude.{◌≡◌, ℕ, List, Option, IfOk, IfErr, true};
+ghost use Rattle.hgs_files.specs.Tree.{Tree};
+ghost use Rattle.hgs_files.specs.declared.op.Op.{Op};
+ghost use Rattle.hgs_index.specs.MarkName.{is_mark_name};
+ghost use Rattle.hgs_model.specs.Valid.{IsValid};
+ghost use Rattle.hgs_top.specs.Orders.{AllowedHasCause, ComesTo, HasCause, IsAllowed, IsCommandOf, IsFit, LeavesInput};
+ghost use Rattle.hgs_top.specs.Words.{Job, do_commit, do_mark, do_move, do_unmark, job_of};
+
+use crate::ended::Ended;
+use crate::init::init;
+use crate::input::read_input;
+use crate::orders::Order;
+use hgs_answers::answer::Answer;
+use hgs_bytes::bytes::Bytes;
+use hgs_files::files::Files;
+use hgs_files::streams::{IoFault, Source};
+use hgs_input::fault::InputFault;
+use hgs_input::laws::{long_inputs_are_decided, read_records_are_records};
+use hgs_input::record::read_commit;
+use hgs_loading::whole::test_requires;
+use hgs_model::command::Command;
+use hgs_model::phase::Phase;
+use hgs_reader::answer::ReadAnswer;
+use hgs_recover::recover::recover;
+use hgs_writer::write::write;
+use std::alloc::{AllocError, Global};
+
+/// What stands in the locks of a writer.
+const WHO: &[u8; 8] = b"hg-store";
+
+// The commit whose record stands on the input.
+fn commit_from<S: Source>(alloc: Global, input: &mut S) -> Result<Command, Ended>
+    ensures valid { IfOk result (λ command. IsValid command) }
+    ensures command { IfOk result (λ command. IsCommandOf do_commit (S.left input.old) command) }
+    ensures refused { IfErr result (λ ended. (log : Option (List Op)) (start : Tree) → ComesTo do_commit (S.left input.old) log log start ended) }
+    ensures cause { IfErr result (λ ended. (faults_old faults_new denied_old denied_new : ℕ) → HasCause faults_old faults_new denied_old denied_new (S.faults input.old) (S.faults input.new) ended) }
+{
+    let bytes = match read_input(alloc, input) {
+        Ok(bytes) => bytes,
+        Err(IoFault::Failed) => return Err(Ended::NoInput),
+        Err(IoFault::Memory) => return Err(Ended::NoRecord(InputFault::Memory)),
+    };
+    read_records_are_records();
+    long_inputs_are_decided();
+    match read_commit(alloc, &bytes) {
+        Ok(change) => Ok(Command::Commit(change)),
+        Err(fault) => Err(Ended::NoRecord(fault)),
+    }
+}
+
+fn move_of(alloc: Global, rev: &[u8], phase: Phase, force: bool) -> Result<Command, AllocError>
+    ensures command { IfOk result (λ command. (left : Option (List ℕ)) → IsCommandOf (do_move rev.now phase force) left command) }
+    ensures valid { IfOk result (λ command. IsValid command) }
+{
+    Ok(Command::Move {
+        rev: Bytes::from_slice(alloc, rev)?,
+        phase,
+        force,
+    })
+}
+
+fn mark_of(alloc: Global, name: &[u8], rev: &[u8]) -> Result<Command, AllocError>
+    requires { is_mark_name name.now ≡ true }
+    ensures command { IfOk result (λ command. (left : Option (List ℕ)) → IsCommandOf (do_mark name.now rev.now) left command) }
+    ensures valid { IfOk result (λ command. IsValid command) }
+{
+    Ok(Command::Mark {
+        name: Bytes::from_slice(alloc, name)?,
+        rev: Bytes::from_slice(alloc, rev)?,
+    })
+}
+
+fn unmark_of(alloc: Global, name: &[u8]) -> Result<Command, AllocError>
+    ensures command { IfOk result (λ command. (left : Option (List ℕ)) → IsCommandOf (do_unmark name.now) left command) }
+    ensures valid { IfOk result (λ command. IsValid command) }
+{
+    Ok(Command::Unmark {
+        name: Bytes::from_slice(alloc, name)?,
+    })
+}
+
+// What a writer answers, where `requires` is of the profile.
+fn answer_to<F: Files>(
+    alloc: Global,
+    files: &mut F,
+    command: &Command,
+) -> Result<Answer, ReadAnswer>
+    requires valid { IsValid command.now }
+    requires allows { (log : List Op) → F.allows (F.start files.old) log }
+    ensures comes { IsAllowed command.now (F.log files.old) (F.log files.new) (F.start files.old) result }
+    ensures cause { AllowedHasCause (F.faults files.old) (F.faults files.new) (F.denied files.old) (F.denied files.new) result }
+    ensures same_start { F.start files.new ≡ F.start files.old }
+{
+    match test_requires(alloc, files) {
+        Ok(()) => Ok(write(alloc, files, command, WHO)),
+        Err(refusal) => Err(refusal),
+    }
+}
+
+// Carries out a command over a repository of the profile.
+fn obey<F: Files>(alloc: Global, files: &mut F, command: Command) -> Ended
+    requires valid { IsValid command }
+    requires allows { (log : List Op) → F.allows (F.start files.old) log }
+    ensures comes { (job : Job) (left : Option (List ℕ)) → IsCommandOf job left command → ComesTo job left (F.log files.old) (F.log files.new) (F.start files.old) result }
+    ensures cause { (input_old input_new : ℕ) → HasCause (F.faults files.old) (F.faults files.new) (F.denied files.old) (F.denied files.new) input_old input_new result }
+    ensures same_start { F.start files.new ≡ F.start files.old }
+{
+    match answer_to(alloc, files, &command) {
+        Ok(answer) => Ended::Answered { command, answer },
+        Err(refusal) => Ended::Refused(refusal),
+    }
+}
+
+// Carries out a command of words alone, if there was memory for it.
+fn obey_named<F: Files>(alloc: Global, files: &mut F, command: Result<Command, AllocError>) -> Ended
+    requires valid { IfOk command (λ command. IsValid command) }
+    requires allows { (log : List Op) → F.allows (F.start files.old) log }
+    ensures comes { (job : Job) → IfOk command (λ command. (left : Option (List ℕ)) → IsCommandOf job left command) → (left : Option (List ℕ)) → ComesTo job left (F.log files.old) (F.log files.new) (F.start files.old) result }
+    ensures cause { (input_old input_new : ℕ) → HasCause (F.faults files.old) (F.faults files.new) (F.denied files.old) (F.denied files.new) input_old input_new result }
+    ensures same_start { F.start files.new ≡ F.start files.old }
+{
+    match command {
+        Ok(command) => obey(alloc, files, command),
+        Err(_) => Ended::Refused(ReadAnswer::Memory),
+    }
+}
+
+// Commits the record that stands on the input.
+fn commit<F: Files, S: Source>(alloc: Global, files: &mut F, input: &mut S) -> Ended
+    requires { (log : List Op) → F.allows (F.start files.old) log }
+    ensures comes { ComesTo do_commit (S.left input.old) (F.log files.old) (F.log files.new) (F.start files.old) result }
+    ensures cause { HasCause (F.faults files.old) (F.faults files.new) (F.denied files.old) (F.denied files.new) (S.faults input.old) (S.faults input.new) result }
+    ensures same_start { F.start files.new ≡ F.start files.old }
+{
+    match commit_from(alloc, input) {
+        Ok(command) => obey(alloc, files, command),
+        Err(ended) => ended,
+    }
+}
+
+/// Does what the command asks for, and answers what it came to.
+pub fn do_order<F: Files, S: Source>(
+    alloc: Global,
+    order: Order<'_>,
+    files: &mut F,
+    input: &mut S,
+) -> Ended
+    requires fit { IsFit order }
+    requires allows { (log : List Op) → F.allows (F.start files.old) log }
+    ensures comes { ComesTo (job_of order.entry) (S.left input.old) (F.log files.old) (F.log files.new) (F.start files.old) result }
+    ensures cause { HasCause (F.faults files.old) (F.faults files.new) (F.denied files.old) (F.denied files.new) (S.faults input.old) (S.faults input.new) result }
+    ensures input { LeavesInput (job_of order.entry) (S.left input.old) (S.left input.new) (S.faults input.old) (S.faults input.new) }
+    ensures same_start { F.start files.new ≡ F.start files.old }
+{
+    match order {
+        Order::Init => init(alloc, files),
+        Order::Commit => commit(alloc, files, input),
+        Order::Recover => Ended::Recovered(recover(alloc, files)),
+        Order::Move { rev, phase, force } => {
+            obey_named(alloc, files, move_of(alloc, rev, phase, force))
+        }
+        Order::Mark { name, rev } => obey_named(alloc, files, mark_of(alloc, name, rev)),
+        Order::Unmark { name } => obey_named(alloc, files, unmark_of(alloc, name)),
+    }
+}

@@ -1,0 +1,89 @@
+#!/usr/bin/env bash
+# Folders that bin/record records, that the program commits and bin/checkout lays out again: each comes out as it was. What cannot
+# be recorded is refused by name, with nothing printed. The example of a commit by hand in README.md is run as it stands there.
+# The last line is 'N passed, M failed'.
+set -u
+here=$(cd "$(dirname "$0")" && pwd)
+"$here/../bin/hg_store" --build >/dev/null || exit 1
+PATH=$(cd "$here/../bin" && pwd):$PATH
+
+work=$(mktemp -d)
+trap 'rm -rf "$work"' EXIT
+cd "$work" || exit 1
+passed=0 failed=0
+
+check() { # WHAT COMMAND..: the command ends with status 0
+    local what=$1
+    shift
+    if "$@" >"$work/said" 2>&1; then
+        passed=$((passed + 1))
+    else
+        failed=$((failed + 1))
+        echo "$what:"
+        tail -n 5 "$work/said"
+    fi
+}
+
+list() { (cd "$1" && find . -path ./.hg -prune -o ! -type d -printf '%p %y %l %m\n' | sort); }
+commit_folder() { record -m text -u user -d '0 0' "$@" | hg_store commit; }
+laid_again() { # REV FOLDER
+    rm -rf again && checkout "$1" again && diff -r --no-dereference --exclude=.hg "$2" again && diff <(list "$2") <(list again)
+}
+
+hg_store init || exit 1
+mkdir -p tree/sub/deep "tree/with space" tree/.hidden
+printf 'a\n' >tree/a
+: >tree/sub/empty
+head -c 100000 /dev/urandom >tree/sub/deep/random
+printf '#!/bin/sh\n' >tree/run && chmod +x tree/run
+ln -s ../a tree/sub/link && ln -s nowhere tree/dangling
+printf 'ü' >"tree/with space/naïve"
+printf x >tree/.hidden/file
+printf 'file - 1 a\nx\nend\n' >tree/looks-like-a-record
+mkdir tree/.hg && printf no >tree/.hg/left-out
+check "a folder is committed" commit_folder tree
+check "and laid again" laid_again tip tree
+rm -r tree/sub && printf b >tree/b
+check "changed, it is committed" commit_folder --bookmark marked --phase secret tree
+check "and laid again by its bookmark" laid_again marked tree
+check "its phase is the one asked for" [ "$(hg_store phase marked)" = secret ]
+check "the one before is laid, too" checkout 0 first
+check "with what was removed" [ -L first/sub/link ]
+check "on another parent" commit_folder --parent 0 --parent 1 -m merge tree
+check "which both are parents" bash -c '[ "$(hg_store log | head -n 1 | cut -f 3,4)" = "0	1" ]'
+
+refused() { # WORDS COMMAND..: nothing on standard output, these words on standard error
+    local words=$1 out
+    shift
+    out=$("$@" 2>"$work/refusal") && return 1
+    cat "$work/refusal"
+    [ -z "$out" ] && grep -qF -- "$words" "$work/refusal"
+}
+mkdir bad && mkfifo bad/pipe
+check "a pipe" refused "pipe is neither a file nor a symbolic link" record -m m bad
+rm bad/pipe && printf x >"bad/$(printf 'a\nb')"
+check "a line break" refused "has a line break" record -m m bad
+rm -r bad && mkdir -p bad/sub/.hg && printf x >bad/sub/.hg/x
+check "a store within" refused "lies in a folder .hg" record -m m bad
+rm -r bad && mkdir bad && truncate -s 16777217 bad/large
+check "a body that is too large" refused "has more than 16777216 bytes" record -m m bad
+check "no folder" refused "missing is no folder" record -m m missing
+check "a date that is none" refused "a date is" record -m m -d yesterday tree
+check "a folder that stands" refused "tree: File exists" checkout tip tree
+check "a name that names nothing" refused "abort: unknown revision" checkout nothing new
+check "which makes no folder" [ ! -e new ]
+
+# The example of README.md: the commands behind '$ ', and what they write.
+sed -n '/^By hand:/,/^[A-Z#`]/p' "$here/../README.md" | sed -n 's/^    //p' >"$work/example"
+sed -n 's/^\$ //p' "$work/example" >"$work/commands"
+sed '/^\$ /d' "$work/example" >"$work/wanted"
+mkdir "$work/by-hand"
+check "the example of README.md" bash -c 'cd "$0" && [ -s ../commands ] && bash -e ../commands 2>&1 | diff ../wanted -' "$work/by-hand"
+
+# The demonstration, with the nodes that Mercurial gives these changesets.
+shown() { demo | grep -qxF "$1"; }
+check "the demonstration's first changeset" shown 0:53be64185a1c6d060c1788036f8c528875660394
+check "and its second" shown 1:ebed334fbe84c5d4273a8ddb55772e2fdea29b49
+
+echo "$passed passed, $failed failed"
+[ "$failed" = 0 ]

@@ -1,0 +1,196 @@
+#!/usr/bin/env python3
+"""Stops the program before each of its system calls that can change a file, and makes each of them fail, by strace; then recovers and
+looks: the repository is as before or as after, nothing else, and as after where that was answered.
+
+Each command runs over a copy of one small repository. What recovering leaves has the bytes of the store before or of the store
+after, and Mercurial, where it is there, finds nothing wrong with either. Without strace, which is installed where that can be,
+all is skipped. The last line is 'N passed, M failed' or 'N passed, M failed, K skipped'.
+"""
+
+import hashlib
+import os
+import re
+import shutil
+import subprocess
+import sys
+import tempfile
+
+HERE = os.path.dirname(os.path.abspath(__file__))
+CALLS = "openat write pwrite64 rename renameat renameat2 unlink unlinkat ftruncate mkdir mkdirat link linkat fsync fdatasync fchmod".split()
+LOOSE = {"wlock", "store/lock"}
+
+
+class Checks:
+    passed = failed = undone = 0
+
+    def check(self, what, holds):
+        if holds:
+            self.passed += 1
+        else:
+            self.failed += 1
+            print(what)
+
+
+def installed():
+    if not shutil.which("strace") and os.geteuid() == 0 and shutil.which("apt-get"):
+        quiet = {"stdout": subprocess.DEVNULL, "stderr": subprocess.DEVNULL}
+        subprocess.run(["apt-get", "update", "-qq"], **quiet)
+        subprocess.run(["apt-get", "install", "-y", "-qq", "strace"], **quiet)
+    return shutil.which("strace")
+
+
+def record(text, body):
+    files = {"a": body, "d/b": b"b\n"}
+    head = b"commit\nuser u\ndate 0 0\ndesc %d\n%s\n" % (len(text), text)
+    return head + b"".join(b"file - %d %s\n%s\n" % (len(b), p.encode(), b) for p, b in sorted(files.items())) + b"end\n"
+
+
+class World:
+    """A folder for the runs, and the program."""
+
+    def __init__(self, program, work):
+        self.program, self.work = program, work
+        self.folder = os.path.join(work, "run")
+        self.trace = os.path.join(work, "trace")
+
+    def lay(self, base):
+        shutil.rmtree(self.folder, ignore_errors=True)
+        shutil.copytree(base, self.folder)
+
+    def run(self, words, given=b"", inject=None):
+        command = [self.program, *words]
+        if inject:
+            command = ["strace", "-f", "-qq", "-o", self.trace, "-e", f"trace={','.join(CALLS)}", *inject, *command]
+        return subprocess.run(command, input=given, stdout=subprocess.PIPE, stderr=subprocess.DEVNULL, cwd=self.folder, check=False)
+
+    def places(self, base, words, given):
+        """Each call that the command makes over this folder, by its name and its number among those of the name."""
+        self.lay(base)
+        self.run(words, given, ["-e", "signal=none"])
+        with open(self.trace, encoding="utf-8", errors="replace") as trace:
+            names = re.findall(r"^\d+ +([a-z0-9]+)\(", trace.read(), re.MULTILINE)
+        return [(name, number + 1) for name in CALLS for number in range(names.count(name))]
+
+    def state(self):
+        """The files with a byte, but the locks: names and contents."""
+        found = {}
+        root = os.path.join(self.folder, ".hg")
+        for above, _, names in os.walk(root):
+            for name in names:
+                path = os.path.join(above, name)
+                with open(path, "rb") as file:
+                    found[os.path.relpath(path, root)] = file.read()
+        return {path: data for path, data in found.items() if data and path not in LOOSE}
+
+    def has_locks(self):
+        return any(os.path.lexists(os.path.join(self.folder, ".hg", lock)) for lock in LOOSE)
+
+    def save(self, name):
+        kept = os.path.join(self.work, name)
+        shutil.rmtree(kept, ignore_errors=True)
+        shutil.copytree(self.folder, kept)
+        return kept
+
+    def is_right(self):
+        """Whether Mercurial, where it is there, finds nothing wrong."""
+        if not shutil.which("hg"):
+            return True
+        env = dict(os.environ, HGRCPATH="/dev/null", HGPLAIN="1")
+        ended = subprocess.run(["hg", "verify", "--quiet"], cwd=self.folder, env=env, stdout=subprocess.PIPE, stderr=subprocess.STDOUT, check=False)
+        return ended.returncode == 0 and ended.stdout == b""
+
+
+def digest(state):
+    return hashlib.sha1(repr(sorted(state.items())).encode()).hexdigest()
+
+
+def try_command(checks, world, base, words, given, opened):
+    """Each stop and each failure of one command; keeps one folder with an open transaction."""
+    world.lay(base)
+    before = world.state()
+    whole = world.run(words, given)
+    checks.check(f"{words}: is done", whole.returncode == 0)
+    after = world.state()
+    checks.check(f"{words}: what it leaves is right", world.is_right() and not world.has_locks())
+    known = {digest(before): "before", digest(after): "after"}
+
+    def look(what, answered):
+        recovered = world.run(["recover"])
+        checks.undone += recovered.returncode == 0
+        checks.check(f"{what}: recovers", recovered.returncode in (0, 1))
+        came_to = known.get(digest(world.state()))
+        checks.check(f"{what}: is as before or after, not {sorted(world.state())}", came_to is not None)
+        checks.check(f"{what}: an answer stays", came_to == "after" or not answered)
+        checks.check(f"{what}: no lock stays", not world.has_locks())
+
+    places = world.places(base, words, given)
+    for name, number in places:
+        world.lay(base)
+        ended = world.run(words, given, ["-e", f"inject={name}:signal=SIGKILL:when={number}"])
+        what = f"{words}, stopped at {name} {number}"
+        checks.check(f"{what}: status {ended.returncode}", ended.returncode in (-9, 137))
+        if os.path.exists(os.path.join(world.folder, ".hg/store/journal")):
+            opened.append(world.save("open"))
+        look(what, whole.stdout != b"" and ended.stdout == whole.stdout)
+        for error in ("EIO", "ENOSPC", "EINTR"):
+            world.lay(base)
+            ended = world.run(words, given, ["-e", f"inject={name}:error={error}:when={number}"])
+            what = f"{words}, {error} at {name} {number}"
+            # a program that cannot be loaded says so with 127
+            checks.check(f"{what}: status {ended.returncode}", ended.returncode in (0, 16, 17, 19, 24, 127))
+            if ended.returncode == 16:
+                checks.check(f"{what}: is as before", leftovers(world, before))
+            look(what, ended.returncode == 0)
+    return len(places)
+
+
+def leftovers(world, before):
+    """Whether all is as before but for leftovers of the transaction that could not be removed."""
+    return all(world.state().get(path) == data for path, data in before.items())
+
+
+def try_recovery(checks, world, opened, before):
+    """Each stop of a recovery, and the recovery behind it."""
+    places = world.places(opened, ["recover"], b"")
+    for name, number in places:
+        world.lay(opened)
+        world.run(["recover"], b"", ["-e", f"inject={name}:signal=SIGKILL:when={number}"])
+        recovered = world.run(["recover"])
+        checks.check(f"recover, stopped at {name} {number}: recovers", recovered.returncode in (0, 1))
+        checks.check(f"recover, stopped at {name} {number}: is as before", digest(world.state()) == before and not world.has_locks())
+    return len(places)
+
+
+def main():
+    if not installed():
+        print("0 passed, 0 failed, 1 skipped")
+        return 0
+    program = subprocess.run([os.path.join(HERE, "../bin/hg_store"), "--build"], capture_output=True, text=True, check=True).stdout.strip()
+    checks = Checks()
+    with tempfile.TemporaryDirectory() as work:
+        world = World(program, work)
+        empty = os.path.join(work, "empty")
+        os.mkdir(empty)
+        opened, places = [], try_command(checks, world, empty, ["init"], b"", [])
+        world.lay(empty)
+        world.run(["init"])
+        world.run(["commit"], record(b"first", b"one\n"))
+        world.run(["bookmark", "main", "0"])
+        base = world.save("base")
+        before = digest(world.state())
+        for words, given in [
+            (["commit"], record(b"second", b"two\n")),
+            (["phase", "0", "public"], b""),
+            (["bookmark", "other", "0"], b""),
+            (["bookmark", "--delete", "main"], b""),
+        ]:
+            places += try_command(checks, world, base, words, given, opened)
+            if words == ["commit"]:
+                # a place at which the journal stood
+                places += try_recovery(checks, world, opened[-1], before)
+        print(f"{places} places, {checks.undone} transactions undone by recover")
+    print(f"{checks.passed} passed, {checks.failed} failed")
+    return checks.failed != 0
+
+
+sys.exit(main())
