@@ -1,0 +1,13 @@
+pub mod Basics
+pub mod LogLemmas
+pub mod FilelogLemmas
+pub mod HistoryLemmas
+pub mod TextLemmas
+pub mod ParentLemmas
+pub mod FileLemmas
+pub mod HashLemmas
+pub mod NewTextLemmas
+pub mod RowLemmas
+pub mod TreeLemmas
+pub mod WholeTextLemmas
+pub mod NameLemmas
