@@ -11,19 +11,7 @@ with_hg || { echo "0 passed, 0 failed, 1 skipped"; exit 0; }
 
 work=$(mktemp -d)
 trap 'rm -rf "$work"' EXIT
-passed=0 failed=0
-
-check() { # WHAT COMMAND..: the command ends with status 0
-    local what=$1
-    shift
-    if "$@" >"$work/said" 2>&1; then
-        passed=$((passed + 1))
-    else
-        failed=$((failed + 1))
-        echo "$what:"
-        tail -n 5 "$work/said"
-    fi
-}
+. "$here/check.sh"
 
 nodes() { hg --repository "$1" --hidden log --rev 'all()' --template '{rev} {node} {p1node} {p2node} {phase}\n'; }
 same_nodes() { cmp <(nodes "$1") <(nodes "$2"); }

@@ -10,19 +10,7 @@ PATH=$(cd "$here/../bin" && pwd):$PATH
 work=$(mktemp -d)
 trap 'rm -rf "$work"' EXIT
 cd "$work" || exit 1
-passed=0 failed=0
-
-check() { # WHAT COMMAND..: the command ends with status 0
-    local what=$1
-    shift
-    if "$@" >"$work/said" 2>&1; then
-        passed=$((passed + 1))
-    else
-        failed=$((failed + 1))
-        echo "$what:"
-        tail -n 5 "$work/said"
-    fi
-}
+. "$here/check.sh"
 
 list() { (cd "$1" && find . -path ./.hg -prune -o ! -type d -printf '%p %y %l %m\n' | sort); }
 commit_folder() { record -m text -u user -d '0 0' "$@" | hg_store commit; }

@@ -13,7 +13,8 @@ trap 'chmod -R u+rwX "$work"; rm -rf "$work"' EXIT
 chmod 755 "$work"
 install -m 755 "$program" "$work/hg_store" # where every user can run it
 program=$work/hg_store
-passed=0 failed=0 skipped=0
+skipped=0
+. "$here/check.sh"
 
 cat >"$work/hgrc" <<END
 [extensions]
@@ -30,18 +31,6 @@ interactive = no
 timeout = 1
 END
 export HGRCPATH=$work/hgrc TZ=UTC
-
-check() { # WHAT COMMAND..: the command ends with status 0
-    local what=$1
-    shift
-    if "$@" >"$work/said" 2>&1; then
-        passed=$((passed + 1))
-    else
-        failed=$((failed + 1))
-        echo "$what:"
-        tail -n 5 "$work/said"
-    fi
-}
 
 # ---- what a check looks at
 
@@ -124,7 +113,7 @@ both() { # NUMBER: each commits, and the node is the same
 cd "$work" || exit 1
 mkdir ours && hg init theirs
 check "a repository is made" ends 0 "" env -C ours "$program" init
-check "and can be committed to by Mercurial" env -C ours hg verify
+check "in which Mercurial finds nothing wrong" env -C ours hg verify
 for number in 1 2 3 4 5 6; do
     check "both commit step $number" both "$number"
     check "nothing is wrong with step $number" env -C ours bash -c "[ -z \"\$(hg verify --quiet 2>&1)\" ]"
