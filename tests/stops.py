@@ -15,20 +15,15 @@ import subprocess
 import sys
 import tempfile
 
-HERE = os.path.dirname(os.path.abspath(__file__))
+sys.dont_write_bytecode = True
+from checks import Checks, built_program, bytes_of
+
 CALLS = "openat write pwrite64 rename renameat renameat2 unlink unlinkat ftruncate mkdir mkdirat link linkat fsync fdatasync fchmod".split()
 LOOSE = {"wlock", "store/lock"}
 
 
-class Checks:
-    passed = failed = undone = 0
-
-    def check(self, what, holds):
-        if holds:
-            self.passed += 1
-        else:
-            self.failed += 1
-            print(what)
+class Stops(Checks):
+    undone = 0
 
 
 def installed():
@@ -74,14 +69,7 @@ class World:
 
     def state(self):
         """The files with a byte, but the locks: names and contents."""
-        found = {}
-        root = os.path.join(self.folder, ".hg")
-        for above, _, names in os.walk(root):
-            for name in names:
-                path = os.path.join(above, name)
-                with open(path, "rb") as file:
-                    found[os.path.relpath(path, root)] = file.read()
-        return {path: data for path, data in found.items() if data and path not in LOOSE}
+        return {path: data for path, data in bytes_of(self.folder).items() if path not in LOOSE}
 
     def has_locks(self):
         return any(os.path.lexists(os.path.join(self.folder, ".hg", lock)) for lock in LOOSE)
@@ -167,8 +155,8 @@ def main():
     if not installed():
         print("0 passed, 0 failed, 1 skipped")
         return 0
-    program = subprocess.run([os.path.join(HERE, "../bin/hg_store"), "--build"], capture_output=True, text=True, check=True).stdout.strip()
-    checks = Checks()
+    program = built_program()
+    checks = Stops()
     with tempfile.TemporaryDirectory() as work:
         world = World(program, work)
         empty = os.path.join(work, "empty")

@@ -4,13 +4,7 @@
 # none. No file may change, which a checksum of the whole folder before and after shows. The last line is 'N passed, M failed'.
 set -u
 here=$(cd "$(dirname "$0")" && pwd)
-program=$("$here/../bin/hg_store" --build) || exit 1
-
-work=$(mktemp -d)
-trap 'chmod -R u+rwX "$work"; rm -rf "$work"' EXIT
-chmod 755 "$work"
-install -m 755 "$program" "$work/hg_store" # where every user can run it
-program=$work/hg_store
+. "$here/own_program.sh"
 passed=0 failed=0
 
 # The store of a small repository that real Mercurial made.

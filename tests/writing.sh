@@ -6,13 +6,7 @@ set -u
 here=$(cd "$(dirname "$0")" && pwd)
 . "$here/with_hg.sh"
 with_hg || { echo "0 passed, 0 failed, 1 skipped"; exit 0; }
-program=$("$here/../bin/hg_store" --build) || exit 1
-
-work=$(mktemp -d)
-trap 'chmod -R u+rwX "$work"; rm -rf "$work"' EXIT
-chmod 755 "$work"
-install -m 755 "$program" "$work/hg_store" # where every user can run it
-program=$work/hg_store
+. "$here/own_program.sh"
 skipped=0
 . "$here/check.sh"
 

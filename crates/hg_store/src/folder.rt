@@ -246,7 +246,9 @@ impl Folder {
             return Err(ErrorKind::IsADirectory.into());
         }
         let part = found.len().saturating_sub(from).min(most);
-        file.seek(SeekFrom::Start(from.min(found.len())))?;
+        if from > 0 {
+            file.seek(SeekFrom::Start(from.min(found.len())))?;
+        }
         Ok(Some(read_up_to(&mut file, part, into)?))
     }
 

@@ -1,4 +1,4 @@
-//! Each call once against a real folder.
+//! Calls one after another against a real folder, in tables: what each says.
 use crate::files::OsFiles;
 use crate::streams::{OsSink, OsSource};
 use hgs_files::files::{Created, FileFault, Files, Reads};
@@ -28,111 +28,190 @@ fn path(rt: &HostRuntime, name: &str) -> Result<StorePath, Fail> {
     }
 }
 
-// What stands in a file from a place on, as text.
-fn text(rt: &HostRuntime, files: &mut OsFiles, name: &str, from: u64) -> Result<String, Fail> {
-    let mut bytes = Vec::new(rt.alloc());
-    let name = path(rt, name)?;
-    match files.read(&name, from, 100, &mut bytes) {
-        Ok(Some(_)) => {}
-        Ok(None) => bytes.extend_from_slice(b"(absent)").unwrap_or(()),
-        Err(_) => bytes.extend_from_slice(b"(fault)").unwrap_or(()),
-    }
-    Ok(String::from_utf8(bytes).unwrap_or(String::new(rt.alloc())))
+/// A call on a file: with the bytes that are written, the length that is kept, the other name, or the place from which it is read.
+#[derive(Clone, Copy)]
+enum Call {
+    Append(&'static [u8]),
+    Put(&'static [u8]),
+    CreateNew(&'static [u8]),
+    Cut(u64),
+    Rename(&'static str),
+    Remove,
+    Sync,
+    Settle,
+    Size,
+    Read(u64),
 }
+
+/// The file of a call, the call, and what it says: `done`, `fault`, `made`, `there`, `absent`, a size, or the bytes that are read.
+type Row = (&'static str, Call, &'static str);
+
+fn done(answer: Result<(), FileFault>) -> &'static str {
+    match answer {
+        Ok(()) => "done",
+        Err(_) => "fault",
+    }
+}
+
+fn made(answer: Result<Created, FileFault>) -> &'static str {
+    match answer {
+        Ok(Created::Made) => "made",
+        Ok(Created::There) => "there",
+        Err(_) => "fault",
+    }
+}
+
+fn size(rt: &HostRuntime, answer: Result<Option<u64>, FileFault>) -> Result<String, Fail> {
+    Ok(match answer {
+        Ok(Some(size)) => format!(in rt.alloc(); "{size}")?,
+        Ok(None) => String::from_str(rt.alloc(), "absent")?,
+        Err(_) => String::from_str(rt.alloc(), "fault")?,
+    })
+}
+
+fn text(
+    rt: &HostRuntime,
+    files: &mut OsFiles,
+    file: &StorePath,
+    from: u64,
+) -> Result<String, Fail> {
+    let mut bytes = Vec::new(rt.alloc());
+    Ok(match files.read(file, from, 100, &mut bytes) {
+        Ok(Some(_)) => String::from_utf8(bytes).unwrap_or(String::new(rt.alloc())),
+        Ok(None) => String::from_str(rt.alloc(), "absent")?,
+        Err(_) => String::from_str(rt.alloc(), "fault")?,
+    })
+}
+
+fn said(rt: &HostRuntime, files: &mut OsFiles, name: &str, call: Call) -> Result<String, Fail> {
+    let file = path(rt, name)?;
+    let word = match call {
+        Call::Append(bytes) => done(files.append(&file, bytes)),
+        Call::Put(bytes) => done(files.put(&file, bytes)),
+        Call::CreateNew(bytes) => made(files.create_new(&file, bytes)),
+        Call::Cut(len) => done(files.cut(&file, len)),
+        Call::Rename(to) => done(files.rename(&file, &path(rt, to)?)),
+        Call::Remove => done(files.remove(&file)),
+        Call::Sync => done(files.sync(&file)),
+        Call::Settle => done(files.settle()),
+        Call::Size => return size(rt, files.size(&file)),
+        Call::Read(from) => return text(rt, files, &file, from),
+    };
+    Ok(String::from_str(rt.alloc(), word)?)
+}
+
+/// The first row that says something else, done one after another.
+fn first_other(rt: &HostRuntime, files: &mut OsFiles, rows: &[Row]) -> Result<Option<Row>, Fail> {
+    for (name, call, want) in rows {
+        if said(rt, files, name, *call)?.as_str() != *want {
+            return Ok(Some((*name, *call, *want)));
+        }
+    }
+    Ok(None)
+}
+
+const WRITTEN: [Row; 17] = [
+    ("store/data/a.i", Call::Append(b"one"), "done"),
+    ("store/data/a.i", Call::Append(b" two"), "done"),
+    ("store/data/a.i", Call::Read(2), "e two"),
+    ("store/data/a.i", Call::Size, "7"),
+    ("store/data/a.i", Call::Cut(3), "done"),
+    ("store/data/a.i", Call::Sync, "done"),
+    ("b", Call::Put(b"new"), "done"),
+    ("b", Call::Rename("store/data/a.i"), "done"),
+    ("b", Call::Settle, "done"),
+    ("store/data/a.i", Call::Read(0), "new"),
+    ("b", Call::Read(0), "absent"),
+    ("b", Call::CreateNew(b"lock"), "made"),
+    ("b", Call::CreateNew(b"again"), "there"),
+    ("b", Call::Read(0), "lock"),
+    ("b", Call::Remove, "done"),
+    ("b", Call::Remove, "done"),
+    ("b", Call::Size, "absent"),
+];
 
 #[test]
 fn files_are_written_and_read(rt: HostRuntime) -> Result<(), Fail> {
     let folder = new_folder(&rt)?;
     let mut files = OsFiles::new(rt, folder.as_str())?;
-    let (a, b) = (path(&rt, "store/data/a.i")?, path(&rt, "b")?);
-    assert_eq!(rt; files.append(&a, b"one"), Ok(()));
-    assert_eq!(rt; files.append(&a, b" two"), Ok(()));
-    assert_eq!(rt;
-        text(&rt, &mut files, "store/data/a.i", 2)?.as_str(),
-        "e two"
-    );
-    assert_eq!(rt; files.size(&a), Ok(Some(7)));
-    assert_eq!(rt; files.cut(&a, 3), Ok(()));
-    assert_eq!(rt; files.sync(&a), Ok(()));
-    assert_eq!(rt; files.put(&b, b"new"), Ok(()));
-    assert_eq!(rt; files.rename(&b, &a), Ok(()));
-    assert_eq!(rt; files.settle(), Ok(()));
-    assert_eq!(rt; text(&rt, &mut files, "store/data/a.i", 0)?.as_str(), "new");
-    assert_eq!(rt; text(&rt, &mut files, "b", 0)?.as_str(), "(absent)");
-    assert_eq!(rt; files.create_new(&b, b"lock"), Ok(Created::Made));
-    assert_eq!(rt; files.create_new(&b, b"again"), Ok(Created::There));
-    assert_eq!(rt; text(&rt, &mut files, "b", 0)?.as_str(), "lock");
-    assert_eq!(rt; files.remove(&b), Ok(()));
-    assert_eq!(rt; files.remove(&b), Ok(()));
-    assert_eq!(rt; files.size(&b), Ok(None));
+    assert!(rt; first_other(&rt, &mut files, &WRITTEN)?.is_none());
     fs::remove_dir_all(&rt, folder.as_str())?;
     Ok(())
 }
 
 // The object's own folder, and two above it, are made for the first file.
+const SETTLED: [Row; 5] = [
+    ("store/a", Call::Remove, "done"),
+    ("store/a", Call::Settle, "done"),
+    ("store/a", Call::CreateNew(b"text"), "made"),
+    ("store/a", Call::Settle, "done"),
+    ("store/a", Call::Read(0), "text"),
+];
+
 #[test]
 fn folders_that_were_made_settle(rt: HostRuntime) -> Result<(), Fail> {
     let above = new_folder(&rt)?;
     let folder = format!(in rt.alloc(); "{above}/one/two/own")?;
     let mut files = OsFiles::new(rt, folder.as_str())?;
-    let a = path(&rt, "store/a")?;
-    assert_eq!(rt; files.remove(&a), Ok(()));
-    assert_eq!(rt; files.settle(), Ok(()));
-    assert_eq!(rt; files.create_new(&a, b"text"), Ok(Created::Made));
-    assert_eq!(rt; files.settle(), Ok(()));
-    assert_eq!(rt; text(&rt, &mut files, "store/a", 0)?.as_str(), "text");
+    assert!(rt; first_other(&rt, &mut files, &SETTLED)?.is_none());
     fs::remove_dir_all(&rt, above.as_str())?;
     Ok(())
 }
+
+const FOLDER_AS_FILE: [Row; 6] = [
+    ("a/b", Call::Put(b"text"), "done"),
+    ("a", Call::Size, "fault"),
+    ("a", Call::Append(b"text"), "fault"),
+    ("a", Call::Read(0), "fault"),
+    ("a/b/c", Call::Read(0), "absent"),
+    ("a/b", Call::Read(0), "text"),
+];
 
 #[test]
 fn folders_in_place_of_files_are_faults(rt: HostRuntime) -> Result<(), Fail> {
     let folder = new_folder(&rt)?;
     let mut files = OsFiles::new(rt, folder.as_str())?;
-    let (a, below) = (path(&rt, "a")?, path(&rt, "a/b")?);
-    assert_eq!(rt; files.put(&below, b"text"), Ok(()));
-    assert_eq!(rt; files.size(&a), Err(FileFault::Failed));
-    assert_eq!(rt; files.append(&a, b"text"), Err(FileFault::Failed));
-    assert_eq!(rt; text(&rt, &mut files, "a", 0)?.as_str(), "(fault)");
-    assert_eq!(rt; text(&rt, &mut files, "a/b/c", 0)?.as_str(), "(absent)");
-    assert_eq!(rt; text(&rt, &mut files, "a/b", 0)?.as_str(), "text");
+    assert!(rt; first_other(&rt, &mut files, &FOLDER_AS_FILE)?.is_none());
     fs::remove_dir_all(&rt, folder.as_str())?;
     Ok(())
 }
 
 // As Mercurial's locks are.
+const LINKED: [Row; 8] = [
+    ("wlock", Call::Size, "6"),
+    ("wlock", Call::Read(1), "ox:77"),
+    ("wlock", Call::CreateNew(b"mine"), "there"),
+    ("wlock", Call::Append(b"text"), "fault"),
+    ("wlock", Call::Put(b"text"), "fault"),
+    ("wlock", Call::Read(0), "box:77"),
+    ("wlock", Call::Remove, "done"),
+    ("wlock", Call::Size, "absent"),
+];
+
 #[test]
 fn links_that_lead_nowhere_stand(rt: HostRuntime) -> Result<(), Fail> {
     let folder = new_folder(&rt)?;
     let mut files = OsFiles::new(rt, folder.as_str())?;
-    let lock = path(&rt, "wlock")?;
     let name = format!(in rt.alloc(); "{folder}/wlock")?;
     symlink(&rt, "box:77", name.as_str())?;
-    assert_eq!(rt; files.size(&lock), Ok(Some(6)));
-    assert_eq!(rt; text(&rt, &mut files, "wlock", 1)?.as_str(), "ox:77");
-    assert_eq!(rt; files.create_new(&lock, b"mine"), Ok(Created::There));
-    assert_eq!(rt; files.append(&lock, b"text"), Err(FileFault::Failed));
-    assert_eq!(rt; files.put(&lock, b"text"), Err(FileFault::Failed));
-    assert_eq!(rt; text(&rt, &mut files, "wlock", 0)?.as_str(), "box:77");
-    assert_eq!(rt; files.remove(&lock), Ok(()));
-    assert_eq!(rt; files.size(&lock), Ok(None));
+    assert!(rt; first_other(&rt, &mut files, &LINKED)?.is_none());
     fs::remove_dir_all(&rt, folder.as_str())?;
     Ok(())
 }
+
+const MADE: [Row; 3] = [
+    ("a", Call::Append(b"text"), "done"),
+    ("b", Call::Put(b"text"), "done"),
+    ("c", Call::CreateNew(b"text"), "made"),
+];
 
 #[test]
 fn new_files_have_the_mode_of_their_folder(rt: HostRuntime) -> Result<(), Fail> {
     let folder = new_folder(&rt)?;
     fs::set_permissions(&rt, folder.as_str(), Permissions::from_mode(0o2770))?;
     let mut files = OsFiles::new(rt, folder.as_str())?;
-    for name in ["a", "b", "c"] {
-        let file = path(&rt, name)?;
-        let made = match name {
-            "a" => files.append(&file, b"text"),
-            "b" => files.put(&file, b"text"),
-            _ => files.create_new(&file, b"text").map(|_| ()),
-        };
-        assert_eq!(rt; made, Ok(()));
+    assert!(rt; first_other(&rt, &mut files, &MADE)?.is_none());
+    for (name, _, _) in MADE {
         let name = format!(in rt.alloc(); "{folder}/{name}")?;
         assert_eq!(rt; fs::metadata(&rt, name.as_str())?.mode() & 0o777, 0o660);
     }
@@ -140,29 +219,32 @@ fn new_files_have_the_mode_of_their_folder(rt: HostRuntime) -> Result<(), Fail> 
     Ok(())
 }
 
+const CHANGED: [Row; 6] = [
+    ("a", Call::Append(b" more"), "done"),
+    ("b", Call::Cut(1), "done"),
+    ("c", Call::Put(b""), "done"),
+    ("a", Call::Read(0), "text more"),
+    ("b", Call::Read(0), "t"),
+    ("c", Call::Read(0), ""),
+];
+
 #[test]
 fn second_names_keep_their_bytes(rt: HostRuntime) -> Result<(), Fail> {
     let folder = new_folder(&rt)?;
     let mut files = OsFiles::new(rt, folder.as_str())?;
-    for (name, change) in [("a", 0u8), ("b", 1), ("c", 2)] {
-        let first = path(&rt, name)?;
-        assert_eq!(rt; files.put(&first, b"text"), Ok(()));
+    assert!(rt; first_other(&rt, &mut files, &MADE)?.is_none());
+    for (name, _, _) in MADE {
         let one = format!(in rt.alloc(); "{folder}/{name}")?;
         let two = format!(in rt.alloc(); "{folder}/{name}-2")?;
         fs::hard_link(&rt, one.as_str(), two.as_str())?;
-        let changed = match change {
-            0 => files.append(&first, b" more"),
-            1 => files.cut(&first, 1),
-            _ => files.put(&first, b""),
-        };
-        assert_eq!(rt; changed, Ok(()));
+    }
+    assert!(rt; first_other(&rt, &mut files, &CHANGED)?.is_none());
+    for (name, _, _) in MADE {
+        let two = format!(in rt.alloc(); "{folder}/{name}-2")?;
+        let left = format!(in rt.alloc(); "{folder}/{name}.hg_store-copy")?;
         assert_eq!(rt; fs::read_to_string(&rt, two.as_str())?.as_str(), "text");
-        let left = format!(in rt.alloc(); "{one}.hg_store-copy")?;
         assert_eq!(rt; fs::exists(&rt, left.as_str())?, false);
     }
-    assert_eq!(rt; text(&rt, &mut files, "a", 0)?.as_str(), "text more");
-    assert_eq!(rt; text(&rt, &mut files, "b", 0)?.as_str(), "t");
-    assert_eq!(rt; text(&rt, &mut files, "c", 0)?.as_str(), "");
     fs::remove_dir_all(&rt, folder.as_str())?;
     Ok(())
 }

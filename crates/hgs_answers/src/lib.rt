@@ -3,5 +3,3 @@
 
 pub mod answer;
 pub mod outcome;
-#[cfg(test)]
-mod tests;

@@ -4,5 +4,3 @@
 pub mod bytes;
 pub mod names;
 pub mod parts;
-#[cfg(test)]
-mod tests;

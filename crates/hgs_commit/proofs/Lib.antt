@@ -1,5 +1,6 @@
 pub mod AnswerLemmas
 pub mod ChangedLemmas
+pub mod ClashLemmas
 pub mod FileLemmas
 pub mod FollowLemmas
 pub mod FoundLemmas

@@ -3,10 +3,11 @@ use Rattle.std.proofs.Common.{◌≡◌, ℕ, List, [], ◌∷◌, ◌++◌, Boo
 use Rattle.hgs_files.specs.Tree.{Tree}
 use Rattle.hgs_loading.specs.Found.{and_then}
 use Rattle.hgs_model.specs.declared.files.NewFile.{NewFile}
+use Rattle.hgs_path.specs.Fncache.{with_both}
 use Rattle.hgs_path.specs.declared.name.Ext.{Ext}
 use Rattle.hgs_reader.specs.declared.answer.ReadAnswer.{ReadAnswer}
 use Rattle.hgs_commit.specs.Files.{OfFile, file_in, new_path}
-use Rattle.hgs_commit.specs.Obstacles.{ClashBehind, Met, Obstacle, noted, noted_one, noting}
+use Rattle.hgs_commit.specs.Obstacles.{ClashBehind, Met, Obstacle, noted, noted_one, noting, with_all}
 use Rattle.hgs_commit.specs.Tree.{ClashIn, OfFiles, OfTree, adding, files_in, new_lines, new_paths, passed_at, rest_at, row_at, with_file, with_files, with_first}
 use Rattle.hgs_commit.specs.Texts.{changes_of}
 use Rattle.hgs_commit.specs.Walk.{Told}
@@ -78,20 +79,21 @@ module _ (lists : List ℕ → Ext → Bool) (link : ℕ) (f : NewFile) (rest : 
 
   -- ---- names that clash
 
-  clash-more : (paths more : List (List ℕ)) (a b c : Option (List ℕ)) → ClashBehind lists paths a b → ClashBehind lists more b c → ClashBehind lists (paths ++ more) a c
-  clash-more [] more a b c h k = let P : Option (List ℕ) → Type 0 = λ o. ClashBehind lists more o c in subst P h k
-  clash-more (p ∷ paths) more a b c h k = (h.0, h.1, clash-more paths more h.0 b c h.2 k)
+  clash-more : (base : List ℕ → Ext → Bool) (paths more : List (List ℕ)) (a b c : Option (List ℕ)) → ClashBehind base paths a b → ClashBehind (with_all base paths) more b c → ClashBehind base (paths ++ more) a c
+  clash-more base [] more a b c h k = let P : Option (List ℕ) → Type 0 = λ o. ClashBehind base more o c in subst P h k
+  clash-more base (p ∷ paths) more a b c h k = (h.0, h.1, clash-more (with_both base p) paths more h.0 b c h.2 k)
 
-  clash-next : (x : OfFile) (obstacles : List Obstacle) (xs : Result OfFiles ReadAnswer) (a b c : Option (List ℕ)) → ClashBehind lists (new_path x.new x.row.path) a b → ClashIn lists xs b c → ClashIn lists (and_then xs (λ xs. Ok (with_first (x, obstacles) xs))) a c
-  clash-next x obstacles (Ok xs) a b c h k = clash-more (new_path x.new x.row.path) (new_paths xs.0) a b c h k
-  clash-next x obstacles (Err e) a b c h k = tt
+  clash-next : (base : List ℕ → Ext → Bool) (x : OfFile) (obstacles : List Obstacle) (xs : Result OfFiles ReadAnswer) (a b c : Option (List ℕ)) → ClashBehind base (new_path x.new x.row.path) a b → ClashIn (with_all base (new_path x.new x.row.path)) xs b c → ClashIn base (and_then xs (λ xs. Ok (with_first (x, obstacles) xs))) a c
+  clash-next base x obstacles (Ok xs) a b c h k = clash-more base (new_path x.new x.row.path) (new_paths xs.0) a b c h k
+  clash-next base x obstacles (Err e) a b c h k = tt
 
-  pub next-clash : (x : OfFile) (m new : Met) (grown : OfTree) → x.row.path ≡ f.path → grown ≡ with_file tree x → noting m (file_in lists link f first second t) ≡ Ok (x, new) → (a b d : Option (List ℕ)) → ClashBehind lists (new_path x.new f.path) a b →
-      ClashIn lists (files_in lists link rest grown.first grown.second t) b d → ClashIn lists (files_in lists link (f ∷ rest) tree.first tree.second t) a d
-  next-clash x m new grown path is h a b d once k =
+  -- `base` has the listed paths and the new ones before this file, `after` its path too where it is new
+  pub next-clash : (base after : List ℕ → Ext → Bool) (x : OfFile) (m new : Met) (grown : OfTree) → x.row.path ≡ f.path → grown ≡ with_file tree x → noting m (file_in lists link f first second t) ≡ Ok (x, new) → after ≡ with_all base (new_path x.new x.row.path) → (a b d : Option (List ℕ)) → ClashBehind base (new_path x.new x.row.path) a b →
+      ClashIn after (files_in lists link rest grown.first grown.second t) b d → ClashIn base (files_in lists link (f ∷ rest) tree.first tree.second t) a d
+  next-clash base after x m new grown path is h listed a b d once k =
       let n = noting-ok m new x (file_in lists link f first second t) h in
-      let P : Result OfFiles ReadAnswer → Type 0 = λ r. ClashIn lists r a d in
-      let Q : List ℕ → Type 0 = λ p. ClashBehind lists (new_path x.new p) a b in
-      let R : OfTree → Type 0 = λ g. ClashIn lists (files_in lists link rest g.first g.second t) b d in
-      let S : List ℕ → Type 0 = λ p. ClashIn lists (files_in lists link rest (rest_at p tree.first) (rest_at p tree.second) t) b d in
-      subst P (sym (split (Ok (x, n.0)) n.1)) (clash-next x n.0 behind a b d (subst Q (sym path) once) (subst S path (subst R is k)))
+      let P : Result OfFiles ReadAnswer → Type 0 = λ r. ClashIn base r a d in
+      let Q : (List ℕ → Ext → Bool) → Type 0 = λ l. ClashIn l behind b d in
+      let R : OfTree → Type 0 = λ g. ClashIn after (files_in lists link rest g.first g.second t) b d in
+      let S : List ℕ → Type 0 = λ p. ClashIn after (files_in lists link rest (rest_at p tree.first) (rest_at p tree.second) t) b d in
+      subst P (sym (split (Ok (x, n.0)) n.1)) (clash-next base x n.0 behind a b d once (subst Q listed (subst S path (subst R is k))))

@@ -243,7 +243,7 @@ GivesWith IsTold given (Err e) = MatchBool (is_free e) ⊤ ((clash : Option (Lis
 abbrev pub StepsOn : Loaded → NewChange → Parents → Tree → Result Step CommitFault → Type 0
 StepsOn l c parents t result = GivesWith (ClashOn l (trees_in l c parents t) None) (λ clash. step_on clash l c parents t) result
 
--- the answer of a commit: told is of the first new path that clashes, with one of the listed paths with which it does
+-- the answer of a commit: told is of the first new path that clashes, with a listed one or a new one before it with which it does
 abbrev pub Steps : Loaded → NewChange → Tree → Result Step CommitFault → Type 0
 Steps l c t result = GivesWith (ClashBy l c t (parents_answer (named_all l c.parents))) (λ clash. commit_in clash l c t) result
 

@@ -1,9 +1,9 @@
 -- What keeps an accepted commit from being written, beside names that clash.
-use Rattle.std.specs.Prelude.{◌≡◌, ℕ, nat_lt, List, [], ◌∷◌, Bool, Option, Some, None, Result, Ok, Err, if◌then◌else◌}
+use Rattle.std.specs.Prelude.{◌≡◌, ℕ, nat_lt, List, [], ◌∷◌, Bool, ◌||◌, Option, Some, None, Result, Ok, Err, if◌then◌else◌}
 use Rattle.hgs_index.specs.Limit.{limit_number}
 use Rattle.hgs_index.specs.declared.kinds.Which.{Which}
 use Rattle.hgs_model.specs.History.{first_of}
-use Rattle.hgs_path.specs.Fncache.{IsClash}
+use Rattle.hgs_path.specs.Fncache.{IsClash, with_both}
 use Rattle.hgs_path.specs.declared.name.Ext.{Ext}
 use Rattle.hgs_reader.specs.declared.answer.ReadAnswer.{ReadAnswer}
 use Rattle.hgs_commit.specs.declared.hindrance.Collided.{Collided}
@@ -45,11 +45,21 @@ abbrev pub noting : {A : Type 0} → Met → Result (A × List Obstacle) ReadAns
 noting m (Ok x) = Ok (x.0, noted m x.1)
 noting m (Err e) = Err e
 
--- of new filelogs' paths one after another the first listed path is told that clashes with one of them
+-- the files of two lists
+abbrev pub either_list : (List ℕ → Ext → Bool) → (List ℕ → Ext → Bool) → List ℕ → Ext → Bool
+either_list files more path ext = files path ext || more path ext
+
+-- these files and both of each of these paths
+abbrev pub with_all : (List ℕ → Ext → Bool) → List (List ℕ) → List ℕ → Ext → Bool
+with_all files [] = files
+with_all files (path ∷ paths) = with_all (with_both files path) paths
+
+-- Of new filelogs' paths one after another the first path is told that clashes with one of them, and is listed or is one
+-- before it.
 abbrev pub ClashAfter : (List ℕ → Ext → Bool) → List ℕ → Option (List ℕ) → Option (List ℕ) → Type 0
 ClashAfter files path None new = IsClash files path new
 ClashAfter files path (Some other) new = new ≡ Some other
 
 abbrev pub ClashBehind : (List ℕ → Ext → Bool) → List (List ℕ) → Option (List ℕ) → Option (List ℕ) → Type 0
 ClashBehind files [] old new = new ≡ old
-ClashBehind files (path ∷ paths) old new = (between : Option (List ℕ)) × ClashAfter files path old between × ClashBehind files paths between new
+ClashBehind files (path ∷ paths) old new = (between : Option (List ℕ)) × ClashAfter files path old between × ClashBehind (with_both files path) paths between new

@@ -84,7 +84,7 @@ abbrev pub adding : OfTree → Met → Result OfFiles ReadAnswer → Result (OfT
 adding tree m (Ok xs) = Ok (with_files tree xs.0, noted m xs.1)
 adding tree m (Err e) = Err e
 
--- the listed path that is told to clash with one of those whose filelogs are new
+-- the path that is told to clash with one of those whose filelogs are new
 abbrev pub ClashIn : (List ℕ → Ext → Bool) → Result OfFiles ReadAnswer → Option (List ℕ) → Option (List ℕ) → Type 0
 ClashIn lists (Ok xs) old new = ClashBehind lists (new_paths xs.0) old new
 ClashIn lists (Err e) old new = Unit {0}

@@ -1,5 +1,5 @@
 //! A file of a commit: its revision in the new tree.
-ghost use Rattle.std.specs.Prelude.{◌≡◌, ◌<◌, ◌^◌, ◌∷◌, ◌++◌, [], true, length, is_ok, IfOk, IfSome, OnOk, ◌≤◌, ◌==◌, false, Ok};
+ghost use Rattle.std.specs.Prelude.{◌≡◌, ◌<◌, ◌^◌, ◌∷◌, ◌++◌, [], true, length, is_ok, IfOk, IfSome, OnOk, ◌≤◌, false, Ok};
 ghost use Rattle.hgs_index.specs.Manifest.{Row};
 ghost use Rattle.hgs_manifest.specs.Held.{with_last};
 ghost use Rattle.hgs_reader.specs.Answer.{HasFaultCause};
@@ -10,12 +10,12 @@ ghost use Rattle.hgs_index.specs.Revision.{ParentsBefore};
 ghost use Rattle.hgs_loading.specs.Found.{Finds, and_then};
 ghost use Rattle.hgs_model.specs.History.{first_of};
 ghost use Rattle.hgs_reader.specs.Answer.{is_of_outside, NeverFaults};
-ghost use Rattle.hgs_path.specs.Fncache.{listing};
+ghost use Rattle.hgs_path.specs.Fncache.{listing, IsClash};
 ghost use Rattle.hgs_commit.specs.Files.{can_follow, changed_in, file_in, file_on, kept_file, new_path, node_in, parents_by, place_in, standing_at, view_file, view_filelog};
 ghost use Rattle.hgs_commit.specs.NewTree.{tree_of};
 ghost use Rattle.hgs_commit.specs.Tree.{ClashIn, adding, files_in};
 ghost use Rattle.hgs_files.specs.Tree.{after_all};
-ghost use Rattle.hgs_commit.specs.Obstacles.{ClashBehind, met_of, noted, noting};
+ghost use Rattle.hgs_commit.specs.Obstacles.{ClashBehind, either_list, met_of, noted, noting, with_all};
 ghost use Rattle.hgs_commit.specs.Walk.{told_of_found};
 ghost use Rattle.hgs_index.specs.Manifest.{last_path};
 
@@ -61,28 +61,22 @@ fn meet_standing<R: Reads>(
     }
 }
 
-// Tests that a new revision may stand behind those of a filelog. Where it has none, its files are to have no bytes, and no
-// listed path may have their names.
+// Tests that a new revision may stand behind those of a filelog. Where it has none, its files are to have no bytes.
 fn test_place<R: Reads>(
     alloc: Global,
     files: &mut R,
-    fncache: &Fncache,
-    path: &[u8],
     filelog: &Filelog,
     met: &mut Hindrances,
 ) -> Result<(), ReadAnswer>
     requires { AreEntries filelog.now.log.entries }
     ensures found { Finds (λ _. met_of met.new) R.alone (R.seen files.new) (R.start files.new) (λ t. and_then (place_in (view_filelog filelog.now) t) (λ obstacles. Ok (noted (met_of met.old) obstacles))) result }
-    ensures clash { OnOk result (ClashBehind (listing fncache.now) (new_path (length filelog.now.log.entries == 0) path.now) met.old.clash met.new.clash) }
+    ensures clash { met.new.clash ≡ met.old.clash }
     ensures same_start { R.start files.new ≡ R.start files.old }
     ensures still { R.alone ≡ true → R.seen files.new ≡ R.seen files.old }
     ensures cause { HasFaultCause (R.faults files.old) (R.faults files.new) (R.denied files.old) (R.denied files.new) result }
 {
     if filelog.log.len() > 0 {
         return test_data(alloc, files, &filelog.paths, &filelog.log);
-    }
-    if let Some(other) = fncache.clash(path)? {
-        met.meet_clash(Bytes::from_vec(other));
     }
     meet_standing(alloc, files, &filelog.paths.index, met)?;
     meet_standing(alloc, files, &filelog.paths.chunks, met)
@@ -92,7 +86,6 @@ fn test_place<R: Reads>(
 fn changed_file<R: Reads>(
     alloc: Global,
     files: &mut R,
-    fncache: &Fncache,
     link: u32,
     file: &NewFile,
     filelog: Filelog,
@@ -105,7 +98,7 @@ fn changed_file<R: Reads>(
     requires second { IfSome parents.1 (λ rev. rev < length filelog.log.entries) }
     ensures path { IfOk result (λ f. f.path ≡ file.now.path) }
     ensures found { Finds (λ f. (view_file f, met_of met.new)) R.alone (R.seen files.new) (R.start files.new) (λ t. noting (met_of met.old) (changed_in (view_filelog filelog) file.now parents link t)) result }
-    ensures clash { IfOk result (λ f. ClashBehind (listing fncache.now) (new_path f.listed file.now.path) met.old.clash met.new.clash) }
+    ensures clash { met.new.clash ≡ met.old.clash }
     ensures same_start { R.start files.new ≡ R.start files.old }
     ensures still { R.alone ≡ true → R.seen files.new ≡ R.seen files.old }
     ensures cause { HasFaultCause (R.faults files.old) (R.faults files.new) (R.denied files.old) (R.denied files.new) result }
@@ -126,7 +119,7 @@ fn changed_file<R: Reads>(
         Ok(revised) => revised,
         Err(refusal) => return Err(refusal),
     };
-    match test_place(alloc, files, fncache, path.as_slice(), &filelog, met) {
+    match test_place(alloc, files, &filelog, met) {
         Ok(()) => {}
         Err(refusal) => return Err(refusal),
     }
@@ -198,7 +191,6 @@ fn kept_file(
 fn file_on<R: Reads>(
     alloc: Global,
     files: &mut R,
-    fncache: &Fncache,
     link: u32,
     file: &NewFile,
     rows: ParentFiles,
@@ -211,7 +203,7 @@ fn file_on<R: Reads>(
     requires first { IfSome parents.0 (λ rev. rev < length filelog.log.entries) }
     requires second { IfSome parents.1 (λ rev. rev < length filelog.log.entries) }
     ensures found { Finds (λ f. (view_file f, met_of met.new)) R.alone (R.seen files.new) (R.start files.new) (λ t. noting (met_of met.old) (file_on (view_filelog filelog) file.now (first_of (option_map told_of_found rows.first) (option_map told_of_found rows.second)) parents link t)) result }
-    ensures clash { IfOk result (λ f. ClashBehind (listing fncache.now) (new_path f.listed file.now.path) met.old.clash met.new.clash) }
+    ensures clash { met.new.clash ≡ met.old.clash }
     ensures path { IfOk result (λ f. f.path ≡ file.now.path) }
     ensures same_start { R.start files.new ≡ R.start files.old }
     ensures still { R.alone ≡ true → R.seen files.new ≡ R.seen files.old }
@@ -219,7 +211,7 @@ fn file_on<R: Reads>(
 {
     match filelog.kept(alloc, files, parents, file.body.as_slice())? {
         Some(rev) => Ok(kept_file(alloc, file, &filelog, rows, rev)?),
-        None => changed_file(alloc, files, fncache, link, file, filelog, parents, met),
+        None => changed_file(alloc, files, link, file, filelog, parents, met),
     }
 }
 
@@ -235,7 +227,7 @@ fn file_of<R: Reads>(
 ) -> Result<TreeFile, ReadAnswer>
     requires link { link < 2 ^ 31 }
     ensures found { Finds (λ f. (view_file f, met_of met.new)) R.alone (R.seen files.new) (R.start files.new) (λ t. noting (met_of met.old) (file_in (listing fncache.now) link file.now (option_map told_of_found rows.first) (option_map told_of_found rows.second) t)) result }
-    ensures clash { IfOk result (λ f. ClashBehind (listing fncache.now) (new_path f.listed file.now.path) met.old.clash met.new.clash) }
+    ensures clash { met.new.clash ≡ met.old.clash }
     ensures path { IfOk result (λ f. f.path ≡ file.now.path) }
     ensures same_start { R.start files.new ≡ R.start files.old }
     ensures still { R.alone ≡ true → R.seen files.new ≡ R.seen files.old }
@@ -246,9 +238,43 @@ fn file_of<R: Reads>(
         Ok(parents) => parents,
         Err(refusal) => return Err(refusal),
     };
-    file_on(
-        alloc, files, fncache, link, file, rows, filelog, parents, met,
-    )
+    file_on(alloc, files, link, file, rows, filelog, parents, met)
+}
+
+// Another path of one of these lists that has the same store name for one of its two files.
+fn clash_in(
+    fncache: &Fncache,
+    new_paths: &Fncache,
+    path: &[u8],
+) -> Result<Option<Vec<u8>>, AllocError>
+    ensures { IfOk result (λ found. IsClash (either_list (listing fncache.now) (listing new_paths.now)) path.now (option_map (λ p. p.items) found)) }
+{
+    match fncache.clash(path)? {
+        Some(other) => Ok(Some(other)),
+        None => new_paths.clash(path),
+    }
+}
+
+// Adds a path to the new ones where its filelog is new. No listed path is to have the names of its files, and no new one
+// before it.
+fn with_new(
+    fncache: &Fncache,
+    new_paths: Fncache,
+    new: bool,
+    path: &[u8],
+    met: &mut Hindrances,
+) -> Result<Fncache, AllocError>
+    ensures met { met_of met.new ≡ met_of met.old }
+    ensures clash { OnOk result (ClashBehind (either_list (listing fncache.now) (listing new_paths)) (new_path new path.now) met.old.clash met.new.clash) }
+    ensures paths { IfOk result (λ paths. listing paths ≡ with_all (listing new_paths) (new_path new path.now)) }
+{
+    if !new {
+        return Ok(new_paths);
+    }
+    if let Some(other) = clash_in(fncache, &new_paths, path)? {
+        met.meet_clash(Bytes::from_vec(other));
+    }
+    new_paths.with_path(path)
 }
 
 /// Adds all files of a commit to the tree, each after what is read of its filelog.
@@ -272,14 +298,18 @@ pub fn add_files<R: Reads>(
     ensures still { R.alone ≡ true → R.seen files.new ≡ R.seen files.old }
     ensures cause { HasFaultCause (R.faults files.old) (R.faults files.new) (R.denied files.old) (R.denied files.new) result }
 {
+    let mut new_paths = Fncache::empty(alloc);
     let mut rest = new_files;
     while let Some((file, behind)) = rest.split_first() {
-        let rows = tree.parent_files(file.path.as_slice())?;
+        let path = file.path.as_slice();
+        let rows = tree.parent_files(path)?;
         let added = match file_of(alloc, files, fncache, link, file, rows, met) {
             Ok(added) => added,
             Err(refusal) => return Err(refusal),
         };
+        let new = added.listed;
         tree.add(added)?;
+        new_paths = with_new(fncache, new_paths, new, path, met)?;
         rest = behind;
     }
     Ok(())

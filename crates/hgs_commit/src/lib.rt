@@ -16,8 +16,6 @@ pub mod hindrance_kind;
 pub mod laws;
 pub mod new_text;
 pub mod parents;
-#[cfg(test)]
-mod tests;
 pub mod texts;
 pub mod tree;
 pub mod tree_file;

@@ -1,7 +1,31 @@
-//! Examples that go through several crates. There is nothing here but tests.
+//! Examples of bytes, names and revlogs, with values from outside. There is nothing here but tests.
 #![tactic(auto)]
 
 #[cfg(test)]
 mod bodies;
 #[cfg(test)]
+mod bytes;
+#[cfg(test)]
+mod changesets;
+#[cfg(test)]
+mod entries;
+#[cfg(test)]
+mod file_lists;
+#[cfg(test)]
+mod file_texts;
+#[cfg(test)]
+mod headers;
+#[cfg(test)]
+mod manifests;
+#[cfg(test)]
+mod nodes;
+#[cfg(test)]
+mod paths;
+#[cfg(test)]
 mod revisions;
+#[cfg(test)]
+mod revlog;
+#[cfg(test)]
+mod store_names;
+#[cfg(test)]
+mod tracked_paths;

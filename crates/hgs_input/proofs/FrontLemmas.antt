@@ -1,5 +1,5 @@
 -- What is read of a front of an input: the same as of the whole, or that it is cut.
-use Rattle.std.proofs.Common.{◌≡◌, ◌⊎◌, inl, inr, ℕ, zero, suc, ◌+◌, ◌-◌, ◌<◌, ◌≤◌, Bool, true, false, List, [], ◌∷◌, ◌++◌, length, take, drop, Option, Some, None, Result, Ok, Err, refl, sym, ◌∙◌, ap, subst, arith, append_assoc, length-append, codes}
+use Rattle.std.proofs.Common.{◌≡◌, inl, inr, ℕ, zero, suc, ◌+◌, ◌-◌, ◌<◌, ◌≤◌, Bool, true, false, List, [], ◌∷◌, ◌++◌, length, take, drop, Option, Some, None, Result, Ok, Err, refl, sym, ◌∙◌, ap, subst, arith, append_assoc, length-append, codes}
 use Rattle.std.specs.Prelude.{◌==◌, nat_le, slice_index, if◌then◌else◌}
 use Rattle.std.specs.Str.{is_utf8}
 use Rattle.std.proofs.Math.ListN.{get_or-append}
@@ -14,29 +14,15 @@ use Rattle.hgs_input.specs.declared.fault.InputFault.TheVariants.{BadInput, Limi
 use Rattle.hgs_index.specs.declared.kinds.Which.{Which}
 use Rattle.hgs_index.specs.declared.kinds.Which.TheVariants.{FileText, Tree, Record}
 use Rattle.hgs_input.specs.Record.{most_input}
-use Rattle.hgs_input.specs.Read.{Rest, Reading, ◌>>=◌, place, bad_at, line_or_cut, next_line, required_at, required, optional_at, optional, counted, word_of, parent_of, user_of, date_of, phase_of, bookmark_of, length_of, FileLine, file_of, more, parents_from, text_at, description_from, allowed, file_with, file_behind, next_file, files_from, nothing_behind, head_from, change_with, looked_at, read_record}
+use Rattle.hgs_input.specs.Front.{Alike}
+use Rattle.hgs_input.specs.Read.{Rest, Reading, ◌>>=◌, place, bad_at, line_or_cut, next_line, required_at, required, optional_at, optional, counted, word_of, parent_of, user_of, date_of, phase_of, bookmark_of, length_of, FileLine, file_of, more, parents_from, text_at, description_from, allowed, file_with, file_behind, next_file, files_from, nothing_behind, head_from, change_with, record_from, looked_at, read_record}
 use Rattle.hgs_input.proofs.WholeLemmas.{end_from, change_from, looked-whole, looked-on, looked-front, read-looked, read-all}
 use Rattle.hgs_input.proofs.FoundLemmas.{bound, contradiction, file_more_found}
 use Rattle.hgs_input.proofs.ReadLemmas.{at_end}
-use Rattle.hgs_input.proofs.RecordBack.{left}
+use Rattle.hgs_input.specs.Front.{left}
 use Rattle.hgs_input.proofs.RecordFound.{none_behind, record_found}
 
 -- ---- the front of an input, and the whole
-
-pub record SameFault {A : Type 0} (a b : Reading A) : Type 0 where
-  pub fault : InputFault
-  pub front : a ≡ Err fault
-  pub all : b ≡ Err fault
-
-pub record SameRead {A : Type 0} (w : ℕ) (tail : List ℕ) (a b : Reading A) : Type 0 where
-  pub value : A
-  pub rest : List ℕ
-  pub front : a ≡ Ok (value, left w rest)
-  pub all : b ≡ Ok (value, left (w + length tail) (rest ++ tail))
-
--- the front is cut, or both have the same fault, or the same is read of both and the tail is left of the whole besides
-abbrev Alike : {A : Type 0} → ℕ → List ℕ → Reading A → Reading A → Type 0
-Alike w tail a b = (a ≡ Err (bad_at w)) ⊎ (SameFault a b ⊎ SameRead w tail a b)
 
 alike_read : {A : Type 0} (w : ℕ) (tail rest : List ℕ) (x : A) → Alike w tail (Ok (x, left w rest)) (Ok (x, left (w + length tail) (rest ++ tail)))
 alike_read w tail rest x = inr (inr (record { value = x; rest = rest; front = refl; all = refl }))
@@ -195,6 +181,14 @@ head_alike w tail bytes =
     (λ date r4 e4. bind_alike w tail _ _ _ _ (optional_alike phase_of w tail r4)
     (λ phase r5 e5. bind_alike w tail _ _ _ _ (optional_alike bookmark_of w tail r5)
     (λ bookmark r6 e6. alike_read w tail r6 (record { parents = parents; user = user; date = date; phase = phase; bookmark = bookmark })))))))
+
+pub record_alike : (w : ℕ) (tail bytes : List ℕ) → Alike w tail (record_from (left w bytes)) (record_from (left (w + length tail) (bytes ++ tail)))
+record_alike w tail bytes =
+    bind_alike w tail _ _ _ _ (head_alike w tail bytes)
+    (λ head r1 e1. bind_alike w tail _ _ _ _ (description_alike w tail r1)
+    (λ text r2 e2. bind_alike w tail _ _ _ _ (files_alike (length r2) (length (r2 ++ tail)) [] w tail r2 (omega arith) (omega arith))
+    (λ files r3 e3. bind_alike w tail _ _ _ _ (required_alike (word_of (codes "end")) w tail r3)
+    (λ _ r4 e4. alike_read w tail r4 (change_with head text files)))))
 
 -- ---- a front of a record
 

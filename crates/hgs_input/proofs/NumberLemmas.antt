@@ -1,5 +1,5 @@
 -- Numbers of any number of digits, up to a bound.
-use Rattle.std.proofs.Common.{◌≡◌, ℕ, zero, suc, ◌+◌, ◌*◌, ◌-◌, ◌<◌, ◌≤◌, Bool, true, false, ◌&&◌, List, [], ◌∷◌, length, drop, get_or, refl, sym, ◌∙◌, ap, arith, min, drop-cons}
+use Rattle.std.proofs.Common.{◌≡◌, ℕ, zero, suc, ◌+◌, ◌*◌, ◌-◌, ◌^◌, ◌<◌, ◌≤◌, Bool, true, false, ◌&&◌, List, [], ◌∷◌, length, drop, get_or, refl, sym, ◌∙◌, ap, arith, min, drop-cons}
 use Rattle.std.specs.Prelude.{nat_le, nat_lt}
 use Rattle.std.specs.List.{list_all}
 use Rattle.std.specs.Char.{digit_value}
@@ -37,6 +37,10 @@ cut_before w b (c ∷ cs) =
     sym (cut_before (min w b * 10 + digit_value c) b cs)
     ∙ ap (λ n. min (digits_value_after 10 n cs) b) near
     ∙ cut_before (w * 10 + digit_value c) b cs
+
+-- a step that is cut to 64 bits, and then to a bound of so many bits, is cut to the bound
+pub cut_twice : (v d b times more v' : ℕ) → b < 2 ^ 64 → times ≡ min (v * 10) (2 ^ 64 - 1) → more ≡ min (times + d) (2 ^ 64 - 1) → v' ≡ min more b → v' ≡ min (v * 10 + d) b
+cut_twice v d b times more v' small e f g = omega (arith, small, e, f, g)
 
 -- one more digit
 pub digit_more : (v v' b : ℕ) (xs : List ℕ) (i all : ℕ) → i < length xs → v' ≡ min (v * 10 + (get_or xs i 0 - 48)) b → is_digit (get_or xs i 0) ≡ true →

@@ -1,5 +1,5 @@
 -- The text of a record is read as its changeset.
-use Rattle.std.proofs.Common.{◌≡◌, ℕ, zero, suc, ◌+◌, ◌<◌, ◌≤◌, ◌^◌, Bool, true, false, ◌&&◌, ◌||◌, List, [], ◌∷◌, ◌++◌, length, take, drop, get_or, Option, Some, None, Result, Ok, Err, ℤ, pos, refl, sym, ◌∙◌, ap, subst, arith, append_assoc, length-append, codes, unsigned_abs, min, lit<}
+use Rattle.std.proofs.Common.{◌≡◌, ℕ, zero, suc, ◌+◌, ◌<◌, ◌≤◌, ◌^◌, Bool, true, false, ◌&&◌, ◌||◌, List, [], ◌∷◌, ◌++◌, length, take, drop, get_or, Option, Some, None, Result, Ok, Err, ℤ, refl, sym, ◌∙◌, ap, subst, arith, append_assoc, length-append, codes, unsigned_abs, min, lit<}
 use Rattle.std.specs.Prelude.{◌==◌, not, nat_le, nat_lt, slice_index, decimal, flat_map, unwrap_or, if◌then◌else◌, IfSome, IsUtf8}
 use Rattle.std.specs.List.{AllByRecursion, list_any, list_all}
 use Rattle.std.specs.Fmt.{signed_decimal}
@@ -32,14 +32,11 @@ use Rattle.hgs_input.specs.declared.fault.InputFault.{InputFault}
 use Rattle.hgs_input.specs.declared.fault.InputFault.TheVariants.{Limit}
 use Rattle.hgs_index.specs.declared.kinds.Which.TheVariants.{FileText, Tree, Record}
 use Rattle.hgs_input.specs.Record.{most_input, parent_text, phase_text, bookmark_text, description_text, flag_sign, file_text, record_text}
-use Rattle.hgs_input.specs.Read.{Rest, ◌>>=◌, place, bad_at, fault_at, line_or_cut, next_line, required_at, required, optional_at, optional, counted, behind, and_then, where_true, word_of, parent_of, is_user, most_user, user_of, date_of, phase_of, bookmark_of, is_number, number_up_to, most_description, length_of, FileLine, flag_of, file_of_parts, file_of, more, parents_from, text_at, description_from, fits_behind, allowed, file_with, file_behind, most_file, most_files, next_file, files_from, nothing_behind, Head, head_from, read_record}
-use Rattle.hgs_input.proofs.WholeLemmas.{end_from, change_from, looked-whole, read-all}
+use Rattle.hgs_input.specs.Read.{Rest, ◌>>=◌, place, bad_at, fault_at, line_or_cut, next_line, required_at, required, optional_at, optional, counted, behind, and_then, where_true, word_of, parent_of, is_user, most_user, user_of, date_of, phase_of, bookmark_of, is_number, number_up_to, most_description, length_of, FileLine, flag_of, file_of_parts, file_of, more, parents_from, text_at, description_from, fits_behind, allowed, file_with, file_behind, most_file, most_files, next_file, files_from, nothing_behind, Head, head_from, change_with, record_from, read_record}
+use Rattle.hgs_input.specs.Front.{left}
+use Rattle.hgs_input.proofs.WholeLemmas.{record_then, looked-whole}
 use Rattle.hgs_input.proofs.PathLemmas.{begins_front, drop_front, take_front, any_there, any_found, or_true, both, contradiction, any-append}
 use Rattle.hgs_input.proofs.FoundLemmas.{not_true, paths-push}
-
--- what is left of an input
-abbrev pub left : ℕ → List ℕ → Rest
-left w bytes = record { whole = w; bytes = bytes }
 
 then_ok : {A B : Type 0} (x : Result A InputFault) (a : A) (f : A → Result B InputFault) (y : Result B InputFault) → x ≡ Ok a → f a ≡ y → (x >>= f) ≡ y
 then_ok x a f y e h = ap (λ r. r >>= f) e ∙ h
@@ -223,7 +220,7 @@ no_end (b ∷ name) h = by (b == 58) (b == 0) (b == 10) (b == 13) refl h (no_end
     by false false false true e k more = cc
     by false false false false e k more = (e, more k)
 
-name_lacks : (name : List ℕ) → is_mark_name name ≡ true → Lacks 10 name
+pub name_lacks : (name : List ℕ) → is_mark_name name ≡ true → Lacks 10 name
 name_lacks name h =
     let a = both (not (length name == 0) && nat_le (length name) 255 && not (among name reserved_names) && not (list_any is_name_end name) && not (list_all is_digit name) && not (ends_in_space name)) (is_utf8 name) h in
     let b = both (not (length name == 0) && nat_le (length name) 255 && not (among name reserved_names) && not (list_any is_name_end name) && not (list_all is_digit name)) (not (ends_in_space name)) a.0 in
@@ -256,7 +253,7 @@ leads (suc n) h =
     let other : (slice_index (decimal (suc n)) 0 == 48) ≡ false = false_from_ne_true (slice_index (decimal (suc n)) 0 == 48) (λ t. let e = number_is (slice_index (decimal (suc n)) 0) 48 t in absurd (omega (arith, e, high))) in
     or_true (length (decimal (suc n)) == 1) (not (slice_index (decimal (suc n)) 0 == 48)) (ap not other)
 
-count_back : (most n : ℕ) → n ≤ most → most < 2 ^ 32 → number_up_to most (decimal n) ≡ Some n
+pub count_back : (most n : ℕ) → n ≤ most + 1 → most + 1 < 2 ^ 64 → number_up_to most (decimal n) ≡ Some n
 count_back most n h small =
     let k = decimal_is_IsNumeral n (omega (arith, h, small)) in
     let is : is_number (decimal n) ≡ true =
@@ -265,15 +262,22 @@ count_back most n h small =
     let value : min (digits_value 10 (decimal n)) (most + 1) ≡ n = let v = k.1 in omega (arith, v, h) in
     where_back (is_number (decimal n)) (min (digits_value 10 (decimal n)) (most + 1)) is ∙ ap (λ m. Some m) value
 
-decimal_lacks : (byte n : ℕ) → byte < 45 → n < 2 ^ 62 → Lacks byte (decimal n)
-decimal_lacks byte n h small = number_lacks byte (pos n) h small
+other_number : (x byte : ℕ) → byte < x → (x == byte) ≡ false
+other_number x byte h = false_from_ne_true (x == byte) (λ t. let e = number_is x byte t in absurd (omega (arith, e, h)))
+
+digits_lack : (byte : ℕ) (ds : List ℕ) → byte < 45 → AllDigits 10 ds → Lacks byte ds
+digits_lack byte [] h d = tt
+digits_lack byte (c ∷ cs) h d = let low = (digit_from_value c d.0).0 in (other_number c byte (omega (arith, h, low)), digits_lack byte cs h d.1)
+
+pub decimal_lacks : (byte n : ℕ) → byte < 45 → n < 2 ^ 64 → Lacks byte (decimal n)
+decimal_lacks byte n h small = digits_lack byte (decimal n) h (decimal_is_IsNumeral n small).0.1
 
 -- ---- the description
 
 length_back : (n : ℕ) → n ≤ most_description → length_of (codes "desc " ++ decimal n) ≡ Some n
 length_back n h =
     and_then_back (behind (codes "desc ") (codes "desc " ++ decimal n)) (decimal n) (λ t. and_then (number_up_to most_description t) (λ n. where_true (nat_le n most_description) n)) (Some n) (behind_back (codes "desc ") (decimal n))
-    (and_then_back (number_up_to most_description (decimal n)) n (λ n. where_true (nat_le n most_description) n) (Some n) (count_back most_description n h (omega arith)) (where_back (nat_le n most_description) n (le-leb n most_description h)))
+    (and_then_back (number_up_to most_description (decimal n)) n (λ n. where_true (nat_le n most_description) n) (Some n) (count_back most_description n (omega (arith, h)) (omega arith)) (where_back (nat_le n most_description) n (le-leb n most_description h)))
 
 text_back : (at : ℕ) (text : List ℕ) (r : Rest) → IsUtf8 text → text_at at text r ≡ Ok (text, r)
 text_back at text r h = ap (λ t. if t then Ok (text, r) else Err (bad_at at)) (is_utf8-from_IsUtf8 text h)
@@ -294,9 +298,6 @@ flag_back : (f : Flag) → flag_of (flag_sign f) ≡ Some f
 flag_back Plain = refl
 flag_back Exec = refl
 flag_back Link = refl
-
-other_number : (x byte : ℕ) → byte < x → (x == byte) ≡ false
-other_number x byte h = false_from_ne_true (x == byte) (λ t. let e = number_is x byte t in absurd (omega (arith, e, h)))
 
 flag_lacks : (byte : ℕ) (f : Flag) → byte < 45 → Lacks byte (flag_sign f)
 flag_lacks byte Plain h = (other_number 45 byte (omega (arith, h)), tt)
@@ -338,7 +339,7 @@ file_line_back f small tracked =
     (and_then_back (split 32 all) (flag_sign f.flag, rest) (λ p. and_then (split 32 p.1) (λ q. file_of_parts p.0 q.0 q.1)) (Some f) (split_over 32 (flag_sign f.flag) rest (flag_lacks 32 f.flag (lit< tt)))
     (and_then_back (split 32 rest) (sizes, f.path) (λ q. file_of_parts (flag_sign f.flag) q.0 q.1) (Some f) (split_over 32 sizes f.path (decimal_lacks 32 f.size (lit< tt) (omega (arith, small))))
     (and_then_back (flag_of (flag_sign f.flag)) f.flag (λ g. and_then (number_up_to most_file sizes) (λ n. where_true (is_tracked f.path) (record { flag = g; size = n; path = f.path }))) (Some f) (flag_back f.flag)
-    (and_then_back (number_up_to most_file sizes) f.size (λ n. where_true (is_tracked f.path) (record { flag = f.flag; size = n; path = f.path })) (Some f) (count_back most_file f.size small (omega arith))
+    (and_then_back (number_up_to most_file sizes) f.size (λ n. where_true (is_tracked f.path) (record { flag = f.flag; size = n; path = f.path })) (Some f) (count_back most_file f.size (omega (arith, small)) (omega arith))
     (where_back (is_tracked f.path) f tracked)))))
 
 allowed_back : (at : ℕ) (files : List NewFile) (f : FileLine) → fits_behind (new_paths files) f.path ≡ true → f.size ≤ most_file → length files < most_files → allowed at files f ≡ Ok f
@@ -407,11 +408,6 @@ files_back (suc n) files (f ∷ new) w rest room few tracked a d small other =
 
 -- ---- the whole
 
-end_back : (w : ℕ) → w ≤ most_input → end_from (left w (line (codes "end"))) ≡ Ok tt
-end_back w small =
-    then_ok (required (word_of (codes "end")) (left w (line (codes "end")))) (tt, left w []) (λ e. nothing_behind e.1) (Ok tt) (required_back (word_of (codes "end")) w (codes "end") [] tt (lacks_none (codes "end") refl) (word_back (codes "end")))
-    (ap (λ t. if t then Ok tt else Err (Limit Record)) (le-leb w most_input small))
-
 -- the line of a description stays where another line is looked for
 before_description : {A : Type 0} (form : List ℕ → Option A) (w : ℕ) (text rest : List ℕ) → length text ≤ 65536 → form (codes "desc " ++ decimal (length text)) ≡ None →
     optional form (left w (description_text text ++ rest)) ≡ Ok (None, left w (description_text text ++ rest))
@@ -457,17 +453,30 @@ more_bytes (f ∷ files) rest h =
     let b : 0 < length (file_text f) = omega arith in
     omega (arith, k, a, b)
 
-change_back : (says : Bool) (c : NewChange) (w : ℕ) → IsNewChange c → w ≤ most_input → change_from (left w (record_text says c)) ≡ Ok c
-change_back says c w h small =
-    let r3 = line (codes "end") in
+pub record_front_back : (says : Bool) (c : NewChange) (w : ℕ) (behind : List ℕ) → IsNewChange c → record_from (left w (record_text says c ++ behind)) ≡ Ok (c, left w behind)
+record_front_back says c w behind h =
+    let r3 = line (codes "end") ++ behind in
     let r2 = flat_map file_text c.files ++ r3 in
     let r1 = description_text c.description ++ r2 in
     let count = h.count in
-    let no_file : optional file_of (left w r3) ≡ Ok (None, left w r3) = optional_other file_of w (codes "end") [] (lacks_none (codes "end") refl) refl in
-    then_ok (head_from (left w (record_text says c))) (head_of says c, left w r1) _ _ (head_back says c w r2 h)
+    let size = length-append (line (codes "end")) behind in
+    let no_file : optional file_of (left w r3) ≡ Ok (None, left w r3) = optional_other file_of w (codes "end") behind (lacks_none (codes "end") refl) refl in
+    ap (λ b. record_from (left w b)) (record_then says c behind)
+    ∙ then_ok (head_from (left w (record_lines says c r1))) (head_of says c, left w r1) _ _ (head_back says c w r2 h)
     (then_ok (description_from (left w r1)) (c.description, left w r2) _ _ (description_back w c.description r2 h.description h.description_most)
-    (then_ok (files_from (length r2) [] (left w r2)) (c.files, left w r3) _ _ (files_back (length r2) [] c.files w r3 (more_bytes c.files r3 (omega arith)) (omega (arith, count)) h.paths h.ordered h.apart h.bodies no_file)
-    (then_ok (end_from (left w r3)) tt _ _ (end_back w small) (ap (λ p. Ok (record c { phase = p })) (phase_is says c.phase)))))
+    (then_ok (files_from (length r2) [] (left w r2)) (c.files, left w r3) _ _ (files_back (length r2) [] c.files w r3 (more_bytes c.files r3 (omega (arith, size))) (omega (arith, count)) h.paths h.ordered h.apart h.bodies no_file)
+    (then_ok (required (word_of (codes "end")) (left w r3)) (tt, left w behind) (λ x. Ok (change_with (head_of says c) c.description c.files, x.1)) _ (required_back (word_of (codes "end")) w (codes "end") behind tt (lacks_none (codes "end") refl) (word_back (codes "end")))
+    (ap (λ p. Ok (record c { phase = p }, left w behind)) (phase_is says c.phase)))))
+  where
+    record_lines : Bool → NewChange → List ℕ → List ℕ
+    record_lines says c rest =
+        line (codes "commit") ++ (flat_map parent_text c.parents ++ (line (codes "user " ++ c.user) ++ (line (codes "date " ++ date_text c.seconds c.offset [])
+        ++ (phase_text says c.phase ++ (bookmark_text c.bookmark ++ rest)))))
 
 pub record_back : (says : Bool) (c : NewChange) → IsNewChange c → length (record_text says c) ≤ most_input → read_record (record_text says c) ≡ Ok c
-record_back says c h small = read-all (record_text says c) (record_text says c) (looked-whole (record_text says c) (omega (arith, small))) ∙ change_back says c (length (record_text says c)) h small
+record_back says c h small =
+    let text = record_text says c in
+    let w = length text in
+    ap (λ b. record_from (left (length b) b) >>= λ p. nothing_behind p.1 >>= λ _. Ok p.0) (looked-whole text (omega (arith, small)))
+    ∙ then_ok (record_from (left w text)) (c, left w []) _ _ (ap (λ b. record_from (left w b)) (sym (append-nil text)) ∙ record_front_back says c w [] h)
+    (ap (λ t. (if t then Ok tt else Err (Limit Record)) >>= λ _. Ok c) (le-leb w most_input small))

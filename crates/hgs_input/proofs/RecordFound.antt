@@ -27,9 +27,10 @@ use Rattle.hgs_input.specs.declared.fault.InputFault.{InputFault}
 use Rattle.hgs_input.specs.declared.fault.InputFault.TheVariants.{Limit}
 use Rattle.hgs_index.specs.declared.kinds.Which.TheVariants.{Record}
 use Rattle.hgs_input.specs.Record.{most_input, parent_text, phase_text, bookmark_text, description_text, file_text, record_text, IsRecord}
-use Rattle.hgs_input.specs.Read.{Rest, ◌>>=◌, place, bad_at, required, optional, counted, behind, and_then, where_true, word_of, parent_of, is_user, most_user, user_of, date_of, phase_of, bookmark_of, number_up_to, most_description, length_of, more, parents_from, text_at, description_from, next_file, files_from, nothing_behind, Head, head_from, change_with, looked_at, read_record}
+use Rattle.hgs_input.specs.Front.{IsRecordBefore}
+use Rattle.hgs_input.specs.Read.{Rest, ◌>>=◌, place, bad_at, required, optional, counted, behind, and_then, where_true, word_of, parent_of, is_user, most_user, user_of, date_of, phase_of, bookmark_of, number_up_to, most_description, length_of, more, parents_from, text_at, description_from, next_file, files_from, nothing_behind, Head, head_from, change_with, record_from, looked_at, start_of, read_record}
 use Rattle.hgs_input.specs.View.{IsTree}
-use Rattle.hgs_input.proofs.WholeLemmas.{end_from, change_from, looked-length, looked-whole, read-looked}
+use Rattle.hgs_input.proofs.WholeLemmas.{record_then, looked-length, looked-whole}
 use Rattle.hgs_input.proofs.FoundLemmas.{bound, ok_is, some_is, contradiction, and_then_some, where_some, both, not_true, LineFound, required_found, optional_some, optional_none, counted_found, behind_some, number_found as count_found, FileFound, file_found, file_none, tree_with, paths-push}
 
 -- what stands before the rest of an input, and the same input behind it
@@ -333,10 +334,6 @@ files_found (suc n) files r p h e =
 
 -- ---- the end
 
-pub record EndFound (r : Rest) : Type 0 where
-  pub is : r.bytes ≡ line (codes "end")
-  pub room : r.whole ≤ most_input
-
 pub none_behind : (r : Rest) → nothing_behind r ≡ Ok tt → (r.bytes ≡ []) × (r.whole ≤ most_input)
 none_behind r e = by (length r.bytes == 0) (nat_le r.whole most_input) refl refl e
   where
@@ -344,13 +341,6 @@ none_behind r e = by (length r.bytes == 0) (nat_le r.whole most_input) refl refl
     by true true a b k = (nil_from_length r.bytes (number_is (length r.bytes) 0 a), leb-true r.whole most_input b)
     by true false a b k = cc
     by false t a b k = cc
-
-pub end_found : (r : Rest) → end_from r ≡ Ok tt → EndFound r
-end_found r e =
-    let a = bound (required (word_of (codes "end")) r) (λ e. nothing_behind e.1) tt e in
-    let w = word_found (codes "end") r a.value a.is in
-    let n = none_behind a.value.1 a.gives in
-    record { is = w.is ∙ ap (λ t. line (codes "end") ++ t) n.0; room = subst (λ k. k ≤ most_input) w.whole n.1 }
 
 -- ---- the whole
 
@@ -439,10 +429,11 @@ head_found r p e =
       bookmark = bookmark.valid;
     }
 
--- the text of a head and what follows, as the text of a record
-head_then : (h : Head) (d : List ℕ) (files : List NewFile) → head_text h ++ (description_text d ++ (flat_map file_text files ++ line (codes "end"))) ≡ record_text (is_some h.phase) (change_with h d files)
-head_then h d files =
-    let rest = description_text d ++ (flat_map file_text files ++ line (codes "end")) in
+-- the text of a head and what follows, as the text of a record with something behind it
+head_then : (h : Head) (d : List ℕ) (files : List NewFile) (behind : List ℕ) →
+    head_text h ++ (description_text d ++ (flat_map file_text files ++ (line (codes "end") ++ behind))) ≡ record_text (is_some h.phase) (change_with h d files) ++ behind
+head_then h d files behind =
+    let rest = description_text d ++ (flat_map file_text files ++ (line (codes "end") ++ behind)) in
     let phase = phase_text (is_some h.phase) (unwrap_or h.phase Draft) in
     let date = line (codes "date " ++ date_text h.date.seconds h.date.offset []) in
     let user = line (codes "user " ++ h.user) in
@@ -452,9 +443,10 @@ head_then h d files =
     ∙ ap (λ t. names ++ t) (append_assoc user (date ++ (phase ++ bookmark_text h.bookmark)) rest
     ∙ ap (λ t. user ++ t) (append_assoc date (phase ++ bookmark_text h.bookmark) rest
     ∙ ap (λ t. date ++ t) (append_assoc phase (bookmark_text h.bookmark) rest))))
+    ∙ sym (record_then (is_some h.phase) (change_with h d files) behind)
 
 -- the parts of a record, one after another
-record RecordParts (r : Rest) (c : NewChange) : Type 0 where
+record RecordParts (r : Rest) (c : NewChange) (rest : Rest) : Type 0 where
   pub head : Head
   pub description : List ℕ
   pub files : List NewFile
@@ -464,16 +456,18 @@ record RecordParts (r : Rest) (c : NewChange) : Type 0 where
   pub head_is : head_from r ≡ Ok (head, r1)
   pub description_is : description_from r1 ≡ Ok (description, r2)
   pub files_are : files_from (length r2.bytes) [] r2 ≡ Ok (files, r3)
-  pub end_is : end_from r3 ≡ Ok tt
+  pub end_is : required (word_of (codes "end")) r3 ≡ Ok (tt, rest)
   pub change : change_with head description files ≡ c
 
-record_parts : (r : Rest) (c : NewChange) → change_from r ≡ Ok c → RecordParts r c
-record_parts r c e =
-    let a = bound (head_from r) _ c e in
-    let b = bound (description_from a.value.1) _ c a.gives in
-    let d = bound (files_from (length b.value.1.bytes) [] b.value.1) _ c b.gives in
-    let f = bound (end_from d.value.1) _ c d.gives in
-    record {
+record_parts : (r : Rest) (p : NewChange × Rest) → record_from r ≡ Ok p → RecordParts r p.0 p.1
+record_parts r p e =
+    let a = bound (head_from r) _ p e in
+    let b = bound (description_from a.value.1) _ p a.gives in
+    let d = bound (files_from (length b.value.1.bytes) [] b.value.1) _ p b.gives in
+    let f = bound (required (word_of (codes "end")) d.value.1) _ p d.gives in
+    let made = change_with a.value.0 b.value.0 d.value.0 in
+    let P : NewChange × Rest → Type 0 = λ q. RecordParts r q.0 q.1 in
+    subst P (ok_is (made, f.value.1) p f.gives) (record {
       head = a.value.0;
       description = b.value.0;
       files = d.value.0;
@@ -484,22 +478,21 @@ record_parts r c e =
       description_is = b.is;
       files_are = d.is;
       end_is = f.is;
-      change = ok_is (change_with a.value.0 b.value.0 d.value.0) c f.gives;
-    }
+      change = refl;
+    })
 
-whole_found : (bytes : List ℕ) (c : NewChange) → change_from (record { whole = length bytes; bytes = bytes }) ≡ Ok c → IsRecord bytes c
-whole_found bytes c e =
-    let r : Rest = record { whole = length bytes; bytes = bytes } in
-    let k = record_parts r c e in
+pub record_before : (r : Rest) (p : NewChange × Rest) → record_from r ≡ Ok p → IsRecordBefore r p.0 p.1
+record_before r p e =
+    let k = record_parts r p e in
     let h = k.head in
     let head = head_found r (h, k.r1) k.head_is in
     let description = description_found k.r1 (k.description, k.r2) k.description_is in
     let files = files_found (length k.r2.bytes) [] k.r2 (k.files, k.r3) no_files k.files_are in
-    let tail = end_found k.r3 k.end_is in
+    let tail = word_found (codes "end") k.r3 (tt, p.1) k.end_is in
     let texts : Before k.r2 (flat_map file_text k.files) k.r3 = before_same k.r2 k.r3 _ _ (ap (flat_map file_text) (sym files.is)) files.before in
-    let is : bytes ≡ record_text (is_some h.phase) (change_with h k.description k.files) =
+    let is : r.bytes ≡ record_text (is_some h.phase) (change_with h k.description k.files) ++ p.1.bytes =
     head.before.is ∙ ap (λ t. head_text h ++ t) (description.before.is ∙ ap (λ t. description_text k.description ++ t) (texts.is ∙ ap (λ t. flat_map file_text k.files ++ t) tail.is))
-    ∙ head_then h k.description k.files in
+    ∙ head_then h k.description k.files p.1.bytes in
     let valid : IsNewChange (change_with h k.description k.files) = record {
       parents = head.parents;
       names = head.names;
@@ -518,12 +511,17 @@ whole_found bytes c e =
       apart = files.are.tree.apart;
       bodies = files.are.small;
     } in
-    let whole : k.r3.whole ≡ length bytes = texts.whole ∙ description.before.whole ∙ head.before.whole in
-    subst (IsRecord bytes) k.change (record { says_draft = is_some h.phase; text = is; valid = valid; size = subst (λ n. n ≤ most_input) whole tail.room })
+    let whole : p.1.whole ≡ r.whole = tail.whole ∙ texts.whole ∙ description.before.whole ∙ head.before.whole in
+    subst (λ (c : NewChange). IsRecordBefore r c p.1) k.change (record { says_draft = is_some h.phase; text = is; valid = valid; whole = whole })
 
 pub record_found : (bytes : List ℕ) (c : NewChange) → read_record bytes ≡ Ok c → IsRecord bytes c
 record_found bytes c e =
-    let h = whole_found (looked_at bytes) c (sym (read-looked bytes) ∙ e) in
-    let room = h.size in
+    let a = bound (record_from (start_of bytes)) _ c e in
+    let b = bound (nothing_behind a.value.1) (λ _. Ok a.value.0) c a.gives in
+    let found = record_before (start_of bytes) a.value a.is in
+    let none = none_behind a.value.1 b.is in
+    let is : looked_at bytes ≡ record_text found.says_draft a.value.0 = found.text ∙ ap (λ t. record_text found.says_draft a.value.0 ++ t) none.0 ∙ append-nil (record_text found.says_draft a.value.0) in
+    let room : length (looked_at bytes) ≤ most_input = subst (λ n. n ≤ most_input) found.whole none.1 in
     let few = looked-length bytes room in
-    subst (λ b. IsRecord b c) (looked-whole bytes (omega (arith, few))) h
+    let whole : IsRecord (looked_at bytes) a.value.0 = record { says_draft = found.says_draft; text = is; valid = found.valid; size = room } in
+    subst (λ (d : NewChange). IsRecord bytes d) (ok_is a.value.0 c b.gives) (subst (λ b. IsRecord b a.value.0) (looked-whole bytes (omega (arith, few))) whole)

@@ -1,3 +1,4 @@
+pub mod Front
 pub mod Read
 pub mod Record
 pub mod View

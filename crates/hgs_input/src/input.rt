@@ -1,4 +1,4 @@
-// What is left to read of an input.
+//! What is left to read of an input: a record, lines, and bytes that are counted, one after another.
 ghost use Rattle.std.specs.Prelude.{◌≡◌};
 ghost use Rattle.std.specs.Result.{result_map_both};
 ghost use Rattle.hgs_input.specs.Read.{Rest, fault_at, bad_at, place, next_line, counted, nothing_behind, start_of};
@@ -23,7 +23,8 @@ pub(crate) fn fault_at(place: usize, fault: InputFault) -> InputFault
     }
 }
 
-pub(crate) fn bad_at(place: usize) -> InputFault
+/// The fault of a form that is broken at a place.
+pub fn bad_at(place: usize) -> InputFault
     ensures { result ≡ bad_at place }
 {
     fault_at(place, InputFault::BadInput(place as u64))
@@ -31,7 +32,7 @@ pub(crate) fn bad_at(place: usize) -> InputFault
 
 /// An input, read up to a place.
 #[derive(Drop)]
-pub(crate) struct Input<'a> {
+pub struct Input<'a> {
     whole: usize,
     rest: &'a [u8],
 }
@@ -49,7 +50,7 @@ impl<'a> Model for Input<'a> {
 
 impl<'a> Input<'a> {
     /// An input of which nothing is read. Of one that is too long only the first byte past the limit is looked at.
-    pub(crate) fn new(bytes: &'a [u8]) -> Input<'a>
+    pub fn new(bytes: &'a [u8]) -> Input<'a>
         ensures { result ≡ start_of bytes.now }
     {
         let rest = front(bytes, MOST_INPUT + 1);
@@ -60,14 +61,14 @@ impl<'a> Input<'a> {
     }
 
     /// How many bytes stand before what is left.
-    pub(crate) fn place(&self) -> usize
+    pub fn place(&self) -> usize
         ensures { result ≡ place self.now }
     {
         self.whole - self.rest.len()
     }
 
     /// The next line without its LF, and what is left behind it.
-    pub(crate) fn line(&self) -> Result<(&'a [u8], Input<'a>), InputFault>
+    pub fn line(&self) -> Result<(&'a [u8], Input<'a>), InputFault>
         ensures { result_map_both (λ p. (p.0.now, p.1)) (λ e. e) result ≡ next_line self.now }
     {
         match split_at_byte(self.rest, b'\n') {
@@ -80,7 +81,7 @@ impl<'a> Input<'a> {
     }
 
     /// Reads so many bytes that have an LF behind them.
-    pub(crate) fn counted(&mut self, size: usize) -> Result<&'a [u8], InputFault>
+    pub fn counted(&mut self, size: usize) -> Result<&'a [u8], InputFault>
         ensures { Reads (λ t. t.now) result self.new (counted size self.old) }
     {
         if self.rest.len() <= size {
@@ -95,7 +96,7 @@ impl<'a> Input<'a> {
     }
 
     /// Whether all is read and no more than an input may have.
-    pub(crate) fn nothing_behind(&self) -> Result<(), InputFault>
+    pub fn nothing_behind(&self) -> Result<(), InputFault>
         ensures { result ≡ nothing_behind self.now }
     {
         if !self.rest.is_empty() {

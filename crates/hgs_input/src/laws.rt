@@ -1,10 +1,13 @@
 //! What the definitions of this crate imply. Each function is one law; none does anything.
-ghost use Rattle.std.specs.Prelude.{◌≡◌, ◌≤◌, ◌<◌, ◌∷◌, ◌++◌, Bool, List, ℕ, Ok, Err, length};
+ghost use Rattle.std.specs.Prelude.{◌≡◌, ◌≤◌, ◌<◌, ◌+◌, ◌∷◌, ◌++◌, ◌^◌, Bool, true, List, ℕ, Ok, Err, Some, decimal, length};
+ghost use Rattle.hgs_bytes.specs.Text.{Lacks};
+ghost use Rattle.hgs_index.specs.MarkName.{is_mark_name};
 ghost use Rattle.hgs_model.specs.Valid.{IsNewChange};
 ghost use Rattle.hgs_model.specs.declared.command.NewChange.{NewChange};
 ghost use Rattle.hgs_index.specs.declared.kinds.Which.TheVariants.{FileText, Tree};
 ghost use Rattle.hgs_input.specs.declared.fault.InputFault.TheVariants.{BadInput, Limit};
-ghost use Rattle.hgs_input.specs.Read.{read_record};
+ghost use Rattle.hgs_input.specs.Front.{left, IsRecordBefore, Alike};
+ghost use Rattle.hgs_input.specs.Read.{Rest, read_record, record_from, number_up_to};
 ghost use Rattle.hgs_input.specs.Record.{IsRecord, most_input, record_text};
 
 /// What is read is a record of that changeset.
@@ -33,4 +36,22 @@ pub fn faults_stay()
 /// An input that is longer than the limit is decided by its bytes up to the first past the limit.
 pub fn long_inputs_are_decided()
     ensures { (front more : List ℕ) → most_input < length front → read_record (front ++ more) ≡ read_record front }
+{}
+
+/// A record is read where other bytes stand behind it, and they are left; and what is read with bytes behind it is a record.
+pub fn records_stand_in_front()
+    ensures read { (says_draft : Bool) (c : NewChange) (whole : ℕ) (behind : List ℕ) → IsNewChange c → record_from (left whole (record_text says_draft c ++ behind)) ≡ Ok (c, left whole behind) }
+    ensures is { (r rest : Rest) (c : NewChange) → record_from r ≡ Ok (c, rest) → IsRecordBefore r c rest }
+{}
+
+/// What is read of the front of an input is read of the whole, but where the front is cut.
+pub fn fronts_are_read_alike()
+    ensures { (whole : ℕ) (tail bytes : List ℕ) → Alike whole tail (record_from (left whole bytes)) (record_from (left (whole + length tail) (bytes ++ tail))) }
+{}
+
+/// A number is read from its digits, in which no separator stands, and no LF stands in the name of a bookmark.
+pub fn words_written_then_read()
+    ensures numbers { (most n : ℕ) → n ≤ most + 1 → most + 1 < 2 ^ 64 → number_up_to most (decimal n) ≡ Some n }
+    ensures digits { (byte n : ℕ) → byte < 45 → n < 2 ^ 64 → Lacks byte (decimal n) }
+    ensures names { (name : List ℕ) → is_mark_name name ≡ true → Lacks 10 name }
 {}

@@ -4,11 +4,9 @@
 mod apart;
 pub mod fault;
 mod head;
-mod input;
+pub mod input;
 pub mod laws;
-mod line;
-mod number;
+pub mod line;
+pub mod number;
 pub mod record;
-#[cfg(test)]
-mod tests;
 mod tree;

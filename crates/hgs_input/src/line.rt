@@ -1,4 +1,4 @@
-// What the lines of a record say, each without its LF.
+//! What the lines of a record say, each without its LF.
 ghost use Rattle.std.specs.Prelude.{◌≡◌, ◌==◌, IfOk};
 ghost use Rattle.std.specs.List.{list_any};
 ghost use Rattle.std.specs.Option.{option_map};
@@ -24,7 +24,7 @@ const MOST_DESCRIPTION: u64 = 65_536;
 pub(crate) const MOST_FILE: u64 = 16_777_216;
 
 /// What stands behind a front, where the line begins with it.
-pub(crate) fn behind<'a>(line: &'a [u8], front: &[u8]) -> Option<&'a [u8]>
+pub fn behind<'a>(line: &'a [u8], front: &[u8]) -> Option<&'a [u8]>
     ensures { option_map (λ x. x.now) result ≡ behind front.now line.now }
 {
     if starts(line, front) {

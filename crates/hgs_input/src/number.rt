@@ -1,4 +1,4 @@
-// The lengths that a record says.
+//! The numbers that an input says.
 ghost use Rattle.std.specs.Prelude.{◌≡◌, ◌<◌, ◌+◌, ◌^◌, true, min};
 ghost use Rattle.std.specs.List.{list_all};
 ghost use Rattle.std.specs.Str.Parse.{digits_value};
@@ -21,19 +21,22 @@ fn is_number(text: &[u8]) -> bool
 // The number of these digits, of which there may be any number, or the bound where that is less.
 fn value_up_to(digits: &[u8], bound: u64) -> u64
     requires digits { list_all is_digit digits.now ≡ true }
-    requires small { bound < 2 ^ 32 }
+    requires small { bound < 2 ^ 64 }
     ensures { result ≡ min (digits_value 10 digits.now) bound }
 {
-    let mut value = 0;
+    let mut value: u64 = 0;
     for digit in digits {
-        value = (value * 10 + (*digit - b'0') as u64).min(bound);
+        let more = value
+            .saturating_mul(10)
+            .saturating_add((*digit - b'0') as u64);
+        value = more.min(bound);
     }
     value
 }
 
 /// The number that a text spells in decimal digits; each above `most` counts as the next one.
-pub(crate) fn number_up_to(text: &[u8], most: u64) -> Option<u64>
-    requires { most + 1 < 2 ^ 32 }
+pub fn number_up_to(text: &[u8], most: u64) -> Option<u64>
+    requires { most + 1 < 2 ^ 64 }
     ensures { result ≡ number_up_to most text.now }
 {
     if is_number(text) {

@@ -40,7 +40,7 @@ fn change_with(
 
 impl<'a> Input<'a> {
     /// Reads a record up to its last line, whatever stands behind it.
-    pub(crate) fn record(&mut self, alloc: Global) -> Result<NewChange, InputFault>
+    pub fn record(&mut self, alloc: Global) -> Result<NewChange, InputFault>
         ensures { Reads (λ c. c) result self.new (record_from self.old) }
     {
         let head = self.head(alloc)?;

@@ -9,6 +9,4 @@ pub mod laws;
 pub mod names;
 mod offset;
 mod print;
-#[cfg(test)]
-mod tests;
 pub mod undo;

@@ -6,7 +6,5 @@ pub mod logs;
 pub mod parent;
 pub mod small;
 pub mod store;
-#[cfg(test)]
-mod tests;
 pub mod texts;
 pub mod whole;

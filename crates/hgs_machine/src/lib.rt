@@ -6,5 +6,3 @@ pub mod ended;
 pub mod laws;
 pub mod locks;
 pub mod machine;
-#[cfg(test)]
-mod tests;

@@ -8,5 +8,3 @@ pub mod grammar;
 pub mod laws;
 pub mod name;
 pub mod print;
-#[cfg(test)]
-mod tests;

@@ -15,7 +15,5 @@ pub mod history_laws;
 pub mod laws;
 pub mod names;
 pub mod phase;
-#[cfg(test)]
-mod tests;
 
 pub use hgs_index::kinds::Flag;

@@ -30,7 +30,7 @@ or-cases : (a b : Bool) (P : Type 0) → (a ≡ true → P) → (b ≡ true → 
 or-cases true b P f g h = f refl
 or-cases false b P f g h = g h
 
-plain-front : (name tail : List ℕ) → name ≡ codes "data/" ++ tail → slice_index (spelled_name Plain name) 1 ≡ 97
+pub plain-front : (name tail : List ℕ) → name ≡ codes "data/" ++ tail → slice_index (spelled_name Plain name) 1 ≡ 97
 plain-front name tail e = ap (λ l. slice_index (spelled_name Plain l) 1) e ∙ ap (λ l. slice_index l 1) (spelled-step Plain (codes "data/" ++ tail) (codes "data", tail) refl)
 
 plain-index : (path : List ℕ) (ext : Ext) → is_plain (listed_name path ext) ≡ true → slice_index (store_name path ext) 7 ≡ 97
@@ -80,11 +80,11 @@ pub hashed-plain : (p q : List ℕ) (ext : Ext) → is_plain (listed_name p ext)
 hashed-plain p q ext h is =
     false_from_ne_true (is_plain (listed_name q ext)) (λ e. let number : ◌≡◌ {A = ℕ} 104 97 = sym (hashed-index p ext h) ∙ ap (λ l. slice_index l 7) (sym is) ∙ plain-index q ext e in absurd (omega arith))
 
-abbrev before_digits : List ℕ → List ℕ
+abbrev pub before_digits : List ℕ → List ℕ
 before_digits name =
     let parts = components (spelled_name Hashed (drop 5 name)) in codes "store/" ++ (codes "dh/" ++ short_directories parts ++ take (75 - length (short_directories parts)) (last_part parts))
 
-abbrev before_ext : List ℕ → List ℕ
+abbrev pub before_ext : List ℕ → List ℕ
 before_ext name = before_digits name ++ encode_lower (sha1 name)
 
 hashed-whole : (p : List ℕ) (ext : Ext) → is_plain (listed_name p ext) ≡ false → store_name p ext ≡ before_ext (listed_name p ext) ++ ext_text ext
@@ -172,7 +172,7 @@ bytes-of-small [] h i = omega arith
 bytes-of-small (x ∷ xs) h zero = h.0
 bytes-of-small (x ∷ xs) h (suc i) = bytes-of-small xs h.1 i
 
-digits-once : (m n : List ℕ) → encode_lower (sha1 m) ≡ encode_lower (sha1 n) → sha1 m ≡ sha1 n
+pub digits-once : (m n : List ℕ) → encode_lower (sha1 m) ≡ encode_lower (sha1 n) → sha1 m ≡ sha1 n
 digits-once m n e =
     decode_of-same (encode_lower (sha1 m)) (sha1 m) (sha1 n) (decode_of-encode_lower (sha1 m) (bytes-of-small (sha1 m) (small-sha1 m)))
     (ap decode_of e ∙ decode_of-encode_lower (sha1 n) (bytes-of-small (sha1 n) (small-sha1 n)))
@@ -180,7 +180,7 @@ digits-once m n e =
 middle-of : (a x z : List ℕ) (n k : ℕ) → length a ≡ n → length x ≡ k → take k (drop n ((a ++ x) ++ z)) ≡ x
 middle-of a x z n k before long = ap (λ l. take k (drop n l)) (append_assoc a x z) ∙ ap (take k) (drop_at a (x ++ z) n before) ∙ take_at x z k long
 
-same-end : (a b x y z : List ℕ) → length x ≡ length y → (a ++ x) ++ z ≡ (b ++ y) ++ z → x ≡ y
+pub same-end : (a b x y z : List ℕ) → length x ≡ length y → (a ++ x) ++ z ≡ (b ++ y) ++ z → x ≡ y
 same-end a b x y z long is =
     let whole = ap length is in
     let one = length-append (a ++ x) z in
@@ -190,7 +190,7 @@ same-end a b x y z long is =
     let before : length b ≡ length a = omega (arith, long, whole, one, two, three, four) in
     sym (middle-of a x z (length a) (length x) refl refl) ∙ ap (λ l. take (length x) (drop (length a) l)) is ∙ middle-of b y z (length a) (length x) before (sym long)
 
-digits-length : (m : List ℕ) → length (encode_lower (sha1 m)) ≡ 40
+pub digits-length : (m : List ℕ) → length (encode_lower (sha1 m)) ≡ 40
 digits-length m = let twice = length-encode_with lower_digits (sha1 m) in let bytes = length-sha1 m in omega (arith, twice, bytes)
 
 same-digest : (p q : List ℕ) (ext : Ext) → IsBytes p → IsBytes q → same q p ≡ false → same (store_name q ext) (store_name p ext) ≡ true → sha1 (listed_name p ext) ≡ sha1 (listed_name q ext)

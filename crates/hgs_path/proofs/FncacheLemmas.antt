@@ -1,6 +1,7 @@
 -- Names in the list and the files that have them.
 use Rattle.std.proofs.Common.{◌≡◌, ℕ, ◌+◌, ◌-◌, Bool, true, false, cond, ◌&&◌, ◌||◌, List, [], ◌∷◌, ◌++◌, length, take, drop, Option, Some, None, Result, Ok, Err, refl, sym, ap, ◌∙◌, subst, arith, length-append}
-use Rattle.std.specs.Prelude.{◌==◌, codes}
+use Rattle.std.specs.Prelude.{◌==◌, codes, IfOk}
+use Rattle.std.specs.declared.alloc.AllocError.{AllocError}
 use Rattle.std.specs.Option.{option_map}
 use Rattle.std.specs.List.{AllByRecursion, onto_first}
 use Rattle.std.proofs.lemmas.Bool.{false_from_ne_true}
@@ -24,7 +25,8 @@ use Rattle.std.specs.Cmp.Lexicographic.{slice_cmp}
 use Rattle.std.specs.Ordering.{nat_cmp, is_eq, match_ordering}
 use Rattle.hgs_files.proofs.TreeLemmas.{same_path-refl, same_path-eq}
 use Rattle.hgs_path.specs.StoreName.{ext_text, joined, ends_in, map_front, marked_directory, directory_step, listed_name}
-use Rattle.hgs_path.specs.Fncache.{with_file, with_named, as_files, listed_in}
+use Rattle.hgs_path.specs.Fncache.{as_files, listed_in, listing, with_both, with_file, with_named}
+use Rattle.hgs_path.specs.declared.fncache.Fncache.{Fncache}
 use Rattle.hgs_path.specs.ListedNames.{unmarked_directory, undone_step, inner_within, path_within, ext_within, file_named, is_listed, with_name, names_from}
 use Rattle.hgs_path.specs.Owners.{has_path}
 use Rattle.hgs_path.proofs.PartLemmas.{components-split, components-whole, components-some, listed-front}
@@ -281,3 +283,16 @@ module _ (ks ds : List (Vec ℕ Global)) (k : Vec ℕ Global) (cmp : Vec ℕ Glo
       each : (q : List ℕ) (x : Ext) → listed_in ks (insert_key cmp ds k) q x ≡ with_file (listed_in ks ds) k.items D q x
       each q I = refl
       each q D = path-inserted cmp is q k ds
+
+-- both files of a path, one after the other
+pub both-added : (files : List ℕ → Ext → Bool) (path : List ℕ) → with_file (with_file files path I) path D ≡ with_both files path
+both-added files path = by-parts (with_file (with_file files path I) path D) (with_both files path) each
+  where
+    each : (q : List ℕ) (x : Ext) → with_file (with_file files path I) path D q x ≡ with_both files path q x
+    each q I = refl
+    each q D = refl
+
+pub both-given : (r : Result Fncache AllocError) (files between : List ℕ → Ext → Bool) (path p q : List ℕ) → p ≡ path → q ≡ path → between ≡ with_file files p I → IfOk r (λ f. listing f ≡ with_file between q D) → IfOk r (λ f. listing f ≡ with_both files path)
+both-given (Err e) files between path p q first second step h = h
+both-given (Ok f) files between path p q first second step h =
+    h ∙ ap (λ x. with_file between x D) second ∙ ap (λ fs. with_file fs path D) (step ∙ ap (λ x. with_file files x I) first) ∙ both-added files path

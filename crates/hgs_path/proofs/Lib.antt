@@ -11,3 +11,4 @@ pub mod PartLemmas
 pub mod ReadNamesLemmas
 pub mod ReadableLemmas
 pub mod ShapeLemmas
+pub mod OneFileLemmas

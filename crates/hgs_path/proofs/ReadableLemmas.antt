@@ -356,7 +356,7 @@ parts-spelled name h = by (components name) (components-some name) (components-r
     by [] k raw = let e = k.2 in cc
     by (c ∷ cs) k raw = components-joined (spelled_component Plain c) (map (spelled_component Plain) cs) (components-good Plain (c ∷ cs) raw)
 
-plain-once : (a b : List ℕ) → Small a → Small b → spelled_name Plain a ≡ spelled_name Plain b → a ≡ b
+pub plain-once : (a b : List ℕ) → Small a → Small b → spelled_name Plain a ≡ spelled_name Plain b → a ≡ b
 plain-once a b ha hb e =
     let parts = map-once (components a) (components b) (components-raw a ha) (components-raw b hb) (sym (parts-spelled a ha) ∙ ap components e ∙ parts-spelled b hb) in
     sym (joined-again a) ∙ ap joined parts ∙ joined-again b

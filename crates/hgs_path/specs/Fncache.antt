@@ -49,6 +49,10 @@ abbrev pub with_named : (List ℕ → Ext → Bool) → Option (List ℕ × Ext)
 with_named files None = files
 with_named files (Some f) = with_file files f.0 f.1
 
+-- these files and both of one more path
+abbrev pub with_both : (List ℕ → Ext → Bool) → List ℕ → List ℕ → Ext → Bool
+with_both files path q ext = files q ext || same q path
+
 -- ---- clashes
 
 -- another path, with the same name for one of its two files

@@ -59,3 +59,8 @@ pub fn listed_names_name_files()
     ensures file { (path : List ℕ) (ext : Ext) → listed_file (listed_name path ext) ≡ store_name path ext }
     ensures read { (text : List ℕ) (names : List (List ℕ)) → names_of text ≡ Ok names → AllByRecursion (λ name. is_listed name ≡ true) names }
 {}
+
+/// Two names that can stand in the list name one file only where they are one, or SHA-1 gives one digest of both.
+pub fn names_of_one_file_collide()
+    ensures { (a b : List ℕ) → IsBytes a → IsBytes b → is_listed a ≡ true → is_listed b ≡ true → listed_file a ≡ listed_file b → (a ≡ b) ⊎ (sha1 a ≡ sha1 b) }
+{}

@@ -8,5 +8,3 @@ pub mod moves;
 pub mod phases;
 pub mod print;
 pub mod roots;
-#[cfg(test)]
-mod tests;

@@ -3,5 +3,3 @@
 
 pub mod damage;
 pub mod print;
-#[cfg(test)]
-mod tests;

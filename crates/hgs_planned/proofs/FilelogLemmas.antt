@@ -29,11 +29,11 @@ use Rattle.hgs_planned.proofs.Basics.{both, never, ok-is}
 use Rattle.hgs_planned.proofs.LogLemmas.{log-of}
 
 -- the list that was loaded has the names of the tree's
-listing-is : (t : Tree) (r : Repo) (l : Loaded) (s : Stands t r) → IsLoadedOf t l → listing l.fncache ≡ lists s.fncache.names
+pub listing-is : (t : Tree) (r : Repo) (l : Loaded) (s : Stands t r) → IsLoadedOf t l → listing l.fncache ≡ lists s.fncache.names
 listing-is t r l s h = ok-is {E = FncacheFault} (listing l.fncache) (lists s.fncache.names) (sym h.fncache ∙ ap as_files s.fncache.text)
 
 empty-log-of : (laws : Below) (t : Tree) (path : List ℕ) → IsLogOf t (filelog_with path empty_log) []
-empty-log-of laws t path = record { entries = laws.empty; separate = refl; texts = refl; nodes_are = refl; parents_are = refl }
+empty-log-of laws t path = record { entries = laws.empty; separate = refl; texts = refl; nodes_are = refl; different = refl; parents_are = refl }
 
 -- an index without bytes has no entries
 loaded-nothing : (log : Log) (bytes : List ℕ) → bytes ≡ [] → loaded Refuse bytes ≡ Ok log → empty_log ≡ log

@@ -40,7 +40,7 @@ text-is [] rev r e = absurd (no e)
 text-is (x ∷ revisions) zero r e = ap (λ (o : Option Revision). elim o [ None ↦ x.text | Some z ↦ z.text ]) e
 text-is (x ∷ revisions) (suc rev) r e = text-is revisions rev r e
 
-all-last : {A : Type 0} (P : A → Type 0) (xs : List A) (x : A) → AllByRecursion P (xs ++ x ∷ []) → P x
+pub all-last : {A : Type 0} (P : A → Type 0) (xs : List A) (x : A) → AllByRecursion P (xs ++ x ∷ []) → P x
 all-last P [] x all = all.0
 all-last P (y ∷ xs) x all = all-last P xs x all.1
 

@@ -39,6 +39,7 @@ log-of laws t f revisions h e = record {
   separate = laws.separate index f.log e;
   texts = subst (λ (l : Log). read_all l.entries data_bytes ≡ Ok revisions) same_log (subst (λ d. read_all again.0.entries d ≡ Ok revisions) (append-nil data_bytes) again.2);
   nodes_are = laws.entry_nodes index data_bytes f.log.entries revisions agrees;
+  different = h.different;
   parents_are = laws.entry_parents index data_bytes f.log.entries revisions agrees;
 }
   where

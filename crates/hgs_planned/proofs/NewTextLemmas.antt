@@ -1,11 +1,13 @@
 -- What a text becomes in a revlog that was loaded is what the list of its revisions has of it.
-use Rattle.std.proofs.Common.{◌≡◌, ℕ, zero, suc, ◌+◌, List, [], ◌∷◌, ◌++◌, Bool, true, false, ◌&&◌, ◌==◌, cond, length, map, nat_le, nat_lt, not, refl, sym, ◌∙◌, ap, arith}
-use Rattle.std.specs.Prelude.{◌<◌, Option, Some, None, Result, Ok, Err, slice_get, slice_index_or, unwrap_or}
+use Rattle.std.proofs.Common.{◌≡◌, ℕ, zero, suc, ◌+◌, List, [], ◌∷◌, ◌++◌, Bool, true, false, ◌&&◌, ◌==◌, cond, drop, length, map, nat_le, nat_lt, not, refl, sym, ◌∙◌, ap, subst, arith, length-append}
+use Rattle.std.specs.Prelude.{◌<◌, ◌≤◌, Option, Some, None, Result, Ok, Err, slice_get, slice_index_or, sum_by, unwrap_or}
+use Rattle.std.specs.List.{AllByRecursion}
 use Rattle.std.specs.Option.{option_map}
+use Rattle.std.proofs.lemmas.Bool.Decides.{nat_tests}
 use Rattle.std.proofs.lemmas.List.{length-map}
 use Rattle.std.proofs.lemmas.List.Quantifiers.{position-Some}
 use Rattle.std.proofs.lemmas.Option.{get_or_from_slice_get}
-use Rattle.hgs_bytes.specs.Bytes.{same}
+use Rattle.hgs_bytes.specs.Bytes.{among, same}
 use Rattle.hgs_bytes.proofs.ByteLemmas.{same-eq}
 use Rattle.hgs_files.specs.Tree.{Tree, bytes_at}
 use Rattle.hgs_index.specs.declared.entry.Entry.{Entry}
@@ -13,13 +15,14 @@ use Rattle.hgs_index.specs.declared.kinds.Which.TheVariants as limits
 use Rattle.hgs_index.specs.Entry.{entry_bytes}
 use Rattle.hgs_index.specs.Node.{node_hash, null_node}
 use Rattle.hgs_index.specs.Revision.{Parents, Revision, is_as, node_after, nodes, number_of, parent_node, same_parents, standing as standing_in, with_revision, with_revision_at}
-use Rattle.hgs_index.specs.Revlog.{chunk_of, chunk_text}
+use Rattle.hgs_index.specs.Revlog.{all_different, chunk_of, chunk_text}
 use Rattle.hgs_index.proofs.RevisionLemmas.{nodes_from-append}
 use Rattle.hgs_loading.specs.Found.{and_then}
 use Rattle.hgs_loading.specs.Logs.{chunk_at, chunk_of_rev}
 use Rattle.hgs_model.specs.History.{node_at, text_at}
 use Rattle.hgs_model.proofs.ListLemmas.{and-left, and-right, some-same}
 use Rattle.hgs_model.proofs.ListedLemmas.{length-nodes}
+use Rattle.hgs_ops.specs.Unhindered.{AreNewRevisions}
 use Rattle.hgs_reader.specs.declared.answer.ReadAnswer.{ReadAnswer}
 use Rattle.hgs_revlog.specs.declared.add.Added.{Added}
 use Rattle.hgs_revlog.specs.declared.add.Added.TheVariants.{New, Old}
@@ -30,14 +33,19 @@ use Rattle.hgs_revlog.specs.Held.{chunk_in}
 use Rattle.hgs_revlog.specs.Load.{most_data, most_revisions, most_text}
 use Rattle.hgs_revlog.specs.Log.{new_header, nodes_of, place_of, stored_sum}
 use Rattle.hgs_revlog.specs.Text.{entry_text, fitting_text, node_with, text_at as text_with, text_of}
+use Rattle.hgs_ops.proofs.GrowLemmas.{drop-front}
+use Rattle.hgs_revlog.proofs.HeldLemmas.{among_none, not_among}
 use Rattle.hgs_commit.specs.declared.growth.Became.TheVariants.{New as NewRevision}
 use Rattle.hgs_commit.specs.Obstacles.{Obstacle, collides, passes}
 use Rattle.hgs_commit.specs.Revised.{revised}
 use Rattle.hgs_commit.specs.Texts.{OfLog, OfText, new_text_in, new_text_of, revlog_answer}
+use Rattle.hgs_planned.specs.Free.{HasRoomFor}
 use Rattle.hgs_planned.specs.Logs.{IsLogOf}
 use Rattle.hgs_planned.specs.NewTexts.{IsTextOf, growth_by}
+use Rattle.hgs_planned.proofs.FreshLemmas.{fresh-push, fresh-same}
 use Rattle.hgs_planned.proofs.HashLemmas.{hash-same, position-none}
 use Rattle.hgs_planned.proofs.HistoryLemmas.{got, text-is}
+use Rattle.hgs_planned.proofs.LimitLemmas.{apart-within, different-within}
 use Rattle.hgs_planned.proofs.TextLemmas.{entry-node, entry-of, node-of}
 
 -- ---- what an entry says of its revision
@@ -155,7 +163,12 @@ module _ (t : Tree) (f : OfLog) (revisions : List Revision) (r : Revision) (is :
       let here : node ≡ node_at revisions rev = hash ∙ sym (entry-node f.log.entries rev p.entry p.there) ∙ node-of t f revisions rev is in (
         (record { node = node; standing = Some rev; growth = None }, []),
         ap answer place ∙ ap finished (found-at rev s.0 p ∙ ap (λ b. cond b (Ok (Old rev)) (Err (faults.Collision rev))) alike),
-        record { node = here ∙ ap number-with (sym e); standing = sym e; growth = λ none. ap (growth_by f r) (sym e) },
+        record {
+          node = here ∙ ap number-with (sym e);
+          standing = sym e;
+          growth = λ none. ap (growth_by f r) (sym e);
+          fresh = λ none. subst (λ (o : Option ℕ). AreNewRevisions revisions (with_revision_at o revisions r)) (sym e) (fresh-same t f revisions is);
+        },
       )
 
   module _ (e : standing_in revisions r.text r.parents ≡ None) where
@@ -163,29 +176,39 @@ module _ (t : Tree) (f : OfLog) (revisions : List Revision) (r : Revision) (is :
     here = ap (λ (known : List (List ℕ)). node_after known r) is.nodes_are ∙ sym (last-node revisions r) ∙ ap number-with (sym e)
 
     hindered : (o : Obstacle) → IsTextOf f revisions r (record { node = node; standing = None; growth = None }, o ∷ [])
-    hindered o = record { node = here; standing = sym e; growth = λ none. absurd (no none) }
+    hindered o = record { node = here; standing = sym e; growth = λ none. absurd (no none); fresh = λ none. absurd (no none) }
       where
         no : ◌≡◌ {A = List Obstacle} (o ∷ []) [] → ⊥
         no h = cc
 
-    appended : IsTextOf f revisions r (new_text_of f (record { node = (next_entry f.log.entries r).node; became = NewRevision (entry_bytes (next_entry f.log.entries r) (new_header f.log)) (chunk_of r.text) }))
-    appended = record { node = here; standing = sym e; growth = by (same null_node node) }
-      where
-        by : (b : Bool) → (let os : List Obstacle = cond b (collides f.index (length f.log.entries) ∷ []) [] in os) ≡ [] → cond b None (growth_by f r None) ≡ growth_by f r (standing_in revisions r.text r.parents)
-        by false none = ap (growth_by f r) (sym e)
-        by true none = absurd (no none)
-          where
-            no : ◌≡◌ {A = List Obstacle} (collides f.index (length f.log.entries) ∷ []) [] → ⊥
-            no h = cc
+    node-is : node ≡ node_after (nodes revisions) r
+    node-is = ap (λ (known : List (List ℕ)). node_after known r) is.nodes_are
 
-    limited : (a b c : Bool) → Becomes (finished (cond a (Err (faults.Limit limits.Changesets)) (cond b (Err (faults.Limit limits.Text)) (cond c (Err (faults.Limit limits.Data)) (Ok (New (entry_bytes (next_entry f.log.entries r) (new_header f.log)) (chunk_of r.text) (next_entry f.log.entries r).node))))))
-    limited true b c = ((record { node = node; standing = None; growth = None }, passes limits.Changesets ∷ []), refl, hindered (passes limits.Changesets))
-    limited false true c = ((record { node = node; standing = None; growth = None }, passes limits.Text ∷ []), refl, hindered (passes limits.Text))
-    limited false false true = ((record { node = node; standing = None; growth = None }, passes limits.Data ∷ []), refl, hindered (passes limits.Data))
-    limited false false false = (new_text_of f (record { node = (next_entry f.log.entries r).node; became = NewRevision (entry_bytes (next_entry f.log.entries r) (new_header f.log)) (chunk_of r.text) }), refl, appended)
+    not-null : (b : Bool) → (let os : List Obstacle = cond b (collides f.index (length f.log.entries) ∷ []) [] in os) ≡ [] → b ≡ false
+    not-null false none = refl
+    not-null true none = absurd (no none)
+      where
+        no : ◌≡◌ {A = List Obstacle} (collides f.index (length f.log.entries) ∷ []) [] → ⊥
+        no h = cc
+
+    appended : place_of f.log.entries node ≡ None → nat_lt most_text (length r.text) ≡ false
+        → IsTextOf f revisions r (new_text_of f (record { node = (next_entry f.log.entries r).node; became = NewRevision (entry_bytes (next_entry f.log.entries r) (new_header f.log)) (chunk_of r.text) }))
+    appended place fits = record {
+      node = here;
+      standing = sym e;
+      growth = λ none. ap (λ b. cond b None (growth_by f r None)) (not-null (same null_node node) none) ∙ ap (growth_by f r) (sym e);
+      fresh = λ none. subst (λ (o : Option ℕ). AreNewRevisions revisions (with_revision_at o revisions r)) (sym e)
+          (fresh-push t f revisions r is fits (ap (λ n. among n (nodes revisions)) (sym node-is) ∙ ap (among node) (sym is.nodes_are) ∙ not_among f.log.entries node place) (ap (same null_node) (sym node-is) ∙ not-null (same null_node node) none));
+    }
+
+    limited : place_of f.log.entries node ≡ None → (a b c : Bool) → nat_lt most_text (length r.text) ≡ b → Becomes (finished (cond a (Err (faults.Limit limits.Changesets)) (cond b (Err (faults.Limit limits.Text)) (cond c (Err (faults.Limit limits.Data)) (Ok (New (entry_bytes (next_entry f.log.entries r) (new_header f.log)) (chunk_of r.text) (next_entry f.log.entries r).node))))))
+    limited g true b c fits = ((record { node = node; standing = None; growth = None }, passes limits.Changesets ∷ []), refl, hindered (passes limits.Changesets))
+    limited g false true c fits = ((record { node = node; standing = None; growth = None }, passes limits.Text ∷ []), refl, hindered (passes limits.Text))
+    limited g false false true fits = ((record { node = node; standing = None; growth = None }, passes limits.Data ∷ []), refl, hindered (passes limits.Data))
+    limited g false false false fits = (new_text_of f (record { node = (next_entry f.log.entries r).node; became = NewRevision (entry_bytes (next_entry f.log.entries r) (new_header f.log)) (chunk_of r.text) }), refl, appended g fits)
 
     at-place : (place : Option ℕ) → place_of f.log.entries node ≡ place → Becomes (answer place)
-    at-place None g = limited (nat_le most_revisions (length f.log.entries)) (nat_lt most_text (length r.text)) (nat_lt most_data (stored_sum f.log.entries + length (chunk_of r.text)))
+    at-place None g = limited g (nat_le most_revisions (length f.log.entries)) (nat_lt most_text (length r.text)) (nat_lt most_data (stored_sum f.log.entries + length (chunk_of r.text))) refl
     at-place (Some rev) g =
         let low : rev < length revisions = omega (arith, (position-Some (λ (x : Entry). same x.node.0 node) f.log.entries rev (next_entry f.log.entries r) g).0, length-map f.log.entries (λ (x : Entry). x.node.0), ap length is.nodes_are, length-nodes revisions) in
         let s = got revisions rev low in
@@ -204,3 +227,69 @@ module _ (t : Tree) (f : OfLog) (revisions : List Revision) (r : Revision) (is :
 
 pub text-of : (t : Tree) (f : OfLog) (revisions : List Revision) (r : Revision) → IsLogOf t f revisions → (x : OfText × List Obstacle) × (new_text_in f r t ≡ Ok x) × IsTextOf f revisions r x
 text-of t f revisions r is = becomes t f revisions r is (standing_in revisions r.text r.parents) refl
+
+-- ---- where nothing keeps it from being written
+
+sum-one : (f : Revision → ℕ) (revisions : List Revision) (r : Revision) → revisions ≡ r ∷ [] → sum_by f revisions ≡ f r
+sum-one f revisions r e = ap (sum_by f) e ∙ omega arith
+
+module _ (t : Tree) (f : OfLog) (revisions : List Revision) (r : Revision) (is : IsLogOf t f revisions) (whole : length (bytes_at t f.chunks) ≡ stored_sum f.log.entries) where
+  abbrev new-node : List ℕ
+  new-node = (next_entry f.log.entries r).node.0
+
+  -- where the revision is new
+  new-free : HasRoomFor t f.chunks revisions (revisions ++ r ∷ []) → (x : OfText × List Obstacle) → new_text_in f r t ≡ Ok x → x.1 ≡ []
+  new-free room x given = ap (λ (z : OfText × List Obstacle). z.1) (sym (ok-text made x (sym plain ∙ given))) ∙ ap (λ b. let os : List Obstacle = cond b (collides f.index (length f.log.entries) ∷ []) [] in os) not-null
+    where
+      ok-text : (a b : OfText × List Obstacle) → (let y : Result (OfText × List Obstacle) ReadAnswer = Ok a in y) ≡ Ok b → a ≡ b
+      ok-text a b h = cc
+
+      node-after : (next_entry f.log.entries r).node.0 ≡ node_after (nodes revisions) r
+      node-after = ap (λ (known : List (List ℕ)). node_after known r) is.nodes_are
+
+      with-it : nodes (revisions ++ r ∷ []) ≡ nodes revisions ++ node_after (nodes revisions) r ∷ []
+      with-it = nodes_from-append [] revisions (r ∷ [])
+
+      no-place : place_of f.log.entries (next_entry f.log.entries r).node.0 ≡ None
+      no-place = among_none f.log.entries (next_entry f.log.entries r).node.0
+          (ap (among (next_entry f.log.entries r).node.0) is.nodes_are ∙ ap (λ n. among n (nodes revisions)) node-after ∙ different-within (node_after (nodes revisions) r) (nodes revisions) [] (ap all_different (sym with-it) ∙ room.new.different))
+
+      not-null : same null_node (next_entry f.log.entries r).node.0 ≡ false
+      not-null = ap (same null_node) node-after ∙ apart-within null_node (node_after (nodes revisions) r) (nodes revisions) [] (ap (among null_node) (sym with-it) ∙ room.new.not_null)
+
+      count : length f.log.entries ≡ length revisions
+      count = omega (arith, length-map f.log.entries (λ (x : Entry). x.node.0), ap length is.nodes_are, length-nodes revisions)
+
+      few : nat_le most_revisions (length f.log.entries) ≡ false
+      few = below (length f.log.entries) (let most = room.few in omega (arith, most, count, length-append revisions (r ∷ [])))
+        where
+          below : (k : ℕ) → k < most_revisions → nat_le most_revisions k ≡ false
+          below k lt = grind (arith, nat_tests)
+
+      within : (most k : ℕ) → k ≤ most → nat_lt most k ≡ false
+      within most k le = grind (arith, nat_tests)
+
+      text : nat_lt most_text (length r.text) ≡ false
+      text = within most_text (length r.text) (subst (AllByRecursion (λ (x : Revision). length x.text ≤ most_text)) (drop-front revisions (r ∷ [])) room.new.texts).0
+
+      end : nat_lt most_data (stored_sum f.log.entries + length (chunk_of r.text)) ≡ false
+      end = within most_data (stored_sum f.log.entries + length (chunk_of r.text)) (let most = room.data_end in let one = sum-one (λ (x : Revision). length (chunk_of x.text)) (drop (length revisions) (revisions ++ r ∷ [])) r (drop-front revisions (r ∷ [])) in omega (arith, most, one, whole))
+
+      made : OfText × List Obstacle
+      made = new_text_of f (record { node = (next_entry f.log.entries r).node; became = NewRevision (entry_bytes (next_entry f.log.entries r) (new_header f.log)) (chunk_of r.text) })
+
+      plain : new_text_in f r t ≡ Ok made
+      plain =
+          ap (answer t f revisions r is) no-place
+          ∙ (let a = few in let b = text in let c = end in λ i. finished t f revisions r is (cond (a i) (Err (faults.Limit limits.Changesets)) (cond (b i) (Err (faults.Limit limits.Text)) (cond (c i) (Err (faults.Limit limits.Data)) (Ok (New (entry_bytes (next_entry f.log.entries r) (new_header f.log)) (chunk_of r.text) (next_entry f.log.entries r).node))))))
+
+  pub text-free : HasRoomFor t f.chunks revisions (with_revision revisions r) → (x : OfText × List Obstacle) → new_text_in f r t ≡ Ok x → x.1 ≡ []
+  unfolding when-standing
+  text-free room x given = by (standing_in revisions r.text r.parents) refl
+    where
+      by : (o : Option ℕ) → standing_in revisions r.text r.parents ≡ o → x.1 ≡ []
+      by (Some rev) e = let y = when-standing t f revisions r is rev e in ap (λ (z : OfText × List Obstacle). z.1) (sym (ok-text y.0 x (sym y.1 ∙ given)))
+        where
+          ok-text : (a b : OfText × List Obstacle) → (let z : Result (OfText × List Obstacle) ReadAnswer = Ok a in z) ≡ Ok b → a ≡ b
+          ok-text a b h = cc
+      by None e = new-free (subst (λ (o : Option ℕ). HasRoomFor t f.chunks revisions (with_revision_at o revisions r)) e room) x given

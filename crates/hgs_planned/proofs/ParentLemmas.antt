@@ -1,5 +1,5 @@
 -- The files that are read of a commit's parents are those of the repository's changesets.
-use Rattle.std.proofs.Common.{◌≡◌, ℕ, List, [], Bool, true, false, cond, length, map, nat_lt, take, sym, ◌∙◌, ap, arith}
+use Rattle.std.proofs.Common.{◌≡◌, ℕ, List, [], Bool, true, false, cond, length, map, nat_lt, take, refl, sym, ◌∙◌, ap, subst, arith}
 use Rattle.std.specs.Prelude.{◌<◌, Option, Some, None, IfSome, Result, Ok, Err}
 use Rattle.hgs_bytes.specs.Bytes.{among, same}
 use Rattle.hgs_files.specs.Tree.{Tree}
@@ -32,7 +32,7 @@ use Rattle.hgs_commit.specs.Changeset.{of_changelog, of_manifest}
 use Rattle.hgs_commit.specs.Commit.{parent_files}
 use Rattle.hgs_planned.specs.Files.{files_at}
 use Rattle.hgs_planned.specs.Logs.{IsLogOf}
-use Rattle.hgs_planned.proofs.Basics.{ok-is}
+use Rattle.hgs_planned.proofs.Basics.{IsLimited, ok-is}
 use Rattle.hgs_planned.proofs.HistoryLemmas.{IsAddedAt, added, below-found, got, index-is, rows-are, text-is}
 use Rattle.hgs_planned.proofs.TextLemmas.{place-of, text-in}
 
@@ -97,6 +97,25 @@ module _ (t : Tree) (l : Loaded) (before k : History) (rev : ℕ) (c : Changeset
   files-read files e =
       let read = ap (λ (x : Result Change ReadAnswer). and_then x (λ y. rows_in manifest_data entries y.manifest t)) change-read in
       sym (within files (nat_lt most_files (length (rows_of before c))) (sym rows-read ∙ sym read ∙ e)) ∙ sym placed
+
+  -- they are, where they are not too many
+  pub files-there : nat_lt most_files (length (rows_of before c)) ≡ false → (files : Files) × (parent_files l (Some rev) t ≡ Ok files)
+  unfolding entries change
+  files-there few = (
+    (Some number, rows_of before c),
+    ap (λ (x : Result Change ReadAnswer). and_then x (λ y. rows_in manifest_data entries y.manifest t)) change-read ∙ rows-read
+        ∙ ap (λ b. and_then (let a : Result (List Row) ReadAnswer = cond b (Err (Limit TreeLimit)) (Ok (rows_of before c)) in a) (λ rows. Ok (Some number, rows))) few,
+  )
+
+  -- they are refused only where they are too many
+  pub files-limited : IsLimited (parent_files l (Some rev) t)
+  unfolding entries change
+  files-limited =
+      subst (λ (x : Result Files ReadAnswer). IsLimited x) (sym (ap (λ (x : Result Change ReadAnswer). and_then x (λ y. rows_in manifest_data entries y.manifest t)) change-read ∙ rows-read)) (by (nat_lt most_files (length (rows_of before c))))
+    where
+      by : (b : Bool) → IsLimited {A = Files} (and_then (let a : Result (List Row) ReadAnswer = cond b (Err (Limit TreeLimit)) (Ok (rows_of before c)) in a) (λ rows. Ok (Some number, rows)))
+      by true = (TreeLimit, refl)
+      by false = tt
 
 -- ---- a parent
 

@@ -66,16 +66,20 @@ module _ (laws : Below) (t : Tree) (r : Repo) (l : Loaded) (s : Stands t r) (loa
   abbrev node-by : Option ℕ → List ℕ
   node-by o = node_at (cond (is_some o) log (with_revision log (file_revision h c g))) (unwrap_or o (number_of log (file_text g) both_parents))
 
+  -- its filelog in the repository with the changeset
+  pub filelog-is : (o : Option ℕ) → kept h parents file.path file.body ≡ o → find (λ (x : TreeFile). same x.path g.path) c.tree ≡ Some g → filelog_with h c g.path ≡ cond (is_some o) log (with_revision log (file_revision h c g))
+  filelog-is o k found = ap (λ x. log_with_file h c x log) found ∙ ap (λ x. cond (is_some x) log (with_revision log (file_revision h c g))) k
+
   model-node : (o : Option ℕ) → kept h parents file.path file.body ≡ o → find (λ (x : TreeFile). same x.path g.path) c.tree ≡ Some g → node-by o ≡ node_at (filelog_with h c g.path) (rev_of_file h c g)
   model-node o k found = sym (λ i. node_at (logs i) (number i))
     where
       logs : filelog_with h c g.path ≡ cond (is_some o) log (with_revision log (file_revision h c g))
-      logs = ap (λ x. log_with_file h c x log) found ∙ ap (λ x. cond (is_some x) log (with_revision log (file_revision h c g))) k
+      logs = filelog-is o k found
 
       number : rev_of_file h c g ≡ unwrap_or o (number_of log (file_text g) both_parents)
       number = ap (λ x. unwrap_or x (number_of log (file_text g) both_parents)) k
 
-  new-revision : kept h parents file.path file.body ≡ None → (let x : Revision = record { text = plain_prefix file.body ++ file.body; parents = both_parents; link = link } in x) ≡ file_revision h c g
+  pub new-revision : kept h parents file.path file.body ≡ None → (let x : Revision = record { text = plain_prefix file.body ++ file.body; parents = both_parents; link = link } in x) ≡ file_revision h c g
   new-revision k =
       let text = ap (λ o. new_prefix h parents file o ++ file.body) (sym k) in
       λ i. record { text = text i; parents = both_parents; link = linked i }
@@ -100,8 +104,10 @@ module _ (laws : Below) (t : Tree) (r : Repo) (l : Loaded) (s : Stands t r) (loa
       let made : OfFile × List Obstacle = (record { row = row_with file a.0.0.node; changed = true; growth = a.0.0.growth; new = length f.log.entries == 0 }, b.0 ++ a.0.1) in
       subst (λ (z : OfFile × List Obstacle). IsFileOf h c g z.0) (ok-is {E = ReadAnswer} made x b.2) (with-row made a.0.0.node None k found refl node refl)
 
-  pub file-of : (x : OfFile × List Obstacle) → find (λ (y : TreeFile). same y.path g.path) c.tree ≡ Some g → file_in (listing l.fncache) link file (told_at h parents.0 file.path) (told_at h parents.1 file.path) t ≡ Ok x → IsFileOf h c g x.0
-  file-of x found e =
+  -- its filelog as it is loaded, and what it becomes by the revision that is kept
+  pub file-steps : (x : OfFile × List Obstacle) → file_in (listing l.fncache) link file (told_at h parents.0 file.path) (told_at h parents.1 file.path) t ≡ Ok x
+      → (f : OfLog) × (filelog_in (listing l.fncache) file.path t ≡ Ok f) × IsLogOf t f log × (file_with f file old both_parents link (kept h parents file.path file.body) t ≡ Ok x)
+  file-steps x e =
       let first = told_at h parents.0 file.path in
       let second = told_at h parents.1 file.path in
       let a = both (filelog_in (listing l.fncache) file.path t) (λ f. and_then (parents_by f first second) (λ ps. file_on f file (first_of first second) ps link t)) x e in
@@ -109,4 +115,7 @@ module _ (laws : Below) (t : Tree) (r : Repo) (l : Loaded) (s : Stands t r) (loa
       let sound_is = sound r s.repository in
       let ps = ap (λ (z : Result Parents ReadAnswer). and_then z (λ p. file_on a.0 file old p link t)) (parents-of t h a.0 parents file.path sound_is is) in
       let stays = ap (λ (z : Result (Option ℕ) ReadAnswer). and_then z (λ rev. file_with a.0 file old both_parents link rev t)) (kept-is t a.0 log both_parents.0 both_parents.1 file.body is (file-revision-below h parents file.path sound_is).first) in
-      file-by a.0 x is found (kept h parents file.path file.body) refl (sym stays ∙ sym ps ∙ a.2)
+      (a.0, a.1, is, sym stays ∙ sym ps ∙ a.2)
+
+  pub file-of : (x : OfFile × List Obstacle) → find (λ (y : TreeFile). same y.path g.path) c.tree ≡ Some g → file_in (listing l.fncache) link file (told_at h parents.0 file.path) (told_at h parents.1 file.path) t ≡ Ok x → IsFileOf h c g x.0
+  file-of x found e = let a = file-steps x e in file-by a.0 x a.2 found (kept h parents file.path file.body) refl a.3

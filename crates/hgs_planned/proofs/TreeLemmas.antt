@@ -8,6 +8,7 @@ use Rattle.hgs_files.specs.Tree.{Tree}
 use Rattle.hgs_index.specs.Manifest.{Row}
 use Rattle.hgs_index.specs.Revision.{Parents, Revision}
 use Rattle.hgs_loading.specs.Found.{and_then}
+use Rattle.hgs_loading.specs.Parent.{Files}
 use Rattle.hgs_manifest.specs.Held.{found_in}
 use Rattle.hgs_model.specs.History.{History, Placed, changed_paths, filelog_with, history, in_order, is_changed, manifest_parents_of, placed_at, rev_of_file, row_of}
 use Rattle.hgs_model.specs.Repo.{Changeset, Repo, TreeFile, tree_paths}
@@ -100,7 +101,7 @@ tree-of h parents n xs all = record { rows = rows-of h c c.tree xs all; changed 
 
 -- ---- the tree of a commit
 
-new-paths-are : (h : History) (parents : Parents) (files : List NewFile) → tree_paths (map (new_file h parents) files) ≡ new_paths files
+pub new-paths-are : (h : History) (parents : Parents) (files : List NewFile) → tree_paths (map (new_file h parents) files) ≡ new_paths files
 new-paths-are h parents [] = refl
 new-paths-are h parents (f ∷ files) = ap (λ l. f.path ∷ l) (new-paths-are h parents files)
 
@@ -126,14 +127,23 @@ module _ (laws : Below) (t : Tree) (r : Repo) (l : Loaded) (s : Stands t r) (loa
       subst (λ (y : OfFiles). AllZip (IsFileOf h c) (map (new_file h parents) (f ∷ files)) y.0) (ok-is {E = ReadAnswer} (with_first a.0 b.0) xs b.2)
       (file-of laws t r l s loads n parents link linked f a.0 found.0 (sym told ∙ a.1), all-of files b.0 found.1 b.1)
 
-pub grown-of : (laws : Below) (t : Tree) (r : Repo) (l : Loaded) (s : Stands t r) (loads : IsLoadedOf t l) → IsLogOf t (of_changelog l.changelog) (history r.changesets).changelog → IsLogOf t (of_manifest l.manifest) (history r.changesets).manifest → (n : NewChange) (parents : Parents) (y : (OfGrown × Parents) × List Obstacle) → ascends (new_paths n.files) ≡ true
-    → IfSome parents.0 (λ rev. rev < length r.changesets) → IfSome parents.1 (λ rev. rev < length r.changesets) → grown_in l n parents t ≡ Ok y → IsTreeOf (history r.changesets) (new_changeset (history r.changesets) parents n) y.0
-grown-of laws t r l s loads changelog manifest n parents y ordered low_first low_second e =
+-- what is worked out of the files of two parents and of those of the commit
+abbrev pub shown_of : Files → Files → OfFiles → (OfGrown × Parents) × List Obstacle
+shown_of first second files = ((grown_of first.1 second.1 files.0, manifest_parents_of first.0 second.0), files.1)
+
+-- The trees that were read, of which the parents' are those of the repository.
+pub record AreTrees (t : Tree) (r : Repo) (l : Loaded) (n : NewChange) (parents : Parents) (y : (OfGrown × Parents) × List Obstacle) : Type 0 where
+  pub trees : OfTrees
+  pub read : trees_in l n parents t ≡ Ok trees
+  pub files : all_files_in (listing l.fncache) (length l.changelog.entries) (files_at (history r.changesets) parents.0).1 (files_at (history r.changesets) parents.1).1 n.files t ≡ Ok trees.files
+  pub grown : shown_of (files_at (history r.changesets) parents.0) (files_at (history r.changesets) parents.1) trees.files ≡ y
+
+pub trees-of : (t : Tree) (r : Repo) (l : Loaded) (s : Stands t r) → IsLogOf t (of_changelog l.changelog) (history r.changesets).changelog → IsLogOf t (of_manifest l.manifest) (history r.changesets).manifest → (n : NewChange) (parents : Parents) (y : (OfGrown × Parents) × List Obstacle)
+    → IfSome parents.0 (λ rev. rev < length r.changesets) → IfSome parents.1 (λ rev. rev < length r.changesets) → grown_in l n parents t ≡ Ok y → AreTrees t r l n parents y
+trees-of t r l s changelog manifest n parents y low_first low_second e =
     let h = history r.changesets in
-    let c = new_changeset h parents n in
     let lists = listing l.fncache in
     let link = length l.changelog.entries in
-    let linked : link ≡ length h.placed = omega (arith, length-map l.changelog.entries (λ (x : Entry). x.node.0), ap length changelog.nodes_are, length-nodes h.changelog, count r.changesets s.repository.changesets, length-placed r.changesets) in
     let x = both (trees_in l n parents t) (λ z. Ok ((grown_of z.first.1 z.second.1 z.files.0, manifests_of z), z.files.1)) y e in
     let a = both (parent_files l parents.0 t) (λ first. and_then (parent_files l parents.1 t) (λ second. and_then (all_files_in lists link first.1 second.1 n.files t) (λ files. Ok (record { first = first; second = second; files = files })))) x.0 x.1 in
     let b = both (parent_files l parents.1 t) (λ second. and_then (all_files_in lists link a.0.1 second.1 n.files t) (λ files. Ok (record { first = a.0; second = second; files = files }))) x.0 a.2 in
@@ -141,11 +151,29 @@ grown-of laws t r l s loads changelog manifest n parents y ordered low_first low
     let one = parent-files t r l parents.0 a.0 s changelog manifest low_first a.1 in
     let two = parent-files t r l parents.1 b.0 s changelog manifest low_second b.1 in
     let made : OfTrees = record { first = a.0; second = b.0; files = d.0 } in
-    let files : all_files_in lists link a.0.1 b.0.1 n.files t ≡ all_files_in lists link (files_at h parents.0).1 (files_at h parents.1).1 n.files t = λ i. all_files_in lists link (one i).1 (two i).1 n.files t in
-    let found = found-self c.tree (ap ascends (new-paths-are h parents n.files) ∙ ordered) in
-    let all = all-of laws t r l s loads n parents link linked n.files d.0 found (sym files ∙ d.1) in
-    let whole : (let z : OfGrown × Parents = (grown_of a.0.1 b.0.1 d.0.0, manifest_parents_of a.0.0 b.0.0) in z) ≡ (grown_of (files_at h parents.0).1 (files_at h parents.1).1 d.0.0, manifest_parents_of (files_at h parents.0).0 (files_at h parents.1).0) =
-    λ i. (grown_of (one i).1 (two i).1 d.0.0, manifest_parents_of (one i).0 (two i).0) in
     let trees : made ≡ x.0 = ok-is {E = ReadAnswer} made x.0 d.2 in
-    let given : (let z : (OfGrown × Parents) × List Obstacle = ((grown_of x.0.first.1 x.0.second.1 x.0.files.0, manifests_of x.0), x.0.files.1) in z) ≡ y = ok-is {E = ReadAnswer} ((grown_of x.0.first.1 x.0.second.1 x.0.files.0, manifests_of x.0), x.0.files.1) y x.2 in
-    subst (IsTreeOf h c) (sym whole ∙ ap (λ (z : OfTrees). (grown_of z.first.1 z.second.1 z.files.0, manifests_of z)) trees ∙ ap (λ (z : (OfGrown × Parents) × List Obstacle). z.0) given) (tree-of h parents n d.0.0 all)
+    let files : all_files_in lists link (files_at h parents.0).1 (files_at h parents.1).1 n.files t ≡ all_files_in lists link a.0.1 b.0.1 n.files t = sym (λ i. all_files_in lists link (one i).1 (two i).1 n.files t) in
+    let given : shown_of x.0.first x.0.second x.0.files ≡ y = ok-is {E = ReadAnswer} (shown_of x.0.first x.0.second x.0.files) y x.2 in
+    record {
+      trees = x.0;
+      read = x.1;
+      files = files ∙ d.1 ∙ ap (λ (z : OfTrees). Ok z.files) trees;
+      grown = ap (λ (z : Files). shown_of z (files_at h parents.1) x.0.files) (sym one ∙ ap (λ (z : OfTrees). z.first) trees) ∙ ap (λ (z : Files). shown_of x.0.first z x.0.files) (sym two ∙ ap (λ (z : OfTrees). z.second) trees) ∙ given;
+    }
+
+-- the changeset's link is its number
+pub link-is : (t : Tree) (r : Repo) (l : Loaded) → Stands t r → IsLogOf t (of_changelog l.changelog) (history r.changesets).changelog → length l.changelog.entries ≡ length (history r.changesets).placed
+link-is t r l s changelog = omega (arith, length-map l.changelog.entries (λ (x : Entry). x.node.0), ap length changelog.nodes_are, length-nodes (history r.changesets).changelog, count r.changesets s.repository.changesets, length-placed r.changesets)
+
+-- each file of the changeset is found by its path
+pub found-files : (h : History) (n : NewChange) (parents : Parents) → ascends (new_paths n.files) ≡ true
+    → AllByRecursion (λ (g : TreeFile). find (λ (x : TreeFile). same x.path g.path) (new_changeset h parents n).tree ≡ Some g) (new_changeset h parents n).tree
+found-files h n parents ordered = found-self (new_changeset h parents n).tree (ap ascends (new-paths-are h parents n.files) ∙ ordered)
+
+pub grown-of : (laws : Below) (t : Tree) (r : Repo) (l : Loaded) (s : Stands t r) (loads : IsLoadedOf t l) → IsLogOf t (of_changelog l.changelog) (history r.changesets).changelog → IsLogOf t (of_manifest l.manifest) (history r.changesets).manifest → (n : NewChange) (parents : Parents) (y : (OfGrown × Parents) × List Obstacle) → ascends (new_paths n.files) ≡ true
+    → IfSome parents.0 (λ rev. rev < length r.changesets) → IfSome parents.1 (λ rev. rev < length r.changesets) → grown_in l n parents t ≡ Ok y → IsTreeOf (history r.changesets) (new_changeset (history r.changesets) parents n) y.0
+grown-of laws t r l s loads changelog manifest n parents y ordered low_first low_second e =
+    let h = history r.changesets in
+    let x = trees-of t r l s changelog manifest n parents y low_first low_second e in
+    let all = all-of laws t r l s loads n parents (length l.changelog.entries) (link-is t r l s changelog) n.files x.trees.files (found-files h n parents ordered) x.files in
+    subst (IsTreeOf h (new_changeset h parents n)) (ap (λ (z : (OfGrown × Parents) × List Obstacle). z.0) x.grown) (tree-of h parents n x.trees.files.0 all)

@@ -1,8 +1,8 @@
 -- The manifest and the changeset of a commit are those of the repository's next changeset.
-use Rattle.std.proofs.Common.{◌≡◌, ℕ, List, [], ◌∷◌, ◌++◌, length, refl, sym, ◌∙◌, ap, arith}
+use Rattle.std.proofs.Common.{◌≡◌, ℕ, List, [], ◌∷◌, ◌++◌, length, refl, sym, ◌∙◌, ap, subst, arith}
 use Rattle.std.specs.Prelude.{Ok}
 use Rattle.std.proofs.lemmas.List.{length-map}
-use Rattle.hgs_files.specs.Tree.{Tree}
+use Rattle.hgs_files.specs.Tree.{Tree, bytes_at}
 use Rattle.hgs_index.specs.ChangeText.{change_text}
 use Rattle.hgs_index.specs.Manifest.{manifest_text}
 use Rattle.hgs_index.specs.Revision.{Parents, Revision, number_of, standing as standing_in, with_revision}
@@ -15,7 +15,9 @@ use Rattle.hgs_model.specs.declared.command.NewChange.{NewChange}
 use Rattle.hgs_model.proofs.CountLemmas.{length-placed}
 use Rattle.hgs_model.proofs.HeldLemmas.{count}
 use Rattle.hgs_model.proofs.ListedLemmas.{length-nodes}
+use Rattle.hgs_ops.specs.Unhindered.{AreNewRevisions}
 use Rattle.hgs_reader.specs.declared.answer.ReadAnswer.{ReadAnswer}
+use Rattle.hgs_revlog.specs.Log.{stored_sum}
 use Rattle.hgs_stands.specs.Stands.{Stands}
 use Rattle.hgs_steps.specs.declared.loaded.Loaded.{Loaded}
 use Rattle.hgs_commit.specs.Changeset.{change_of, changeset_in, manifest_in, of_changelog, of_manifest}
@@ -23,25 +25,26 @@ use Rattle.hgs_commit.specs.Commit.{OfTexts, texts_in}
 use Rattle.hgs_commit.specs.Obstacles.{Obstacle}
 use Rattle.hgs_commit.specs.Texts.{OfText}
 use Rattle.hgs_commit.specs.Trees.{OfGrown}
+use Rattle.hgs_planned.specs.Free.{HasRoomFor}
 use Rattle.hgs_planned.specs.Logs.{IsLogOf}
 use Rattle.hgs_planned.specs.NewTexts.{growth_by}
 use Rattle.hgs_planned.specs.Trees.{AreTextsOf, IsTreeOf}
 use Rattle.hgs_planned.proofs.Basics.{both, ok-is}
-use Rattle.hgs_planned.proofs.NewTextLemmas.{text-of}
+use Rattle.hgs_planned.proofs.NewTextLemmas.{text-free, text-of}
 
 -- the changelog has as many entries as there are changesets
 pub counted : (t : Tree) (r : Repo) (l : Loaded) → Stands t r → IsLogOf t (of_changelog l.changelog) (history r.changesets).changelog → length l.changelog.entries ≡ length (history r.changesets).placed
 counted t r l s changelog =
     omega (arith, length-map l.changelog.entries (λ (x : Entry). x.node.0), ap length changelog.nodes_are, length-nodes (history r.changesets).changelog, count r.changesets s.repository.changesets, length-placed r.changesets)
 
-none-left : {A : Type 0} (xs ys : List A) → xs ++ ys ≡ [] → xs ≡ []
+pub none-left : {A : Type 0} (xs ys : List A) → xs ++ ys ≡ [] → xs ≡ []
 none-left [] ys e = refl
 none-left {A} (x ∷ xs) ys e = absurd (no e)
   where
     no : ◌≡◌ {A = List A} (x ∷ xs ++ ys) [] → ⊥
     no h = cc
 
-none-right : {A : Type 0} (xs ys : List A) → xs ++ ys ≡ [] → ys ≡ []
+pub none-right : {A : Type 0} (xs ys : List A) → xs ++ ys ≡ [] → ys ≡ []
 none-right [] ys e = e
 none-right {A} (x ∷ xs) ys e = absurd (no e)
   where
@@ -95,4 +98,22 @@ module _ (t : Tree) (r : Repo) (l : Loaded) (s : Stands t r) (changelog : IsLogO
             ∙ z.2.growth (ap (λ (w : OfText × List Obstacle). w.1) z_is ∙ none-right a.0.1 b.0.1 (plain none)) ∙ ap (λ (w : Revision). growth_by (of_changelog l.changelog) w (standing_in h.changelog w.text w.parents)) same_asked;
         manifest = λ none. ap (λ (w : OfTexts × List Obstacle). w.0.manifest) (sym made_is) ∙ ap (λ (w : OfText × List Obstacle). w.0.growth) (sym m_is)
             ∙ m.2.growth (ap (λ (w : OfText × List Obstacle). w.1) m_is ∙ none-left a.0.1 b.0.1 (plain none)) ∙ ap (λ (w : Revision). growth_by (of_manifest l.manifest) w (standing_in h.manifest w.text w.parents)) manifest-is;
+        changesets_fresh = λ none. subst (λ (w : Revision). AreNewRevisions h.changelog (with_revision h.changelog w)) same_asked (z.2.fresh (ap (λ (w : OfText × List Obstacle). w.1) z_is ∙ none-right a.0.1 b.0.1 (plain none)));
+        manifests_fresh = λ none. subst (λ (w : Revision). AreNewRevisions h.manifest (with_revision h.manifest w)) manifest-is (m.2.fresh (ap (λ (w : OfText × List Obstacle). w.1) m_is ∙ none-left a.0.1 b.0.1 (plain none)));
       }
+
+  -- with room for both nothing keeps them from being written
+  pub texts-free : length (bytes_at t (of_manifest l.manifest).chunks) ≡ stored_sum l.manifest.entries → length (bytes_at t (of_changelog l.changelog).chunks) ≡ stored_sum l.changelog.entries → HasRoomFor t (of_manifest l.manifest).chunks h.manifest (manifest_with h c)
+      → HasRoomFor t (of_changelog l.changelog).chunks h.changelog (with_revision h.changelog (changeset_revision h c)) → (y : OfTexts × List Obstacle) → texts_in l n parents x manifests t ≡ Ok y → y.1 ≡ []
+  texts-free manifest_whole changelog_whole manifest_room changelog_room y e =
+      let a = both (manifest_in l.manifest x.rows manifests link t) (λ m. and_then (changeset_in l.changelog n parents m.0.node x.changed t) (λ z. Ok (record { filelogs = x.growth; lines = x.lines; manifest = m.0.growth; changeset = z.0 }, m.1 ++ z.1))) y e in
+      let b = both (changeset_in l.changelog n parents a.0.0.node x.changed t) (λ z. Ok (record { filelogs = x.growth; lines = x.lines; manifest = a.0.0.growth; changeset = z.0 }, a.0.1 ++ z.1)) y a.2 in
+      let m = text-of t (of_manifest l.manifest) h.manifest manifest-asked manifest in
+      let m_is : m.0 ≡ a.0 = ok-is {E = ReadAnswer} m.0 a.0 (sym m.1 ∙ a.1) in
+      let node : a.0.0.node ≡ node_at (manifest_with h c) (manifest_number h c) = ap (λ (z : OfText × List Obstacle). z.0.node) (sym m_is) ∙ m.2.node ∙ ap (λ (z : Revision). node_at (with_revision h.manifest z) (number_of h.manifest z.text z.parents)) manifest-is in
+      let asked : Revision = record { text = change_text (change_of n a.0.0.node x.changed); parents = parents; link = link } in
+      let same_asked : asked ≡ changeset_revision h c = changeset-is a.0.0.node node in
+      let first = text-free t (of_manifest l.manifest) h.manifest manifest-asked manifest manifest_whole (subst (λ (z : Revision). HasRoomFor t (of_manifest l.manifest).chunks h.manifest (with_revision h.manifest z)) (sym manifest-is) manifest_room) a.0 a.1 in
+      let second = text-free t (of_changelog l.changelog) h.changelog asked changelog changelog_whole (subst (λ (z : Revision). HasRoomFor t (of_changelog l.changelog).chunks h.changelog (with_revision h.changelog z)) (sym same_asked) changelog_room) b.0 b.1 in
+      let made : OfTexts × List Obstacle = (record { filelogs = x.growth; lines = x.lines; manifest = a.0.0.growth; changeset = b.0.0 }, a.0.1 ++ b.0.1) in
+      ap (λ (w : OfTexts × List Obstacle). w.1) (sym (ok-is {E = ReadAnswer} made y b.2)) ∙ λ i. first i ++ second i

@@ -1,5 +1,6 @@
 -- What the laws of the crates below say, as the proofs of this crate take it.
-use Rattle.std.specs.Prelude.{◌≡◌, ◌++◌, ℕ, List, [], false, Ok, map, length}
+use Rattle.std.specs.Prelude.{◌≡◌, ◌++◌, ◌*◌, ℕ, List, [], false, Ok, map, length}
+use Rattle.hgs_bytes.specs.Bytes.{same}
 use Rattle.hgs_files.specs.Tree.{Tree, bytes_at}
 use Rattle.hgs_index.specs.declared.entry.Entry.{Entry}
 use Rattle.hgs_index.specs.Revision.{Parents, Revision, nodes}
@@ -8,6 +9,7 @@ use Rattle.hgs_loading.specs.Logs.{log_in}
 use Rattle.hgs_model.specs.History.{history, uses}
 use Rattle.hgs_model.specs.Repo.{Changeset}
 use Rattle.hgs_path.specs.declared.name.Ext.{Ext}
+use Rattle.hgs_path.specs.declared.name.Ext.TheVariants.{I, D}
 use Rattle.hgs_path.specs.ListedNames.{listed_file}
 use Rattle.hgs_path.specs.StoreName.{listed_name, store_name}
 use Rattle.hgs_revlog.specs.Held.{Agrees, AreWithinLimits, read_all}
@@ -25,7 +27,9 @@ pub record Below : Type 0 where
   pub entry_nodes : (index data_bytes : List ℕ) (entries : List Entry) (revisions : List Revision) → Agrees index data_bytes entries revisions → nodes_of entries ≡ nodes revisions
   pub entry_parents : (index data_bytes : List ℕ) (entries : List Entry) (revisions : List Revision) → Agrees index data_bytes entries revisions → map (λ (e : Entry). let p : Parents = (e.p1, e.p2) in p) entries ≡ map (λ (r : Revision). r.parents) revisions
   pub entry_count : (index data_bytes : List ℕ) (entries : List Entry) (revisions : List Revision) → Agrees index data_bytes entries revisions → length entries ≡ length revisions
+  pub index_length : (index data_bytes : List ℕ) (revisions : List Revision) → HoldsRevisions index data_bytes revisions → length index ≡ 64 * length revisions
   pub empty : AreEntries []
   pub unused : (changesets : List Changeset) (path : List ℕ) → uses changesets path ≡ false → (history changesets).filelog path ≡ []
   pub names : (p q : List ℕ) (e f : Ext) → listed_name p e ≡ listed_name q f → p ≡ q
   pub file : (path : List ℕ) (ext : Ext) → listed_file (listed_name path ext) ≡ store_name path ext
+  pub kinds : (path other : List ℕ) → same (store_name path I) (store_name other D) ≡ false

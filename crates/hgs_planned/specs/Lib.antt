@@ -3,3 +3,8 @@ pub mod Logs
 pub mod Files
 pub mod NewTexts
 pub mod Trees
+pub mod Growth
+pub mod Ready
+pub mod Commits
+pub mod StepsBelow
+pub mod Free

@@ -4,6 +4,7 @@ use Rattle.hgs_index.specs.Entry.{entry_bytes}
 use Rattle.hgs_index.specs.Revision.{Revision, number_of, standing as standing_in, with_revision}
 use Rattle.hgs_index.specs.Revlog.{chunk_of}
 use Rattle.hgs_model.specs.History.{node_at}
+use Rattle.hgs_ops.specs.Unhindered.{AreNewRevisions}
 use Rattle.hgs_revlog.specs.Add.{next_entry}
 use Rattle.hgs_revlog.specs.Log.{new_header}
 use Rattle.hgs_commit.specs.Obstacles.{Obstacle}
@@ -20,3 +21,4 @@ pub record IsTextOf (f : OfLog) (revisions : List Revision) (r : Revision) (x : 
   pub node : x.0.node ≡ node_at (with_revision revisions r) (number_of revisions r.text r.parents)
   pub standing : x.0.standing ≡ standing_in revisions r.text r.parents
   pub growth : x.1 ≡ [] → x.0.growth ≡ growth_by f r (standing_in revisions r.text r.parents)
+  pub fresh : x.1 ≡ [] → AreNewRevisions revisions (with_revision revisions r)

@@ -1,8 +1,9 @@
 -- The files of a commit's tree, as the repository's next changeset has them.
 use Rattle.std.specs.Prelude.{◌≡◌, ◌<◌, ℕ, List, [], IfSome}
-use Rattle.hgs_model.specs.History.{History, changed_paths, changeset_revision, filelog_with, is_changed, manifest_revision, node_at, rev_of_file, row_of, rows_of, with_changeset}
+use Rattle.hgs_model.specs.History.{History, changed_paths, changeset_revision, filelog_with, is_changed, manifest_revision, manifest_with, node_at, rev_of_file, row_of, rows_of, with_changeset}
 use Rattle.hgs_model.specs.Repo.{Changeset, TreeFile}
 use Rattle.hgs_index.specs.Revision.{Parents, number_of, standing as standing_in}
+use Rattle.hgs_ops.specs.Unhindered.{AreNewRevisions}
 use Rattle.hgs_steps.specs.declared.loaded.Loaded.{Loaded}
 use Rattle.hgs_commit.specs.Changeset.{of_changelog, of_manifest}
 use Rattle.hgs_commit.specs.Commit.{OfTexts}
@@ -23,12 +24,15 @@ pub record IsTreeOf (h : History) (c : Changeset) (x : OfGrown × Parents) : Typ
   pub parents : x.1 ≡ (manifest_revision h c).parents
 
 -- Manifest and changeset become what the lists of their revisions have of the changeset: its node, the changeset that it is
--- already, and where nothing keeps them from being written what is appended.
+-- already, and where nothing keeps them from being written what is appended, and both lists are within the limit and have no
+-- node twice.
 pub record AreTextsOf (l : Loaded) (h : History) (c : Changeset) (x : OfTexts × List Obstacle) : Type 0 where
   pub node : x.0.changeset.node ≡ node_at (with_changeset h c).changelog (number_of h.changelog (changeset_revision h c).text c.parents)
   pub standing : x.0.changeset.standing ≡ standing_in h.changelog (changeset_revision h c).text c.parents
   pub changeset : x.1 ≡ [] → x.0.changeset.growth ≡ growth_by (of_changelog l.changelog) (changeset_revision h c) (standing_in h.changelog (changeset_revision h c).text c.parents)
   pub manifest : x.1 ≡ [] → x.0.manifest ≡ growth_by (of_manifest l.manifest) (manifest_revision h c) (standing_in h.manifest (manifest_revision h c).text (manifest_revision h c).parents)
+  pub changesets_fresh : x.1 ≡ [] → AreNewRevisions h.changelog (with_changeset h c).changelog
+  pub manifests_fresh : x.1 ≡ [] → AreNewRevisions h.manifest (manifest_with h c)
 
 -- both parents, where they are there, are below this number
 pub record AreBelow (n : ℕ) (parents : Parents) : Type 0 where

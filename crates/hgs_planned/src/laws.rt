@@ -1,44 +1,60 @@
 //! What the definitions of this crate imply. Each function is one law; none does anything but to call laws that it rests on.
-ghost use Rattle.std.specs.Prelude.{◌≡◌, ◌<◌, true, ℕ, List, length, Option, Some, IfSome, Ok, Err};
+ghost use Rattle.std.specs.Prelude.{◌≡◌, ◌<◌, ◌++◌, ◌∷◌, [], true, ℕ, List, length, Option, Some, None, IfSome, Ok, Err};
 ghost use Rattle.hgs_bytes.specs.Text.{ascends};
 ghost use Rattle.hgs_files.specs.Tree.{Tree};
-ghost use Rattle.hgs_index.specs.Revision.{Parents, Revision, parent_node, standing};
+ghost use Rattle.hgs_index.specs.Revision.{Parents, Revision, parent_node, standing, with_revision};
 ghost use Rattle.hgs_loading.specs.Logs.{text_in};
 ghost use Rattle.hgs_loading.specs.Parent.{Files};
 ghost use Rattle.hgs_manifest.specs.Held.{found_in};
 ghost use Rattle.hgs_model.specs.History.{History, changeset_revision, file_parents, history, kept, node_at, text_at};
 ghost use Rattle.hgs_model.specs.Repo.{Repo};
-ghost use Rattle.hgs_model.specs.Step.{as_parents, named_all, new_changeset, step};
+ghost use Rattle.hgs_model.specs.Step.{as_parents, named_all, new_changeset, refused_where, step, unchanged_from};
 ghost use Rattle.hgs_model.specs.declared.command.Command.TheVariants.{Commit};
 ghost use Rattle.hgs_model.specs.declared.command.Refusal.{Refusal};
 ghost use Rattle.hgs_model.specs.declared.command.Refusal.TheVariants.{NothingChanged};
 ghost use Rattle.hgs_steps.specs.declared.fault.PlanFault.TheVariants.{Refused as refused_for};
 ghost use Rattle.hgs_commit.specs.declared.fault.CommitFault.TheVariants.{Refused};
-ghost use Rattle.hgs_model.specs.Valid.{new_paths};
+ghost use Rattle.hgs_model.specs.Valid.{IsNewChange, new_paths};
 ghost use Rattle.hgs_model.specs.declared.command.NewChange.{NewChange};
+ghost use Rattle.hgs_ops.specs.Growth.{append_some, grown};
+ghost use Rattle.hgs_ops.specs.Unhindered.{IsReady};
 ghost use Rattle.hgs_path.specs.Fncache.{listing};
 ghost use Rattle.hgs_revlog.specs.Log.{nodes_of, place_of};
+ghost use Rattle.hgs_stands.specs.Places.{fncache_path};
 ghost use Rattle.hgs_stands.specs.Stands.{Stands};
 ghost use Rattle.hgs_steps.specs.Planned.{IsLoadedOf};
+ghost use Rattle.hgs_steps.specs.Steps.{as_fault};
 ghost use Rattle.hgs_steps.specs.declared.loaded.Loaded.{Loaded};
+ghost use Rattle.hgs_commit.specs.Appended.{append_some as append_to};
 ghost use Rattle.hgs_commit.specs.Changeset.{of_changelog, of_manifest};
-ghost use Rattle.hgs_commit.specs.Commit.{OfTexts, commit_in, grown_in, parent_files, planned, step_on, texts_in};
+ghost use Rattle.hgs_commit.specs.Commit.{ClashOn, OfTexts, commit_in, grown_in, parent_files, planned, refusal_with, step_on, tested, texts_in, trees_in};
 ghost use Rattle.hgs_commit.specs.Files.{filelog_in, kept_in, parents_by};
-ghost use Rattle.hgs_commit.specs.Obstacles.{Met, Obstacle};
-ghost use Rattle.hgs_commit.specs.Texts.{OfLog, OfText, new_text_in};
+ghost use Rattle.hgs_commit.specs.Obstacles.{Met, Obstacle, noted, nothing_met};
+ghost use Rattle.hgs_commit.specs.Texts.{OfLog, OfText, changes_of, new_text_in};
 ghost use Rattle.hgs_commit.specs.Trees.{OfGrown};
 ghost use Rattle.hgs_planned.specs.Below.{Below};
+ghost use Rattle.hgs_planned.specs.Commits.{AnswersAs};
+ghost use Rattle.hgs_planned.specs.StepsBelow.{StepsBelow};
 ghost use Rattle.hgs_planned.specs.Files.{files_at, told_at};
+ghost use Rattle.hgs_planned.specs.Growth.{AreAppends, AreGrownFilesOf, IsWhole};
 ghost use Rattle.hgs_planned.specs.Logs.{IsLogOf};
-ghost use Rattle.hgs_planned.specs.NewTexts.{IsTextOf};
+ghost use Rattle.hgs_planned.specs.NewTexts.{IsTextOf, growth_by};
+ghost use Rattle.hgs_planned.specs.Ready.{HasOwnDigests, NeedsNoTest};
 ghost use Rattle.hgs_planned.specs.Trees.{AreBelow, AreTextsOf, IsTreeOf};
 
 use hgs_commit::laws::empty_entries;
+use hgs_index::laws::held_index_length;
 use hgs_loading::laws::indexes_are_read_whole;
 use hgs_model::history_laws::used_paths_have_revisions;
-use hgs_path::laws::{listed_names_differ, listed_names_name_files};
-use hgs_revlog::laws::{entries_of_revisions, loaded_entries, whole_index};
-use hgs_steps::laws::{loaded_entries_are_held, names_agree};
+use hgs_model::laws::step_keeps_repositories;
+use hgs_path::laws::{
+    filelogs_have_their_own_names, listed_names_differ, listed_names_name_files,
+    names_of_one_file_collide,
+};
+use hgs_revlog::laws::{entries_of_revisions, loaded_entries, new_revision, whole_index};
+use hgs_steps::laws::{
+    files_of_commits_agree, loaded_entries_are_held, loaded_holds_repository, names_agree,
+};
 
 /// Over a tree that stands for a repository, the revlogs that were loaded are the lists of its revisions, and the filelog that
 /// is loaded of a path is the list of that path's, used or not.
@@ -110,11 +126,93 @@ pub fn parents_of_commits_are_the_repositorys()
     names_agree();
 }
 
+/// A commit whose tree is that of its one parent, or the empty one without a parent, is refused as in the repository; another is
+/// not refused for its tree.
+pub fn unchanged_trees_are_refused()
+    ensures { (t : Tree) (r : Repo) (l : Loaded) (n : NewChange) (parents : Parents) (y : (OfGrown × Parents) × List Obstacle) → Stands t r → IsLoadedOf t l → ascends (new_paths n.files) ≡ true → AreBelow (length r.changesets) parents → grown_in l n parents t ≡ Ok y →
+        tested parents y.0.0 ≡ as_fault (refused_where (unchanged_from r.changesets parents.0 parents.1 (new_changeset (history r.changesets) parents n).tree)) }
+{
+    trees_are_the_repositorys();
+}
+
 /// A changeset that the repository has already is refused, and the answer names the one that the repository has.
 pub fn equal_changesets_are_refused()
     ensures { (l : Loaded) (h : History) (n : NewChange) (parents : Parents) (y : OfTexts × List Obstacle) (m : Met) (clash : Option (List ℕ)) (rev : ℕ) → AreTextsOf l h (new_changeset h parents n) y → standing h.changelog (changeset_revision h (new_changeset h parents n)).text parents ≡ Some rev →
         planned l n parents y.0 m clash ≡ Err (refused_for (NothingChanged rev)) }
 {}
+
+/// What is appended of a revision to a revlog whose files are as long as its entries say is what the list of its revisions
+/// grows by, behind what stands in the tree: nothing where it is a revision already. Changelog and manifest are as long.
+pub fn revisions_are_appended()
+    ensures grows { (t : Tree) (f : OfLog) (old : List Revision) (r : Revision) → IsLogOf t f old → IsWhole t f → AreAppends t (grown t f.index f.chunks old (with_revision old r)) (changes_of (growth_by f r (standing old r.text r.parents))) }
+    ensures changelog { (t : Tree) (r : Repo) (l : Loaded) → Stands t r → IsLoadedOf t l → IsWhole t (of_changelog l.changelog) }
+    ensures manifest { (t : Tree) (r : Repo) (l : Loaded) → Stands t r → IsLoadedOf t l → IsWhole t (of_manifest l.manifest) }
+{
+    laws_below();
+}
+
+/// Where nothing keeps the files of a commit from being written, what it appends to the filelogs is what those of its paths grow
+/// by in the repository with its changeset, and the lines are the names of the filelogs that are new there, which are appended
+/// to their list.
+pub fn filelogs_of_commits_grow()
+    ensures files { (t : Tree) (r next : Repo) (l : Loaded) (n : NewChange) (parents : Parents) (x : OfGrown × Parents) → Stands t r → IsLoadedOf t l → ascends (new_paths n.files) ≡ true → AreBelow (length r.changesets) parents → next.changesets ≡ r.changesets ++ new_changeset (history r.changesets) parents n ∷ [] →
+        grown_in l n parents t ≡ Ok (x, []) → AreGrownFilesOf t r next x.0 }
+    ensures list { (t : Tree) (l : Loaded) (lines : List ℕ) → IsLoadedOf t l → AreAppends t (append_some fncache_path lines) (append_to fncache_path l.fncache_length lines) }
+{
+    laws_below();
+    loaded_logs_are_the_repositorys();
+}
+
+/// A commit that nothing keeps from being written is ready: by its tests, by what was loaded, and by what needs no test.
+pub fn free_commits_are_ready()
+    ensures { (t : Tree) (r next : Repo) (l : Loaded) (n : NewChange) (parents : Parents) (x : OfGrown × Parents) (y : OfTexts) → Stands t r → IsLoadedOf t l → ascends (new_paths n.files) ≡ true → AreBelow (length r.changesets) parents → next.changesets ≡ r.changesets ++ new_changeset (history r.changesets) parents n ∷ [] →
+        grown_in l n parents t ≡ Ok (x, []) → texts_in l n parents x.0 x.1 t ≡ Ok (y, []) → ClashOn l (trees_in l n parents t) None None → NeedsNoTest t r next → IsReady t r (Commit n) next }
+{
+    laws_below();
+    loaded_logs_are_the_repositorys();
+    trees_are_the_repositorys();
+    texts_of_commits_are_the_repositorys();
+}
+
+/// Where a commit is refused for nothing that was met, nothing was met, and no clash was told.
+pub fn met_obstacles_refuse()
+    ensures { (a b c : List Obstacle) (clash : Option (List ℕ)) → refusal_with (noted (noted (noted nothing_met a) b) c) clash ≡ Ok tt → (a ≡ []) × (b ≡ []) × (c ≡ []) × (clash ≡ None) }
+{}
+
+/// What needs no test is there where no other name in the list has the digest of the name of a new path's file.
+pub fn own_digests_need_no_test()
+    ensures { (t : Tree) (r next : Repo) → HasOwnDigests t r next → NeedsNoTest t r next }
+{
+    names_of_one_file_collide();
+    listed_names_name_files();
+}
+
+/// A commit is answered over such a tree as the repository answers it: with the same refusal, or where it is accepted with the
+/// step to the next repository, for which the tree then is ready, unless something was met that keeps it from being written. What
+/// is read for it is refused only for a limit, where one is passed.
+pub fn commits_agree()
+    ensures { (t : Tree) (r : Repo) (l : Loaded) (n : NewChange) (clash : Option (List ℕ)) → Stands t r → IsLoadedOf t l → IsNewChange n → AnswersAs t r l n clash (commit_in clash l n t) (step r (Commit n)) }
+{
+    laws_below();
+    laws_of_steps();
+    loaded_logs_are_the_repositorys();
+    revisions_are_appended();
+    filelogs_of_commits_grow();
+    free_commits_are_ready();
+    names_agree();
+    parents_of_commits_are_the_repositorys();
+}
+
+/// What the laws of the crates below say of steps and of reading.
+pub(crate) fn laws_of_steps()
+    ensures { StepsBelow }
+{
+    loaded_holds_repository();
+    files_of_commits_agree();
+    step_keeps_repositories();
+    new_revision();
+    indexes_are_read_whole();
+}
 
 /// What the laws of the crates below say.
 pub(crate) fn laws_below()
@@ -125,8 +223,10 @@ pub(crate) fn laws_below()
     whole_index();
     indexes_are_read_whole();
     entries_of_revisions();
+    held_index_length();
     empty_entries();
     used_paths_have_revisions();
     listed_names_differ();
     listed_names_name_files();
+    filelogs_have_their_own_names();
 }

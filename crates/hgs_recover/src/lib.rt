@@ -6,6 +6,4 @@ mod find;
 pub mod laws;
 mod leftovers;
 pub mod recover;
-#[cfg(test)]
-mod tests;
 mod undo;

@@ -7,5 +7,3 @@ pub mod add;
 pub mod fault;
 pub mod laws;
 pub mod revlog;
-#[cfg(test)]
-mod tests;

@@ -8,5 +8,3 @@ pub mod loaded;
 pub mod names;
 pub mod replaced;
 pub mod step;
-#[cfg(test)]
-mod tests;

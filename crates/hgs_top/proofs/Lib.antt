@@ -2,6 +2,7 @@ pub mod ChangesetLemmas
 pub mod ConcludeLemmas
 pub mod ContentsLemmas
 pub mod EndedLemmas
+pub mod FitLemmas
 pub mod FoundLemmas
 pub mod HistoryLemmas
 pub mod InitLemmas
@@ -10,5 +11,7 @@ pub mod ListingLemmas
 pub mod LogLemmas
 pub mod OpenLemmas
 pub mod ReplyLemmas
+pub mod PiecesLemmas
 pub mod RepositoryLemmas
+pub mod ValidLemmas
 pub mod Written

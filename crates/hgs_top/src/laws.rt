@@ -1,5 +1,5 @@
-//! What the definitions of this crate imply. Each function is one law; none does anything.
-ghost use Rattle.std.specs.Prelude.{◌≡◌, ℕ, List, Ok, Some, None, length, slice_get};
+//! What the definitions of this crate imply. Each function is one law; none does anything but to call laws that it rests on.
+ghost use Rattle.std.specs.Prelude.{◌≡◌, ℕ, List, Ok, Option, Some, None, length, slice_get};
 ghost use Rattle.hex.specs.Hex.{IsBytes};
 ghost use Rattle.hgs_files.specs.Tree.{Tree, bytes_at};
 ghost use Rattle.hgs_index.specs.Revision.{nodes};
@@ -14,9 +14,21 @@ ghost use Rattle.hgs_shown.specs.Answers.{IsReadable};
 ghost use Rattle.hgs_top.specs.Outcome.{log_outcome};
 ghost use Rattle.hgs_top.specs.Repository.{reply_of};
 ghost use Rattle.hgs_top.specs.Run.{reply_to};
-ghost use Rattle.hgs_top.specs.Words.{Question};
+ghost use Rattle.hgs_top.specs.Words.{Job, Question, request_of_words, to_do};
+ghost use Rattle.hgs_answers.specs.declared.answer.Answer.{Answer};
+ghost use Rattle.hgs_files.specs.declared.op.Op.{Op};
+ghost use Rattle.hgs_files.specs.Tree.{after_all};
+ghost use Rattle.hgs_model.specs.Valid.{IsValid};
+ghost use Rattle.hgs_model.specs.declared.command.Command.{Command};
+ghost use Rattle.hgs_stands.specs.Stands.{Stands};
+ghost use Rattle.hgs_writer.specs.Alone.{HasWhatItNeeds};
+ghost use Rattle.hgs_top.specs.Histories.{GoesOnAs, MakesHistory};
+ghost use Rattle.hgs_top.specs.Orders.{ComesTo, IsCommandOf, Obeys};
+ghost use Rattle.hgs_top.specs.declared.ended.Ended.TheVariants.{Answered};
 
+use hgs_input::laws::read_records_are_records;
 use hgs_revlog::laws::loaded_entries;
+use hgs_writer::laws::calls_leave_what_they_answer;
 
 /// Over files that hold a history within the limits, and the other files of which can be read, `log` writes a line for each changeset, newest first, and is not
 /// refused.
@@ -43,4 +55,31 @@ pub fn replies_of_repository()
 {
     hgs_shown::answers::answers_of_repository();
     hgs_model::laws::named_is_there();
+}
+
+/// A command that words and input give is one that a repository takes: each text of a commit is one that a record can hold, and
+/// each name that is set is a bookmark's.
+pub fn commands_are_valid()
+    ensures { (words : List (List ℕ)) (job : Job) (bytes : List ℕ) (command : Command) → request_of_words words ≡ Ok (to_do job) → IsCommandOf job (Some bytes) command → IsValid command }
+{
+    read_records_are_records();
+}
+
+/// Over files that stand for a repository, and have what a commit needs of them that no test tells, the operations of a command
+/// that was answered are pieces of a legal log of just that command; the files then stand for what its answer says; and wherever
+/// it is stopped, they stand for the repository before, or are open for it, or stand for the next one.
+pub fn answered_commands_make_histories()
+    ensures { (job : Job) (left : Option (List ℕ)) (log : List Op) (new : Option (List Op)) (start : Tree) (r : Repo) (command : Command) (answer : Answer) → Stands (after_all log start) r → IsValid command → HasWhatItNeeds (after_all log start) r command →
+        ComesTo job left (Some log) new start (Answered command answer) → GoesOnAs log new start r command answer.outcome }
+{
+    calls_leave_what_they_answer();
+}
+
+/// So a run that did what its words ask for, if that is a command whose operations are those of a transaction, made pieces of a
+/// legal log of the repository that the files stood for, or nothing.
+pub fn runs_make_histories()
+    ensures { (words : List (List ℕ)) (left : Option (List ℕ)) (old new : Option (List Op)) (start : Tree) (status : ℕ) (written_old written_new : Option (List ℕ)) → Obeys (request_of_words words) left old new start status written_old written_new → MakesHistory words left old new start }
+{
+    commands_are_valid();
+    answered_commands_make_histories();
 }

@@ -4,13 +4,14 @@ ghost use Rattle.std.specs.String.{string_bytes};
 ghost use Rattle.hgs_files.specs.Reads.{Rose};
 ghost use Rattle.hgs_files.specs.Yard.{IfWhole};
 ghost use Rattle.hgs_files.specs.declared.op.Op.{Op};
+ghost use Rattle.hgs_top.specs.Histories.{MakesHistory};
 ghost use Rattle.hgs_top.specs.Orders.{KeepsInput, Obeys};
 ghost use Rattle.hgs_top.specs.Repository.{SaysOfRepository};
 ghost use Rattle.hgs_top.specs.Run.{Says, IsOneOf};
 ghost use Rattle.hgs_top.specs.Words.{request_of_words};
 
 use crate::command::{refuse_words, run_command};
-use crate::laws::replies_of_repository;
+use crate::laws::{replies_of_repository, runs_make_histories};
 use crate::told::run_order;
 use crate::words::{Asked, asked_by};
 use hgs_files::files::Files;
@@ -74,10 +75,12 @@ pub fn run<T, Y: Yard, S: Source, K: Sink>(
     ensures failed { result.status ≡ 18 → Rose (S.faults input.old) (S.faults input.new) }
     ensures sink { result.status ≡ 19 → Rose (K.faults out.old) (K.faults out.new) }
     ensures orders { IfWhole result.left (λ y. Obeys (request_of_words (map string_bytes words.now)) (S.left input.old) (Y.A.log (Y.files yard)) (Y.A.log (Y.files y)) (Y.A.start (Y.files yard)) result.status (K.written out.old) (K.written out.new)) }
+    ensures history { IfWhole result.left (λ y. MakesHistory (map string_bytes words.now) (S.left input.old) (Y.A.log (Y.files yard)) (Y.A.log (Y.files y)) (Y.A.start (Y.files yard))) }
     ensures same_start { IfWhole result.left (λ y. Y.A.start (Y.files y) ≡ Y.A.start (Y.files yard)) }
     ensures input { KeepsInput (request_of_words (map string_bytes words.now)) (S.left input.old) (S.left input.new) (S.faults input.old) (S.faults input.new) }
 {
     let _ = rt;
+    runs_make_histories();
     let (mut files, rest) = yard.alone();
     let status = run_words(alloc, words, &mut files, input, out);
     Ran {

@@ -6,5 +6,3 @@ mod gathered;
 pub mod laws;
 pub mod parts;
 mod puts;
-#[cfg(test)]
-mod tests;

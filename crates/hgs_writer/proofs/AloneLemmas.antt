@@ -1,8 +1,9 @@
 -- What a call leaves of a tree that stands for a repository.
-use Rattle.std.proofs.Common.{◌≡◌, ◌⊎◌, ℕ, List, [], ◌++◌, Bool, refl, sym, ◌∙◌, ap, subst, inl, inr, append-nil}
-use Rattle.std.specs.Prelude.{Result, Ok, Err, ⊤}
+use Rattle.std.proofs.Common.{◌≡◌, ◌⊎◌, ℕ, List, [], ◌++◌, Bool, false, refl, sym, ◌∙◌, ap, subst, inl, inr, append-nil}
+use Rattle.std.specs.Prelude.{Option, Result, Ok, Err, ⊤}
 use Rattle.std.specs.Bool.{MatchBool}
 use Rattle.hgs_answers.specs.declared.answer.Answer.{Answer}
+use Rattle.hgs_commit.specs.Commit.{Steps}
 use Rattle.hgs_commit.specs.declared.fault.CommitFault.{CommitFault}
 use Rattle.hgs_commit.specs.declared.fault.CommitFault.TheVariants as commits
 use Rattle.hgs_files.specs.declared.op.Op.{Op}
@@ -19,14 +20,16 @@ use Rattle.hgs_machine.specs.declared.locks.LockRefusal.{LockRefusal}
 use Rattle.hgs_machine.specs.declared.locks.LockRefusal.TheVariants as locked
 use Rattle.hgs_model.specs.Repo.{Repo}
 use Rattle.hgs_model.specs.Step.{Next, step}
-use Rattle.hgs_model.specs.Valid.{IsValid}
+use Rattle.hgs_model.specs.Valid.{IsNewChange, IsValid}
 use Rattle.hgs_model.specs.declared.command.Command.{Command}
 use Rattle.hgs_model.specs.declared.command.Command.TheVariants.{Commit, Mark, Move, Unmark}
+use Rattle.hgs_model.specs.declared.command.NewChange.{NewChange}
 use Rattle.hgs_model.specs.declared.command.Refusal.{Refusal}
 use Rattle.hgs_model.specs.declared.command.Refusal.TheVariants as refusals
 use Rattle.hgs_ops.specs.Operations.{strays}
 use Rattle.hgs_ops.specs.Stops.{IsBetween}
 use Rattle.hgs_ops.specs.Unhindered.{IsReady}
+use Rattle.hgs_planned.specs.Commits.{AnswersWith}
 use Rattle.hgs_pieces.specs.Made.{IsPieceOf}
 use Rattle.hgs_reader.specs.declared.answer.ReadAnswer.{ReadAnswer}
 use Rattle.hgs_reader.specs.declared.answer.ReadAnswer.TheVariants as reads
@@ -42,12 +45,13 @@ use Rattle.hgs_steps.specs.declared.step.Step.{Step}
 use Rattle.hgs_transaction.specs.Assembled.{IsPlanOf}
 use Rattle.hgs_transaction.specs.OfTransaction.{ArePartsOf}
 use Rattle.hgs_transaction.specs.declared.parts.Parts.{Parts}
-use Rattle.hgs_writer.specs.Alone.{IsAnswered, IsDoneAs, IsNoCommit, IsStopOf}
+use Rattle.hgs_writer.specs.Alone.{HasWhatItNeeds, IsAnswered, IsDoneAs, IsStopOf}
 use Rattle.hgs_writer.specs.Outcomes.{outcome_of_commit, outcome_of_ended, outcome_of_lock, outcome_of_plan, outcome_of_read}
-use Rattle.hgs_writer.specs.Planning.{ComesTo, GivesStep, IsNotPlannedFor, IsPlannedFor, has_no_memory, is_refused, is_unread}
+use Rattle.hgs_writer.specs.Planning.{ComesTo, IsNotPlannedFor, IsPlannedFor, has_no_memory, is_refused, is_unread}
 use Rattle.hgs_writer.specs.Written.{IsCarriedOut, IsWritten, is_carried_out, is_not_planned, is_turned_away}
 use Rattle.hgs_writer.specs.declared.plan.Planned.{Planned}
 use Rattle.hgs_writer.specs.Below.{Below}
+use Rattle.hgs_writer.proofs.CommitLemmas.{IsFit, IsStepFor, IsTold, commit-fault, commit-step, has-under-locks, valid-fit}
 
 -- ---- what is done, as pieces
 
@@ -120,30 +124,59 @@ given-answered u r command (plans.NameClash p) stepped a v m is s = fault-answer
 given-answered u r command (plans.InTheWay p) stepped a v m is s = fault-answered u r command (plans.InTheWay p) stepped v (subst (λ x. AnswersAs u r command x stepped) m is) s
 given-answered u r command (plans.Collision p rev) stepped a v m is s = fault-answered u r command (plans.Collision p rev) stepped v (subst (λ x. AnswersAs u r command x stepped) m is) s
 
--- nothing hinders a phase or bookmark command
-ready : (t : Tree) (r next : Repo) (command : Command) → IsNoCommit command → IsReady t r command next
-ready t r next (Commit n) no_commit = absurd no_commit
-ready t r next (Move rev phase force) no_commit = tt
-ready t r next (Mark name rev) no_commit = tt
-ready t r next (Unmark name) no_commit = tt
+-- a commit that is accepted and has met what keeps it from being written leaves the repository as it was
+hindered-answered : (IsTold : Type 0) (u : Tree) (r : Repo) (n : NewChange) (clash : Option (List ℕ)) (fault : PlanFault) (stepped : Result Next Refusal) (v : Tree) → AnswersWith IsTold u r n clash (Err (commits.Refused fault)) stepped → Stands v r → IsAnswered r stepped (outcome_of_plan fault) v
+hindered-answered IsTold u r n clash fault (Err e) v is s = subst (λ f. IsAnswered r (Err e) (outcome_of_plan f) v) (sym is) (refusal-answered r e v s)
+hindered-answered IsTold u r n clash (plans.Refused e) (Ok next) v is s = absurd is
+hindered-answered IsTold u r n clash (plans.Limit w) (Ok next) v is s = s
+hindered-answered IsTold u r n clash (plans.NameClash p) (Ok next) v is s = s
+hindered-answered IsTold u r n clash (plans.InTheWay p) (Ok next) v is s = s
+hindered-answered IsTold u r n clash (plans.Collision p rev) (Ok next) v is s = s
+hindered-answered IsTold u r n clash plans.Memory (Ok next) v is s = absurd is
+
+-- the step that was planned is the repository's
+planned-as : (u : Tree) (r : Repo) (command : Command) (step_is : Step) (a : Result Step PlanFault) (stepped : Result Next Refusal) → a ≡ Ok step_is → AnswersAs u r command a stepped → (next : Next) × (stepped ≡ Ok next) × IsStepOf u r command next step_is
+planned-as u r command step_is a (Ok next) e is = (next, refl, subst (λ x. AnswersAs u r command x (Ok next)) e is)
+planned-as u r command step_is a (Err f) e is = absurd (subst (λ x. AnswersAs u r command x (Err f)) e is)
+
+step-for : (u : Tree) (r : Repo) (command : Command) (step_is : Step) (a : Result Step PlanFault) → ((next : Repo) → IsReady u r command next) → a ≡ Ok step_is → AnswersAs u r command a (step r command) → IsStepFor u r command step_is
+step-for u r command step_is a ready e is =
+    let next = planned-as u r command step_is a (step r command) e is in
+    record { next = next.0; accepted = next.1; as_step = next.2; ready = λ has. ready next.0.0 }
 
 module _ (laws : Below) where
-  -- what such a command comes to is what the repository makes of it
-  pub comes-as : (u : Tree) (r : Repo) (l : Loaded) (command : Command) (result : Result Step CommitFault) → IsNoCommit command → Stands u r → IsLoadedOf u l → ComesTo l command result
-      → (a : Result Step PlanFault) × GivesStep result a × AnswersAs u r command a (step r command)
-  comes-as u r l (Commit n) result no_commit s is comes = absurd no_commit
-  comes-as u r l (Move name to force) result no_commit s is comes = (planned l (move_of l name to force), comes, laws.moved u r l name to force s is)
-  comes-as u r l (Mark mark name) result no_commit s is comes = (planned l (mark_of l mark name), comes, laws.marked u r l mark name s is)
-  comes-as u r l (Unmark mark) result no_commit s is comes = (planned l (unmark_of l mark), comes, laws.unmarked u r l mark s is)
+  -- a step that is planned is the one that the repository makes
+  pub planned-step : (u : Tree) (r : Repo) (l : Loaded) (command : Command) (step_is : Step) → IsFit command → Stands u r → IsLoadedOf u l → ComesTo u l command (Ok step_is) → IsStepFor u r command step_is
+  planned-step u r l (Commit n) step_is fit s is comes = commit-step laws u r l n s is fit step_is comes.0
+  planned-step u r l (Move name to force) step_is fit s is comes = step-for u r (Move name to force) step_is (planned l (move_of l name to force)) (λ next. tt) comes (laws.moved u r l name to force s is)
+  planned-step u r l (Mark mark name) step_is fit s is comes = step-for u r (Mark mark name) step_is (planned l (mark_of l mark name)) (λ next. tt) comes (laws.marked u r l mark name s is)
+  planned-step u r l (Unmark mark) step_is fit s is comes = step-for u r (Unmark mark) step_is (planned l (unmark_of l mark)) (λ next. tt) comes (laws.unmarked u r l mark s is)
 
-  not-planned-answered : (u : Tree) (r : Repo) (command : Command) (fault : CommitFault) (v : Tree) → IsNoCommit command → Stands u r → IsNotPlannedFor command u fault → Stands v r → IsAnswered r (step r command) (outcome_of_commit fault) v
-  not-planned-answered u r command _ v no_commit s (is_unread e m) after = read-answered r (step r command) e v after
-  not-planned-answered u r command _ v no_commit s has_no_memory after = after
-  not-planned-answered u r command _ v no_commit s (is_refused l fault is comes) after = by fault (comes-as u r l command (Err fault) no_commit s is comes)
+  commit-answered : (u : Tree) (r : Repo) (l : Loaded) (n : NewChange) (fault : PlanFault) (v : Tree) → is_memory fault ≡ false → IsNewChange n → Stands u r → IsLoadedOf u l → Steps l n u (Err (commits.Refused fault)) → Stands v r → IsAnswered r (step r (Commit n)) (outcome_of_plan fault) v
+  commit-answered u r l n fault v known fit s is comes after =
+      let a = commit-fault laws u r l n s is fit fault known comes in
+      hindered-answered (IsTold laws u r l n s is fit a.0) u r n a.0 fault (step r (Commit n)) v a.1 after
+
+  -- what is refused leaves the repository as it was
+  refused-answered : (u : Tree) (r : Repo) (l : Loaded) (command : Command) (fault : PlanFault) (v : Tree) → IsFit command → Stands u r → IsLoadedOf u l → ComesTo u l command (Err (commits.Refused fault)) → Stands v r → IsAnswered r (step r command) (outcome_of_plan fault) v
+  refused-answered u r l (Commit n) plans.Memory v fit s is comes after = after
+  refused-answered u r l (Commit n) (plans.Refused e) v fit s is comes after = commit-answered u r l n (plans.Refused e) v refl fit s is comes.0 after
+  refused-answered u r l (Commit n) (plans.Limit w) v fit s is comes after = commit-answered u r l n (plans.Limit w) v refl fit s is comes.0 after
+  refused-answered u r l (Commit n) (plans.NameClash p) v fit s is comes after = commit-answered u r l n (plans.NameClash p) v refl fit s is comes.0 after
+  refused-answered u r l (Commit n) (plans.InTheWay p) v fit s is comes after = commit-answered u r l n (plans.InTheWay p) v refl fit s is comes.0 after
+  refused-answered u r l (Commit n) (plans.Collision p rev) v fit s is comes after = commit-answered u r l n (plans.Collision p rev) v refl fit s is comes.0 after
+  refused-answered u r l (Move name to force) fault v fit s is comes after = given-answered u r (Move name to force) fault (step r (Move name to force)) (planned l (move_of l name to force)) v comes (laws.moved u r l name to force s is) after
+  refused-answered u r l (Mark mark name) fault v fit s is comes after = given-answered u r (Mark mark name) fault (step r (Mark mark name)) (planned l (mark_of l mark name)) v comes (laws.marked u r l mark name s is) after
+  refused-answered u r l (Unmark mark) fault v fit s is comes after = given-answered u r (Unmark mark) fault (step r (Unmark mark)) (planned l (unmark_of l mark)) v comes (laws.unmarked u r l mark s is) after
+
+  not-planned-answered : (u : Tree) (r : Repo) (command : Command) (fault : CommitFault) (v : Tree) → IsFit command → Stands u r → IsNotPlannedFor command u fault → Stands v r → IsAnswered r (step r command) (outcome_of_commit fault) v
+  not-planned-answered u r command _ v fit s (is_unread e m) after = read-answered r (step r command) e v after
+  not-planned-answered u r command _ v fit s has_no_memory after = after
+  not-planned-answered u r command _ v fit s (is_refused l fault is comes) after = by fault comes
     where
-      by : (f : CommitFault) → (a : Result Step PlanFault) × GivesStep (Err f) a × AnswersAs u r command a (step r command) → IsAnswered r (step r command) (outcome_of_commit f) v
-      by (commits.Unread e) c = absurd c.1
-      by (commits.Refused f) c = given-answered u r command f (step r command) c.0 v c.1 c.2 after
+      by : (f : CommitFault) → ComesTo u l command (Err f) → IsAnswered r (step r command) (outcome_of_commit f) v
+      by (commits.Unread e) c = read-answered r (step r command) e v after
+      by (commits.Refused f) c = refused-answered u r l command f v fit s is c after
 
   -- ---- a transaction that is carried out
 
@@ -201,34 +234,27 @@ module _ (laws : Below) where
       let after = nothing-or-piece t r (step r command) done s (laws.turned_away t r who why answer.swept done turned) in
       (subst (λ o. IsAnswered r (step r command) o (after_all done t)) (sym outcome) (lock-answered t r who why answer.swept done (step r command) (after_all done t) s turned after.0), after.1)
 
-  not-planned-leaves : (t : Tree) (r : Repo) (command : Command) (who : List ℕ) (answer : Answer) (fault : CommitFault) (locking releasing : List Op) → Stands t r → IsNoCommit command → AreLocked who t locking → IsNotPlannedFor command (after_all locking t) fault
+  not-planned-leaves : (t : Tree) (r : Repo) (command : Command) (who : List ℕ) (answer : Answer) (fault : CommitFault) (locking releasing : List Op) → Stands t r → IsFit command → AreLocked who t locking → IsNotPlannedFor command (after_all locking t) fault
       → AreRemoved lock_removals answer.swept releasing → answer.outcome ≡ outcome_of_commit fault → LeavesAs t r command answer (locking ++ releasing)
-  not-planned-leaves t r command who answer fault locking releasing s no_commit locks plans removed outcome =
+  not-planned-leaves t r command who answer fault locking releasing s fit locks plans removed outcome =
       let piece = laws.released t r who answer.swept locking releasing locks removed in
       let after = laws.ends t r r (locking ++ releasing) s piece in (
-        subst (λ o. IsAnswered r (step r command) o (after_all (locking ++ releasing) t)) (sym outcome) (not-planned-answered (after_all locking t) r command fault (after_all (locking ++ releasing) t) no_commit (laws.stands t r who locking locks s) plans after),
+        subst (λ o. IsAnswered r (step r command) o (after_all (locking ++ releasing) t)) (sym outcome) (not-planned-answered (after_all locking t) r command fault (after_all (locking ++ releasing) t) fit (laws.stands t r who locking locks s) plans after),
         inr (inl piece),
       )
 
-  -- the step that was planned is the repository's
-  pub planned-as : (u : Tree) (r : Repo) (command : Command) (step_is : Step) (a : Result Step PlanFault) (stepped : Result Next Refusal) → a ≡ Ok step_is → AnswersAs u r command a stepped → (next : Next) × (stepped ≡ Ok next) × IsStepOf u r command next step_is
-  planned-as u r command step_is a (Ok next) e is = (next, refl, subst (λ x. AnswersAs u r command x (Ok next)) e is)
-  planned-as u r command step_is a (Err f) e is = absurd (subst (λ x. AnswersAs u r command x (Err f)) e is)
-
-  carried-leaves : (t : Tree) (r : Repo) (command : Command) (who : List ℕ) (answer : Answer) (planned : Planned) (locking carrying : List Op) → Stands t r → IsValid command → IsNoCommit command → AreLocked who t locking → IsPlannedFor command (after_all locking t) planned
+  carried-leaves : (t : Tree) (r : Repo) (command : Command) (who : List ℕ) (answer : Answer) (planned : Planned) (locking carrying : List Op) → Stands t r → IsValid command → HasWhatItNeeds t r command → AreLocked who t locking → IsPlannedFor command (after_all locking t) planned
       → IsCarriedOut (after_all locking t) planned answer carrying → LeavesAs t r command answer (locking ++ carrying)
-  carried-leaves t r command who answer planned locking carrying s valid no_commit locks plan c =
-      let u = after_all locking t in
-      let comes = comes-as u r plan.loaded command (Ok plan.step) no_commit (laws.stands t r who locking locks s) plan.is_loaded plan.comes in
-      let next = planned-as u r command plan.step comes.0 (step r command) comes.1 comes.2 in
-      carried t r command next.0 who plan.step.parts planned answer locking carrying s valid next.1 (ready u r next.0.0 command no_commit) next.2.parts plan.plan (plan.rev ∙ next.2.rev) (ap (λ n. n.0) plan.node ∙ next.2.node) locks c
+  carried-leaves t r command who answer planned locking carrying s valid has locks plan c =
+      let made = planned-step (after_all locking t) r plan.loaded command plan.step (valid-fit command valid) (laws.stands t r who locking locks s) plan.is_loaded plan.comes in
+      carried t r command made.next who plan.step.parts planned answer locking carrying s valid made.accepted (made.ready (has-under-locks laws t who locking locks r command has)) made.as_step.parts plan.plan (plan.rev ∙ made.as_step.rev) (ap (λ n. n.0) plan.node ∙ made.as_step.node) locks c
 
-  pub written : (t : Tree) (r : Repo) (command : Command) (who : List ℕ) (answer : Answer) (done : List Op) → Stands t r → IsValid command → IsNoCommit command → IsWritten who command t answer done → LeavesAs t r command answer done
-  written t r command who answer done s valid no_commit (is_turned_away why turned outcome) = turned-away-leaves t r command who answer done why s turned outcome
-  written t r command who answer done s valid no_commit (is_not_planned fault locking releasing locks plans removed outcome whole) =
-      subst (LeavesAs t r command answer) (sym whole) (not-planned-leaves t r command who answer fault locking releasing s no_commit locks plans removed outcome)
-  written t r command who answer done s valid no_commit (is_carried_out made locking carrying locks plan c whole) =
-      subst (LeavesAs t r command answer) (sym whole) (carried-leaves t r command who answer made locking carrying s valid no_commit locks plan c)
+  pub written : (t : Tree) (r : Repo) (command : Command) (who : List ℕ) (answer : Answer) (done : List Op) → Stands t r → IsValid command → HasWhatItNeeds t r command → IsWritten who command t answer done → LeavesAs t r command answer done
+  written t r command who answer done s valid has (is_turned_away why turned outcome) = turned-away-leaves t r command who answer done why s turned outcome
+  written t r command who answer done s valid has (is_not_planned fault locking releasing locks plans removed outcome whole) =
+      subst (LeavesAs t r command answer) (sym whole) (not-planned-leaves t r command who answer fault locking releasing s (valid-fit command valid) locks plans removed outcome)
+  written t r command who answer done s valid has (is_carried_out made locking carrying locks plan c whole) =
+      subst (LeavesAs t r command answer) (sym whole) (carried-leaves t r command who answer made locking carrying s valid has locks plan c)
 
 -- a call that is done: the repository accepts the command
 pub done-as : (r : Repo) (stepped : Result Next Refusal) (rev : ℕ) (node : Node) (u : Tree) → IsDoneAs stepped rev node u → (next : Next) × (stepped ≡ Ok next) × (rev ≡ next.1.rev) × (node.0 ≡ next.1.node) × Stands u next.0

@@ -4,6 +4,7 @@ pub mod PlanLemmas
 pub mod SoundLemmas
 pub mod StepLemmas
 pub mod WrittenLemmas
+pub mod CommitLemmas
 pub mod AloneLemmas
 pub mod CleanLemmas
 pub mod StandingLemmas

@@ -1,13 +1,15 @@
 -- What a command comes to over files that stand for a repository, within the limits.
-use Rattle.std.proofs.Common.{◌≡◌, ◌≤◌, ℕ, List, [], Bool, false, refl, sym, ap, subst}
+use Rattle.std.proofs.Common.{◌≡◌, ◌≤◌, ℕ, List, [], Bool, true, false, refl, sym, ap, subst}
 use Rattle.std.specs.Prelude.{Option, Result, Ok, Err, ⊤, length, unwrap_or}
 use Rattle.std.specs.Bool.{MatchBool}
 use Rattle.hgs_answers.specs.declared.answer.Answer.{Answer}
 use Rattle.hgs_bytes.specs.Bytes.{same}
+use Rattle.hgs_commit.specs.Commit.{Steps}
 use Rattle.hgs_commit.specs.declared.fault.CommitFault.{CommitFault}
 use Rattle.hgs_commit.specs.declared.fault.CommitFault.TheVariants as commits
 use Rattle.hgs_files.specs.declared.op.Op.{Op}
 use Rattle.hgs_files.specs.Tree.{Tree, after_all}
+use Rattle.hgs_index.specs.declared.kinds.Which.TheVariants.{Bookmarks}
 use Rattle.hgs_index.specs.declared.node.Node.{Node}
 use Rattle.hgs_loading.specs.Store.{Loaded as Read, loaded_in}
 use Rattle.hgs_machine.specs.Locks.{AreLocked, IsTurnedAway}
@@ -17,7 +19,10 @@ use Rattle.hgs_machine.specs.declared.locks.LockRefusal.{LockRefusal}
 use Rattle.hgs_machine.specs.declared.locks.LockRefusal.TheVariants as locked
 use Rattle.hgs_model.specs.Repo.{Repo}
 use Rattle.hgs_model.specs.Step.{Next, step}
+use Rattle.hgs_model.specs.Valid.{IsNewChange}
 use Rattle.hgs_model.specs.declared.command.Command.{Command}
+use Rattle.hgs_model.specs.declared.command.Command.TheVariants.{Commit, Mark, Move, Unmark}
+use Rattle.hgs_model.specs.declared.command.NewChange.{NewChange}
 use Rattle.hgs_model.specs.declared.command.Refusal.{Refusal}
 use Rattle.hgs_model.specs.declared.command.Refusal.TheVariants as refusals
 use Rattle.hgs_ops.specs.Operations.{lock_path, wlock_path}
@@ -31,17 +36,21 @@ use Rattle.hgs_reader.specs.Open.{most_bookmarks_text, most_dirstate, most_roots
 use Rattle.hgs_loading.specs.Small.{most_fncache}
 use Rattle.hgs_stands.specs.Stands.{Stands}
 use Rattle.hgs_steps.specs.Fault.{is_memory}
-use Rattle.hgs_steps.specs.Planned.{AnswersAs, passes_limit}
+use Rattle.hgs_planned.specs.Commits.{AnswersWith}
+use Rattle.hgs_steps.specs.Planned.{AnswersAs, IsLoadedOf, passes_limit}
+use Rattle.hgs_steps.specs.Steps.{mark_of, move_of, planned, unmark_of}
+use Rattle.hgs_steps.specs.declared.loaded.Loaded.{Loaded}
 use Rattle.hgs_steps.specs.declared.fault.PlanFault.{PlanFault}
 use Rattle.hgs_steps.specs.declared.fault.PlanFault.TheVariants as plans
 use Rattle.hgs_steps.specs.declared.step.Step.{Step}
-use Rattle.hgs_writer.specs.Alone.{IsNoCommit, IsOutcomeOf}
+use Rattle.hgs_writer.specs.Alone.{IsOutcomeOf, PassesLimit, ReadsWithin}
 use Rattle.hgs_writer.specs.Below.{Below}
 use Rattle.hgs_writer.specs.Limits.{LoadsWithin}
 use Rattle.hgs_writer.specs.Outcomes.{outcome_of_commit, outcome_of_ended, outcome_of_lock, outcome_of_plan, outcome_of_read}
-use Rattle.hgs_writer.specs.Planning.{GivesStep, IsNotPlannedFor, has_no_memory, is_refused, is_unread}
+use Rattle.hgs_writer.specs.Planning.{ComesTo, IsNotPlannedFor, has_no_memory, is_refused, is_unread}
 use Rattle.hgs_writer.specs.Written.{IsWritten, is_carried_out, is_not_planned, is_turned_away}
-use Rattle.hgs_writer.proofs.AloneLemmas.{comes-as, planned-as}
+use Rattle.hgs_writer.proofs.AloneLemmas.{planned-step}
+use Rattle.hgs_writer.proofs.CommitLemmas.{IsTold, commit-fault, commit-read, outcome-before, reads-fit, reads-under-locks}
 
 -- ---- under the locks
 
@@ -62,68 +71,110 @@ within-locks files t r who locking locks within =
 
 -- ---- refusals
 
-refusal-outcome : (r : Repo) (e : Refusal) → IsOutcomeOf r (Err e) (outcome_of_plan (plans.Refused e))
-refusal-outcome r refusals.UnknownRevision = refl
-refusal-outcome r (refusals.NeedsForce rev) = refl
-refusal-outcome r (refusals.NothingChanged rev) = refl
+refusal-outcome : (t : Tree) (r : Repo) (command : Command) (e : Refusal) → IsOutcomeOf t r command (Err e) (outcome_of_plan (plans.Refused e))
+refusal-outcome t r command refusals.UnknownRevision = refl
+refusal-outcome t r command (refusals.NeedsForce rev) = refl
+refusal-outcome t r command (refusals.NothingChanged rev) = refl
 
-fault-outcome : (u : Tree) (r : Repo) (command : Command) (fault : PlanFault) (stepped : Result Next Refusal) → AnswersAs u r command (Err fault) stepped → IsOutcomeOf r stepped (outcome_of_plan fault)
-fault-outcome u r command fault (Err e) is = subst (λ f. IsOutcomeOf r (Err e) (outcome_of_plan f)) (sym is) (refusal-outcome r e)
-fault-outcome u r command fault (Ok next) is = subst (λ f. IsOutcomeOf r (Ok next) (outcome_of_plan f)) (sym is.0) (refl, (next, refl, is.1))
+-- a command whose bookmarks pass their limit
+abbrev MayPass : Tree → Repo → Command → Type 0
+MayPass t r command = (next : Next) → passes_limit r next.0 ≡ true → PassesLimit t r command Bookmarks (Ok next)
 
-given-outcome : (u : Tree) (r : Repo) (command : Command) (fault : PlanFault) (stepped : Result Next Refusal) (a : Result Step PlanFault) → MatchBool (is_memory fault) ⊤ (a ≡ Err fault) → AnswersAs u r command a stepped → IsOutcomeOf r stepped (outcome_of_plan fault)
-given-outcome u r command plans.Memory stepped a m is = tt
-given-outcome u r command (plans.Refused e) stepped a m is = fault-outcome u r command (plans.Refused e) stepped (subst (λ x. AnswersAs u r command x stepped) m is)
-given-outcome u r command (plans.Limit w) stepped a m is = fault-outcome u r command (plans.Limit w) stepped (subst (λ x. AnswersAs u r command x stepped) m is)
-given-outcome u r command (plans.NameClash p) stepped a m is = fault-outcome u r command (plans.NameClash p) stepped (subst (λ x. AnswersAs u r command x stepped) m is)
-given-outcome u r command (plans.InTheWay p) stepped a m is = fault-outcome u r command (plans.InTheWay p) stepped (subst (λ x. AnswersAs u r command x stepped) m is)
-given-outcome u r command (plans.Collision p rev) stepped a m is = fault-outcome u r command (plans.Collision p rev) stepped (subst (λ x. AnswersAs u r command x stepped) m is)
+fault-outcome : (u : Tree) (r : Repo) (command : Command) (fault : PlanFault) (stepped : Result Next Refusal) → MayPass u r command → AnswersAs u r command (Err fault) stepped → IsOutcomeOf u r command stepped (outcome_of_plan fault)
+fault-outcome u r command fault (Err e) passes is = subst (λ f. IsOutcomeOf u r command (Err e) (outcome_of_plan f)) (sym is) (refusal-outcome u r command e)
+fault-outcome u r command fault (Ok next) passes is = subst (λ f. IsOutcomeOf u r command (Ok next) (outcome_of_plan f)) (sym is.0) (passes next is.1)
+
+given-outcome : (u : Tree) (r : Repo) (command : Command) (fault : PlanFault) (stepped : Result Next Refusal) (a : Result Step PlanFault) → MayPass u r command → MatchBool (is_memory fault) ⊤ (a ≡ Err fault) → AnswersAs u r command a stepped → IsOutcomeOf u r command stepped (outcome_of_plan fault)
+given-outcome u r command plans.Memory stepped a passes m is = tt
+given-outcome u r command (plans.Refused e) stepped a passes m is = fault-outcome u r command (plans.Refused e) stepped passes (subst (λ x. AnswersAs u r command x stepped) m is)
+given-outcome u r command (plans.Limit w) stepped a passes m is = fault-outcome u r command (plans.Limit w) stepped passes (subst (λ x. AnswersAs u r command x stepped) m is)
+given-outcome u r command (plans.NameClash p) stepped a passes m is = fault-outcome u r command (plans.NameClash p) stepped passes (subst (λ x. AnswersAs u r command x stepped) m is)
+given-outcome u r command (plans.InTheWay p) stepped a passes m is = fault-outcome u r command (plans.InTheWay p) stepped passes (subst (λ x. AnswersAs u r command x stepped) m is)
+given-outcome u r command (plans.Collision p rev) stepped a passes m is = fault-outcome u r command (plans.Collision p rev) stepped passes (subst (λ x. AnswersAs u r command x stepped) m is)
+
+-- a commit that is accepted and has met what keeps it from being written
+hindered-outcome : (IsTold : Type 0) (u : Tree) (r : Repo) (n : NewChange) (clash : Option (List ℕ)) (fault : PlanFault) (stepped : Result Next Refusal) → AnswersWith IsTold u r n clash (Err (commits.Refused fault)) stepped → IsOutcomeOf u r (Commit n) stepped (outcome_of_plan fault)
+hindered-outcome IsTold u r n clash fault (Err e) is = subst (λ f. IsOutcomeOf u r (Commit n) (Err e) (outcome_of_plan f)) (sym is) (refusal-outcome u r (Commit n) e)
+hindered-outcome IsTold u r n clash (plans.Refused e) (Ok next) is = absurd is
+hindered-outcome IsTold u r n clash (plans.Limit w) (Ok next) is = is
+hindered-outcome IsTold u r n clash (plans.NameClash p) (Ok next) is = refl
+hindered-outcome IsTold u r n clash (plans.InTheWay p) (Ok next) is = is
+hindered-outcome IsTold u r n clash (plans.Collision p rev) (Ok next) is = is
+hindered-outcome IsTold u r n clash plans.Memory (Ok next) is = absurd is
 
 -- what is read is not refused
 not-refused : {A : Type 0} (t : Tree) (read : Read) (e : ReadAnswer) → loaded_in t ≡ Ok read → loaded_in t ≡ Err e → A
 not-refused t read e is refused = cc
 
-read-outcome : (r : Repo) (t : Tree) (read : Read) (stepped : Result Next Refusal) (e : ReadAnswer) → loaded_in t ≡ Ok read → MatchBool (is_of_outside e) ⊤ (loaded_in t ≡ Err e) → IsOutcomeOf r stepped (outcome_of_read e)
-read-outcome r t read stepped (reads.Damaged d) is m = not-refused t read (reads.Damaged d) is m
-read-outcome r t read stepped reads.Fault is m = tt
-read-outcome r t read stepped (reads.Limit w) is m = not-refused t read (reads.Limit w) is m
-read-outcome r t read stepped reads.UnknownPath is m = tt
-read-outcome r t read stepped reads.NotARepository is m = tt
-read-outcome r t read stepped (reads.Requirement w) is m = tt
-read-outcome r t read stepped reads.Memory is m = tt
+read-outcome : (r : Repo) (command : Command) (t : Tree) (read : Read) (stepped : Result Next Refusal) (e : ReadAnswer) → loaded_in t ≡ Ok read → MatchBool (is_of_outside e) ⊤ (loaded_in t ≡ Err e) → IsOutcomeOf t r command stepped (outcome_of_read e)
+read-outcome r command t read stepped (reads.Damaged d) is m = not-refused t read (reads.Damaged d) is m
+read-outcome r command t read stepped reads.Fault is m = tt
+read-outcome r command t read stepped (reads.Limit w) is m = not-refused t read (reads.Limit w) is m
+read-outcome r command t read stepped reads.UnknownPath is m = tt
+read-outcome r command t read stepped reads.NotARepository is m = tt
+read-outcome r command t read stepped (reads.Requirement w) is m = tt
+read-outcome r command t read stepped reads.Memory is m = tt
 
-ended-outcome : (r : Repo) (next : Next) (few : passes_limit r next.0 ≡ false) (rev : ℕ) (node : Node) (ended : Short) → IsOutcomeOf r (Ok next) (outcome_of_ended ended rev node)
-ended-outcome r next few rev node shorts.Done = (next, refl, few)
-ended-outcome r next few rev node shorts.Fault = tt
-ended-outcome r next few rev node (shorts.Unfinished published) = (next, refl, few)
-ended-outcome r next few rev node shorts.Memory = tt
+ended-outcome : (t : Tree) (r : Repo) (command : Command) (next : Next) (few : passes_limit r next.0 ≡ false) (rev : ℕ) (node : Node) (ended : Short) → IsOutcomeOf t r command (Ok next) (outcome_of_ended ended rev node)
+ended-outcome t r command next few rev node shorts.Done = (next, refl, few)
+ended-outcome t r command next few rev node shorts.Fault = tt
+ended-outcome t r command next few rev node (shorts.Unfinished published) = (next, refl, few)
+ended-outcome t r command next few rev node shorts.Memory = tt
 
 module _ (laws : Below) (files : FilesLaw) (reads_of : (t : Tree) (r : Repo) → Stands t r → LoadsWithin t r → (read : Read) × (loaded_in t ≡ Ok read)) where
-  lock-outcome : (t : Tree) (r : Repo) (who : List ℕ) (why : LockRefusal) (swept : Bool) (log : List Op) (stepped : Result Next Refusal) → Stands t r → IsTurnedAway who t why swept log → IsOutcomeOf r stepped (outcome_of_lock why)
-  lock-outcome t r who (locked.Held holder) swept log stepped s turned = tt
-  lock-outcome t r who locked.Abandoned swept log stepped s turned = absurd (laws.abandoned t who swept log s.no_journal turned)
-  lock-outcome t r who locked.Fault swept log stepped s turned = tt
-  lock-outcome t r who locked.Memory swept log stepped s turned = tt
+  lock-outcome : (t : Tree) (r : Repo) (command : Command) (who : List ℕ) (why : LockRefusal) (swept : Bool) (log : List Op) (stepped : Result Next Refusal) → Stands t r → IsTurnedAway who t why swept log → IsOutcomeOf t r command stepped (outcome_of_lock why)
+  lock-outcome t r command who (locked.Held holder) swept log stepped s turned = tt
+  lock-outcome t r command who locked.Abandoned swept log stepped s turned = absurd (laws.abandoned t who swept log s.no_journal turned)
+  lock-outcome t r command who locked.Fault swept log stepped s turned = tt
+  lock-outcome t r command who locked.Memory swept log stepped s turned = tt
 
-  not-planned-outcome : (u : Tree) (r : Repo) (command : Command) (fault : CommitFault) (read : Read) → IsNoCommit command → Stands u r → loaded_in u ≡ Ok read → IsNotPlannedFor command u fault → IsOutcomeOf r (step r command) (outcome_of_commit fault)
-  not-planned-outcome u r command _ read no_commit s is (is_unread e m) = read-outcome r u read (step r command) e is m
-  not-planned-outcome u r command _ read no_commit s is has_no_memory = tt
-  not-planned-outcome u r command _ read no_commit s is (is_refused l fault loaded comes) = by fault (comes-as laws u r l command (Err fault) no_commit s loaded comes)
-    where
-      by : (f : CommitFault) → (a : Result Step PlanFault) × GivesStep (Err f) a × AnswersAs u r command a (step r command) → IsOutcomeOf r (step r command) (outcome_of_commit f)
-      by (commits.Unread e) c = absurd c.1
-      by (commits.Refused f) c = given-outcome u r command f (step r command) c.0 c.1 c.2
+  commit-outcome : (u : Tree) (r : Repo) (l : Loaded) (n : NewChange) (fault : PlanFault) → is_memory fault ≡ false → IsNewChange n → Stands u r → IsLoadedOf u l → Steps l n u (Err (commits.Refused fault)) → IsOutcomeOf u r (Commit n) (step r (Commit n)) (outcome_of_plan fault)
+  commit-outcome u r l n fault known fit s is comes =
+      let a = commit-fault laws u r l n s is fit fault known comes in
+      hindered-outcome (IsTold laws u r l n s is fit a.0) u r n a.0 fault (step r (Commit n)) a.1
 
-  pub outcome-of : (t : Tree) (r : Repo) (command : Command) (who : List ℕ) (answer : Answer) (done : List Op) → Stands t r → LoadsWithin t r → IsNoCommit command → IsWritten who command t answer done → IsOutcomeOf r (step r command) answer.outcome
-  outcome-of t r command who answer done s within no_commit (is_turned_away why turned outcome) =
-      subst (IsOutcomeOf r (step r command)) (sym outcome) (lock-outcome t r who why answer.swept done (step r command) s turned)
-  outcome-of t r command who answer done s within no_commit (is_not_planned fault locking releasing locks plan removed outcome whole) =
+  -- what is read for a commit is not refused within the limits
+  unread-outcome : (u : Tree) (r : Repo) (l : Loaded) (n : NewChange) (e : ReadAnswer) → ReadsWithin u r (Commit n) → Stands u r → IsLoadedOf u l → Steps l n u (Err (commits.Unread e)) → IsOutcomeOf u r (Commit n) (step r (Commit n)) (outcome_of_read e)
+  unread-outcome u r l n (reads.Damaged d) within s is comes = commit-read laws u r l n s is within.0 (reads.Damaged d) refl within.1 comes
+  unread-outcome u r l n reads.Fault within s is comes = tt
+  unread-outcome u r l n (reads.Limit w) within s is comes = commit-read laws u r l n s is within.0 (reads.Limit w) refl within.1 comes
+  unread-outcome u r l n reads.UnknownPath within s is comes = tt
+  unread-outcome u r l n reads.NotARepository within s is comes = tt
+  unread-outcome u r l n (reads.Requirement w) within s is comes = tt
+  unread-outcome u r l n reads.Memory within s is comes = tt
+
+  refused-outcome : (u : Tree) (r : Repo) (l : Loaded) (command : Command) (fault : PlanFault) → ReadsWithin u r command → Stands u r → IsLoadedOf u l → ComesTo u l command (Err (commits.Refused fault)) → IsOutcomeOf u r command (step r command) (outcome_of_plan fault)
+  refused-outcome u r l (Commit n) plans.Memory within s is comes = tt
+  refused-outcome u r l (Commit n) (plans.Refused e) within s is comes = commit-outcome u r l n (plans.Refused e) refl within.0 s is comes.0
+  refused-outcome u r l (Commit n) (plans.Limit w) within s is comes = commit-outcome u r l n (plans.Limit w) refl within.0 s is comes.0
+  refused-outcome u r l (Commit n) (plans.NameClash p) within s is comes = commit-outcome u r l n (plans.NameClash p) refl within.0 s is comes.0
+  refused-outcome u r l (Commit n) (plans.InTheWay p) within s is comes = commit-outcome u r l n (plans.InTheWay p) refl within.0 s is comes.0
+  refused-outcome u r l (Commit n) (plans.Collision p rev) within s is comes = commit-outcome u r l n (plans.Collision p rev) refl within.0 s is comes.0
+  refused-outcome u r l (Move name to force) fault within s is comes = given-outcome u r (Move name to force) fault (step r (Move name to force)) (planned l (move_of l name to force)) (λ next e. (refl, (next, refl, e))) comes (laws.moved u r l name to force s is)
+  refused-outcome u r l (Mark mark name) fault within s is comes = given-outcome u r (Mark mark name) fault (step r (Mark mark name)) (planned l (mark_of l mark name)) (λ next e. (refl, (next, refl, e))) comes (laws.marked u r l mark name s is)
+  refused-outcome u r l (Unmark mark) fault within s is comes = given-outcome u r (Unmark mark) fault (step r (Unmark mark)) (planned l (unmark_of l mark)) (λ next e. (refl, (next, refl, e))) comes (laws.unmarked u r l mark s is)
+
+  -- what a command comes to that is not planned
+  fault-comes : (u : Tree) (r : Repo) (l : Loaded) (command : Command) (fault : CommitFault) → ReadsWithin u r command → Stands u r → IsLoadedOf u l → ComesTo u l command (Err fault) → IsOutcomeOf u r command (step r command) (outcome_of_commit fault)
+  fault-comes u r l command (commits.Refused f) within s is comes = refused-outcome u r l command f within s is comes
+  fault-comes u r l (Commit n) (commits.Unread e) within s is comes = unread-outcome u r l n e within s is comes.0
+  fault-comes u r l (Move name to force) (commits.Unread e) within s is comes = absurd comes
+  fault-comes u r l (Mark mark name) (commits.Unread e) within s is comes = absurd comes
+  fault-comes u r l (Unmark mark) (commits.Unread e) within s is comes = absurd comes
+
+  not-planned-outcome : (u : Tree) (r : Repo) (command : Command) (fault : CommitFault) (read : Read) → ReadsWithin u r command → Stands u r → loaded_in u ≡ Ok read → IsNotPlannedFor command u fault → IsOutcomeOf u r command (step r command) (outcome_of_commit fault)
+  not-planned-outcome u r command _ read reads_within s is (is_unread e m) = read-outcome r command u read (step r command) e is m
+  not-planned-outcome u r command _ read reads_within s is has_no_memory = tt
+  not-planned-outcome u r command _ read reads_within s is (is_refused l fault loaded comes) = fault-comes u r l command fault reads_within s loaded comes
+
+  pub outcome-of : (t : Tree) (r : Repo) (command : Command) (who : List ℕ) (answer : Answer) (done : List Op) → Stands t r → LoadsWithin t r → ReadsWithin t r command → IsWritten who command t answer done → IsOutcomeOf t r command (step r command) answer.outcome
+  outcome-of t r command who answer done s within reads_within (is_turned_away why turned outcome) =
+      subst (IsOutcomeOf t r command (step r command)) (sym outcome) (lock-outcome t r command who why answer.swept done (step r command) s turned)
+  outcome-of t r command who answer done s within reads_within (is_not_planned fault locking releasing locks plan removed outcome whole) =
       let u = after_all locking t in
       let stands = laws.stands t r who locking locks s in
       let read = reads_of u r stands (within-locks files t r who locking locks within) in
-      subst (IsOutcomeOf r (step r command)) (sym outcome) (not-planned-outcome u r command fault read.0 no_commit stands read.1 plan)
-  outcome-of t r command who answer done s within no_commit (is_carried_out planned locking carrying locks plan c whole) =
-      let u = after_all locking t in
-      let comes = comes-as laws u r plan.loaded command (Ok plan.step) no_commit (laws.stands t r who locking locks s) plan.is_loaded plan.comes in
-      let next = planned-as laws u r command plan.step comes.0 (step r command) comes.1 comes.2 in
-      subst (IsOutcomeOf r (step r command)) (sym c.outcome) (subst (λ x. IsOutcomeOf r x (outcome_of_ended c.ended planned.rev planned.node)) (sym next.1) (ended-outcome r next.0 next.2.few planned.rev planned.node c.ended))
+      subst (IsOutcomeOf t r command (step r command)) (sym outcome) (outcome-before laws t who locking locks r command (step r command) (outcome_of_commit fault) (not-planned-outcome u r command fault read.0 (reads-under-locks laws t who locking locks r command reads_within) stands read.1 plan))
+  outcome-of t r command who answer done s within reads_within (is_carried_out planned locking carrying locks plan c whole) =
+      let made = planned-step laws (after_all locking t) r plan.loaded command plan.step (reads-fit t r command reads_within) (laws.stands t r who locking locks s) plan.is_loaded plan.comes in
+      subst (IsOutcomeOf t r command (step r command)) (sym c.outcome) (subst (λ x. IsOutcomeOf t r command x (outcome_of_ended c.ended planned.rev planned.node)) (sym made.accepted) (ended-outcome t r command made.next made.as_step.few planned.rev planned.node c.ended))

@@ -1,14 +1,16 @@
 -- What a call that was alone leaves of a tree that stands for a repository, by its answer.
 use Rattle.std.specs.Prelude.{◌≡◌, ◌⊎◌, ℕ, Bool, true, false, Result, Ok, Err, IsOk}
 use Rattle.hgs_answers.specs.declared.outcome.Outcome.{Outcome}
-use Rattle.hgs_answers.specs.declared.outcome.Outcome.TheVariants.{Done, LockHeld, Abandoned, UnknownRevision, NothingChanged, Fault, Unfinished, Limit, NeedsForce, Memory}
+use Rattle.hgs_answers.specs.declared.outcome.Outcome.TheVariants.{Done, LockHeld, Abandoned, UnknownRevision, NothingChanged, Fault, Unfinished, Limit, NameClash, InTheWay, Collision, NeedsForce, Memory}
 use Rattle.hgs_answers.specs.declared.outcome.Published.{Published}
 use Rattle.hgs_answers.specs.declared.outcome.Published.TheVariants.{No, Yes, Unknown}
 use Rattle.hgs_files.specs.Tree.{Tree}
+use Rattle.hgs_index.specs.declared.kinds.Which.{Which}
 use Rattle.hgs_index.specs.declared.kinds.Which.TheVariants.{Bookmarks}
 use Rattle.hgs_index.specs.declared.node.Node.{Node}
 use Rattle.hgs_model.specs.Repo.{Repo}
-use Rattle.hgs_model.specs.Step.{Next}
+use Rattle.hgs_model.specs.Step.{Next, step}
+use Rattle.hgs_model.specs.Valid.{IsNewChange}
 use Rattle.hgs_model.specs.declared.command.Command.{Command}
 use Rattle.hgs_model.specs.declared.command.Command.TheVariants.{Commit}
 use Rattle.hgs_model.specs.declared.command.Refusal.{Refusal}
@@ -17,11 +19,20 @@ use Rattle.hgs_ops.specs.Operations.{strays}
 use Rattle.hgs_stands.specs.Open.{IsOpen}
 use Rattle.hgs_stands.specs.Stands.{Stands}
 use Rattle.hgs_steps.specs.Planned.{passes_limit}
+use Rattle.hgs_planned.specs.Commits.{CanBeRead}
+use Rattle.hgs_planned.specs.Free.{IsFree}
+use Rattle.hgs_planned.specs.Ready.{NeedsNoTest}
 
--- a phase or bookmark command
-abbrev pub IsNoCommit : Command → Type 0
-IsNoCommit (Commit n) = ⊥
-IsNoCommit command = Unit {0}
+-- Where a commit is accepted, the tree has what it needs of it that no test tells. A phase or bookmark command needs nothing.
+abbrev pub HasWhatItNeeds : Tree → Repo → Command → Type 0
+HasWhatItNeeds t r (Commit n) = (next : Next) → step r (Commit n) ≡ Ok next → NeedsNoTest t r next.0
+HasWhatItNeeds t r command = Unit {0}
+
+-- A record can hold the commit, and the trees and the filelogs that it reads are within the limits. Another command reads no more
+-- than what is loaded for each.
+abbrev pub ReadsWithin : Tree → Repo → Command → Type 0
+ReadsWithin t r (Commit n) = IsNewChange n × CanBeRead t r
+ReadsWithin t r command = Unit {0}
 
 -- The command was accepted, the tree stands for the next repository, and its changeset is answered.
 abbrev pub IsDoneAs : Result Next Refusal → ℕ → Node → Tree → Type 0
@@ -70,17 +81,39 @@ IsBarred outcome = IsHeld outcome
 abbrev pub IsAccepted : Repo → Bool → Result Next Refusal → Type 0
 IsAccepted r passes stepped = (next : Next) × (stepped ≡ Ok next) × (passes_limit r next.0 ≡ passes)
 
+-- The repository accepts the commit.
+abbrev pub IsAcceptedCommit : Command → Result Next Refusal → Type 0
+IsAcceptedCommit (Commit n) stepped = IsOk stepped
+IsAcceptedCommit command stepped = ⊥
+
+-- It does, and there is no room for it: a limit would be passed, a file stands in the way, or a node stands already.
+abbrev pub LacksRoom : Tree → Repo → Result Next Refusal → Type 0
+LacksRoom t r (Err e) = ⊥
+LacksRoom t r (Ok next) = IsFree t r next.0 → ⊥
+
+abbrev pub IsCommitWithoutRoom : Tree → Repo → Command → Result Next Refusal → Type 0
+IsCommitWithoutRoom t r (Commit n) stepped = LacksRoom t r stepped
+IsCommitWithoutRoom t r command stepped = ⊥
+
+-- The limit is passed: for want of room for a commit, or by the bookmarks of another command.
+abbrev pub PassesLimit : Tree → Repo → Command → Which → Result Next Refusal → Type 0
+PassesLimit t r (Commit n) which stepped = LacksRoom t r stepped
+PassesLimit t r command which stepped = (which ≡ Bookmarks) × IsAccepted r true stepped
+
 -- What a command comes to where the files are within the limits: where the repository accepts it, it is done, or left
--- unfinished, or has too many bookmarks; else it is refused as the repository refuses it. A lock that is held, a fault and
--- want of memory may stand in place of each.
-abbrev pub IsOutcomeOf : Repo → Result Next Refusal → Outcome → Type 0
-IsOutcomeOf r stepped (LockHeld holder) = Unit {0}
-IsOutcomeOf r stepped Fault = Unit {0}
-IsOutcomeOf r stepped Memory = Unit {0}
-IsOutcomeOf r stepped (Done rev node) = IsAccepted r false stepped
-IsOutcomeOf r stepped (Unfinished published) = IsAccepted r false stepped
-IsOutcomeOf r stepped (Limit which) = (which ≡ Bookmarks) × IsAccepted r true stepped
-IsOutcomeOf r stepped UnknownRevision = stepped ≡ Err refusals.UnknownRevision
-IsOutcomeOf r stepped (NeedsForce rev) = stepped ≡ Err (refusals.NeedsForce rev)
-IsOutcomeOf r stepped (NothingChanged rev) = stepped ≡ Err (refusals.NothingChanged rev)
-IsOutcomeOf r stepped _ = ⊥
+-- unfinished, or passes a limit, or if it is a commit there is no room for it, or it is told of a clash of names; else it is
+-- refused as the repository refuses it. A lock that is held, a fault and want of memory may stand in place of each.
+abbrev pub IsOutcomeOf : Tree → Repo → Command → Result Next Refusal → Outcome → Type 0
+IsOutcomeOf t r command stepped (LockHeld holder) = Unit {0}
+IsOutcomeOf t r command stepped Fault = Unit {0}
+IsOutcomeOf t r command stepped Memory = Unit {0}
+IsOutcomeOf t r command stepped (Done rev node) = IsAccepted r false stepped
+IsOutcomeOf t r command stepped (Unfinished published) = IsAccepted r false stepped
+IsOutcomeOf t r command stepped (Limit which) = PassesLimit t r command which stepped
+IsOutcomeOf t r command stepped (NameClash path) = IsAcceptedCommit command stepped
+IsOutcomeOf t r command stepped (InTheWay path) = IsCommitWithoutRoom t r command stepped
+IsOutcomeOf t r command stepped (Collision path rev) = IsCommitWithoutRoom t r command stepped
+IsOutcomeOf t r command stepped UnknownRevision = stepped ≡ Err refusals.UnknownRevision
+IsOutcomeOf t r command stepped (NeedsForce rev) = stepped ≡ Err (refusals.NeedsForce rev)
+IsOutcomeOf t r command stepped (NothingChanged rev) = stepped ≡ Err (refusals.NothingChanged rev)
+IsOutcomeOf t r command stepped _ = ⊥

@@ -1,5 +1,5 @@
 -- What the crates below say of pieces of legal logs and of steps, as their laws say it.
-use Rattle.std.specs.Prelude.{◌≡◌, ◌⊎◌, ◌++◌, [], Bool, List, Ok, None, ℕ}
+use Rattle.std.specs.Prelude.{◌≡◌, ◌⊎◌, ◌++◌, [], Bool, false, List, Ok, None, Option, ℕ, codes}
 use Rattle.hgs_files.specs.declared.op.Op.{Op}
 use Rattle.hgs_files.specs.Tree.{Tree, after_all}
 use Rattle.hgs_journal.specs.Names.{journal_path}
@@ -11,11 +11,17 @@ use Rattle.hgs_machine.specs.declared.locks.LockRefusal.{LockRefusal}
 use Rattle.hgs_machine.specs.declared.locks.LockRefusal.TheVariants.{Abandoned}
 use Rattle.hgs_model.specs.Repo.{Repo}
 use Rattle.hgs_model.specs.Step.{Answer, step}
-use Rattle.hgs_model.specs.Valid.{IsValid}
+use Rattle.hgs_model.specs.Valid.{IsNewChange, IsValid}
 use Rattle.hgs_model.specs.declared.command.Command.{Command}
-use Rattle.hgs_model.specs.declared.command.Command.TheVariants.{Mark, Move, Unmark}
+use Rattle.hgs_model.specs.declared.command.Command.TheVariants.{Commit, Mark, Move, Unmark}
+use Rattle.hgs_model.specs.declared.command.NewChange.{NewChange}
 use Rattle.hgs_model.specs.declared.phase.Phase.{Phase}
-use Rattle.hgs_ops.specs.Operations.{strays}
+use Rattle.hgs_ops.specs.Operations.{lock_path, strays, wlock_path}
+use Rattle.hgs_path.specs.declared.name.Ext.{Ext}
+use Rattle.hgs_path.specs.StoreName.{store_name}
+use Rattle.hgs_planned.specs.Commits.{AnswersAs as CommitAnswersAs}
+use Rattle.hgs_commit.specs.Commit.{commit_in}
+use Rattle.hgs_bytes.specs.Bytes.{same}
 use Rattle.hgs_ops.specs.Unhindered.{IsReady}
 use Rattle.hgs_pieces.specs.Made.{IsPieceOf}
 use Rattle.hgs_stands.specs.Open.{IsOpen}
@@ -44,3 +50,7 @@ pub record Below : Type 0 where
   pub moved : (t : Tree) (r : Repo) (l : Loaded) (name : List ℕ) (to : Phase) (force : Bool) → Stands t r → IsLoadedOf t l → AnswersAs t r (Move name to force) (planned l (move_of l name to force)) (step r (Move name to force))
   pub marked : (t : Tree) (r : Repo) (l : Loaded) (mark name : List ℕ) → Stands t r → IsLoadedOf t l → AnswersAs t r (Mark mark name) (planned l (mark_of l mark name)) (step r (Mark mark name))
   pub unmarked : (t : Tree) (r : Repo) (l : Loaded) (mark : List ℕ) → Stands t r → IsLoadedOf t l → AnswersAs t r (Unmark mark) (planned l (unmark_of l mark)) (step r (Unmark mark))
+  pub committed : (t : Tree) (r : Repo) (l : Loaded) (n : NewChange) (clash : Option (List ℕ)) → Stands t r → IsLoadedOf t l → IsNewChange n → CommitAnswersAs t r l n clash (commit_in clash l n t) (step r (Commit n))
+  -- files
+  pub others : (t : Tree) (who : List ℕ) (locking : List Op) (path : List ℕ) → AreLocked who t locking → same path wlock_path ≡ false → same path lock_path ≡ false → after_all locking t path ≡ t path
+  pub filelog_names : (path : List ℕ) (ext : Ext) → (rest : List ℕ) × (store_name path ext ≡ codes "store/d" ++ rest)

@@ -1,6 +1,7 @@
 -- What a command is planned to, from the tree that is read under the locks.
 use Rattle.std.specs.Prelude.{◌≡◌, [], length, unwrap_or, Result, Ok, Err, IfOk, ⊤}
 use Rattle.std.specs.Bool.{MatchBool}
+use Rattle.hgs_commit.specs.Commit.{Steps}
 use Rattle.hgs_commit.specs.OfCommit.{ArePartsOfCommit}
 use Rattle.hgs_commit.specs.declared.fault.CommitFault.{CommitFault}
 use Rattle.hgs_commit.specs.declared.fault.CommitFault.TheVariants.{Unread, Refused}
@@ -41,19 +42,19 @@ GivesStep (Ok step) answer = answer ≡ Ok step
 GivesStep (Err (Unread e)) answer = ⊥
 GivesStep (Err (Refused fault)) answer = MatchBool (is_memory fault) ⊤ (answer ≡ Err fault)
 
--- What a command comes to by what was loaded. The parts of a commit's step have a commit's shape.
-abbrev pub ComesTo : Loaded → Command → Result Step CommitFault → Type 0
-ComesTo l (Commit n) result = IfOk result (λ step. ArePartsOfCommit l.changelog step.parts)
-ComesTo l (Move rev phase force) result = GivesStep result (planned l (move_of l rev phase force))
-ComesTo l (Mark name rev) result = GivesStep result (planned l (mark_of l name rev))
-ComesTo l (Unmark name) result = GivesStep result (planned l (unmark_of l name))
+-- What a command comes to by what was loaded of a tree; a commit also reads it. The parts of its step have a commit's shape.
+abbrev pub ComesTo : Tree → Loaded → Command → Result Step CommitFault → Type 0
+ComesTo t l (Commit n) result = Steps l n t result × IfOk result (λ step. ArePartsOfCommit l.changelog step.parts)
+ComesTo t l (Move rev phase force) result = GivesStep result (planned l (move_of l rev phase force))
+ComesTo t l (Mark name rev) result = GivesStep result (planned l (mark_of l name rev))
+ComesTo t l (Unmark name) result = GivesStep result (planned l (unmark_of l name))
 
 -- The plan is put together of the parts of the command's step, by what was loaded of the tree.
 pub record IsPlannedFor (command : Command) (t : Tree) (p : Planned) : Type 0 where
   pub loaded : Loaded
   pub is_loaded : IsLoadedOf t loaded
   pub step : Step
-  pub comes : ComesTo loaded command (Ok step)
+  pub comes : ComesTo t loaded command (Ok step)
   pub plan : IsPlanOf step.parts p.plan
   pub rev : p.rev ≡ step.rev
   pub node : p.node ≡ step.node
@@ -61,7 +62,7 @@ pub record IsPlannedFor (command : Command) (t : Tree) (p : Planned) : Type 0 wh
 -- Nothing is planned: what is read before is refused, or the command is by what was loaded, or there is no memory.
 pub data IsNotPlannedFor (command : Command) (t : Tree) : CommitFault → Type 0 where
   is_unread : (e : ReadAnswer) → MatchBool (is_of_outside e) ⊤ (loaded_in t ≡ Err e) → IsNotPlannedFor command t (Unread e)
-  is_refused : (l : Loaded) (fault : CommitFault) → IsLoadedOf t l → ComesTo l command (Err fault) → IsNotPlannedFor command t fault
+  is_refused : (l : Loaded) (fault : CommitFault) → IsLoadedOf t l → ComesTo t l command (Err fault) → IsNotPlannedFor command t fault
   has_no_memory : IsNotPlannedFor command t (Refused Memory)
 
 -- what a command is planned to

@@ -31,7 +31,7 @@ ghost use Rattle.hgs_steps.specs.Steps.{Accepted, planned};
 ghost use Rattle.hgs_transaction.specs.Assembled.{IsPlanOf};
 ghost use Rattle.hgs_transaction.specs.OfTransaction.{ArePartsOf};
 ghost use Rattle.hgs_transaction.specs.declared.parts.Parts.{Parts};
-ghost use Rattle.hgs_writer.specs.Alone.{IsAnswered, IsBarred, IsFinished, IsHeld, IsNoCommit, IsOutcomeOf, IsStopOf};
+ghost use Rattle.hgs_writer.specs.Alone.{IsAnswered, IsBarred, IsFinished, IsHeld, HasWhatItNeeds, IsOutcomeOf, IsStopOf, ReadsWithin};
 ghost use Rattle.hgs_writer.specs.Below.{Below};
 ghost use Rattle.hgs_writer.specs.Limits.{LoadsWithin};
 ghost use Rattle.hgs_writer.specs.Planning.{IsLoadedFrom};
@@ -41,10 +41,12 @@ ghost use Rattle.hgs_writer.specs.declared.plan.Planned.{Planned};
 use hgs_index::laws::held_index_length;
 use hgs_legal::laws::pieces_end;
 use hgs_loading::laws::indexes_are_read_whole;
+use hgs_path::laws::filelogs_have_their_own_names;
 use hgs_pieces::laws::{
     locks_do_not_matter, refusals_are_for_files, refusals_are_pieces, swept_calls_leave_no_locks,
     swept_calls_leave_no_strays, transactions_are_pieces,
 };
+use hgs_planned::laws::commits_agree;
 use hgs_revlog::laws::{entries_of_revisions, whole_index};
 use hgs_shown::laws::older_parts_stay;
 use hgs_steps::laws::{bookmark_commands_agree, phase_commands_agree};
@@ -72,13 +74,13 @@ pub fn stores_are_loaded()
     indexes_are_read_whole();
 }
 
-/// A phase or bookmark command of a call that was alone, whatever it answers: the tree stands for what the answer says, what
-/// was done is a piece of a legal log, and wherever it is stopped the tree stands for the repository before, or is open for it,
-/// or stands for the next one.
+/// A call that was alone, whatever it answers, where the tree has what a commit needs of it that no test tells: the tree stands
+/// for what the answer says, what was done is a piece of a legal log, and wherever it is stopped the tree stands for the
+/// repository before, or is open for it, or stands for the next one.
 pub fn calls_leave_what_they_answer()
-    ensures answered { (t : Tree) (r : Repo) (command : Command) (who : List ℕ) (answer : Answer) (done : List Op) → Stands t r → IsValid command → IsNoCommit command → IsWritten who command t answer done → IsAnswered r (step r command) answer.outcome (after_all done t) }
-    ensures pieces { (t : Tree) (r : Repo) (command : Command) (who : List ℕ) (answer : Answer) (done : List Op) → Stands t r → IsValid command → IsNoCommit command → IsWritten who command t answer done → Pieces t r done }
-    ensures stops { (t : Tree) (r : Repo) (command : Command) (who : List ℕ) (answer : Answer) (done : List Op) (u : Tree) → Stands t r → IsValid command → IsNoCommit command → IsWritten who command t answer done → StopLeaves t done u → IsStopOf r (step r command) u }
+    ensures answered { (t : Tree) (r : Repo) (command : Command) (who : List ℕ) (answer : Answer) (done : List Op) → Stands t r → IsValid command → HasWhatItNeeds t r command → IsWritten who command t answer done → IsAnswered r (step r command) answer.outcome (after_all done t) }
+    ensures pieces { (t : Tree) (r : Repo) (command : Command) (who : List ℕ) (answer : Answer) (done : List Op) → Stands t r → IsValid command → HasWhatItNeeds t r command → IsWritten who command t answer done → Pieces t r done }
+    ensures stops { (t : Tree) (r : Repo) (command : Command) (who : List ℕ) (answer : Answer) (done : List Op) (u : Tree) → Stands t r → IsValid command → HasWhatItNeeds t r command → IsWritten who command t answer done → StopLeaves t done u → IsStopOf r (step r command) u }
 {
     pieces_end();
     laws_below();
@@ -106,10 +108,10 @@ pub fn standing_trees_are_read()
     older_parts_stay();
 }
 
-/// So within the limits a phase or bookmark command comes to what the repository makes of it, and to no damage; but for a lock that is
-/// held, a fault of the files, and want of memory.
+/// So within the limits a command comes to what the repository makes of it, and to no damage; but for a lock that is held, a
+/// fault of the files, and want of memory, and for what keeps a commit from being written.
 pub fn calls_come_to_steps()
-    ensures { (t : Tree) (r : Repo) (command : Command) (who : List ℕ) (answer : Answer) (done : List Op) → Stands t r → LoadsWithin t r → IsNoCommit command → IsWritten who command t answer done → IsOutcomeOf r (step r command) answer.outcome }
+    ensures { (t : Tree) (r : Repo) (command : Command) (who : List ℕ) (answer : Answer) (done : List Op) → Stands t r → LoadsWithin t r → ReadsWithin t r command → IsWritten who command t answer done → IsOutcomeOf t r command (step r command) answer.outcome }
 {
     standing_trees_are_read();
     locks_do_not_matter();
@@ -137,10 +139,10 @@ pub fn locks_and_journals_bar()
     refusals_are_for_files();
 }
 
-/// A phase or bookmark command that is done over a clean tree: the repository accepts it, its changeset is answered, and the
+/// A command that is done over a clean tree that has what it needs: the repository accepts it, its changeset is answered, and the
 /// tree stands for the next repository, clean where all was swept.
 pub fn done_calls_lead_on()
-    ensures { (t : Tree) (r : Repo) (command : Command) (who : List ℕ) (answer : Answer) (done : List Op) (rev : ℕ) (node : Node) → IsClean t r → IsValid command → IsNoCommit command → IsWritten who command t answer done → answer.outcome ≡ Done rev node → (next : Next) × (step r command ≡ Ok next) × (rev ≡ next.1.rev) × (node.0 ≡ next.1.node) × Stands (after_all done t) next.0 × (answer.swept ≡ true → IsClean (after_all done t) next.0) }
+    ensures { (t : Tree) (r : Repo) (command : Command) (who : List ℕ) (answer : Answer) (done : List Op) (rev : ℕ) (node : Node) → IsClean t r → IsValid command → HasWhatItNeeds t r command → IsWritten who command t answer done → answer.outcome ≡ Done rev node → (next : Next) × (step r command ≡ Ok next) × (rev ≡ next.1.rev) × (node.0 ≡ next.1.node) × Stands (after_all done t) next.0 × (answer.swept ≡ true → IsClean (after_all done t) next.0) }
 {
     calls_leave_what_they_answer();
     calls_clean_up();
@@ -157,4 +159,6 @@ pub(crate) fn laws_below()
     locks_do_not_matter();
     phase_commands_agree();
     bookmark_commands_agree();
+    commits_agree();
+    filelogs_have_their_own_names();
 }

@@ -4,6 +4,4 @@
 pub mod answers;
 pub mod laws;
 pub mod plan;
-#[cfg(test)]
-mod tests;
 pub mod write;

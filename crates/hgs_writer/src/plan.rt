@@ -10,6 +10,7 @@ ghost use Rattle.hgs_reader.specs.View.{changelog_index};
 ghost use Rattle.hgs_revlog.specs.Loaded.{AreEntries};
 ghost use Rattle.hgs_steps.specs.Steps.{CanBeAssembled, mark_of, move_of, planned as planned_of, unmark_of};
 ghost use Rattle.hgs_loading.specs.Store.{view_store};
+ghost use Rattle.hgs_commit.specs.Commit.{AtRest, Steps};
 ghost use Rattle.hgs_commit.specs.OfCommit.{ArePartsOfCommit};
 ghost use Rattle.hgs_writer.specs.Planning.{ComesTo, GivesStep, IsLoadedFrom, Plans};
 
@@ -145,6 +146,7 @@ fn committed<R: Reads>(
     requires changelog { AreEntries loaded.changelog.entries × (loaded.changelog.inline ≡ false) }
     requires manifest { AreEntries loaded.manifest.entries × (loaded.manifest.inline ≡ false) }
     requires valid { IsNewChange change.now }
+    ensures comes { AtRest R.alone (R.seen files.new) (R.start files.new) (λ t. Steps loaded change.now t result) }
     ensures parts { IfOk result (λ step. ArePartsOfCommit loaded.changelog step.parts) }
     ensures ready { IfOk result (λ step. CanBeAssembled step.parts) }
     ensures sound { IfOk result (λ step. (t : Tree) → length (bytes_at t changelog_index) ≡ 64 * length loaded.changelog.entries → AreSound t step.parts) }
@@ -171,7 +173,7 @@ fn step_of<R: Reads>(
     requires changelog { AreEntries loaded.changelog.entries × (loaded.changelog.inline ≡ false) }
     requires manifest { AreEntries loaded.manifest.entries × (loaded.manifest.inline ≡ false) }
     requires valid { IsValid command.now }
-    ensures comes { ComesTo loaded command.now result }
+    ensures comes { AtRest R.alone (R.seen files.new) (R.start files.new) (λ t. ComesTo t loaded command.now result) }
     ensures ready { IfOk result (λ step. CanBeAssembled step.parts) }
     ensures sound { IfOk result (λ step. (t : Tree) → length (bytes_at t changelog_index) ≡ 64 * length loaded.changelog.entries → AreSound t step.parts) }
     ensures same_start { R.start files.new ≡ R.start files.old }

@@ -1,4 +1,4 @@
-use Rattle.std.proofs.Common.{◌≡◌, ◌∷◌, ◌+◌, ℕ, List, Option, length, Ok, Err, sym, ◌∙◌, ap, subst, arith}
+use Rattle.std.proofs.Common.{◌≡◌, ◌∷◌, ◌+◌, ℕ, List, Bool, Option, length, Ok, Err, refl, sym, ◌∙◌, ap, subst, arith}
 use Rattle.std.specs.Prelude.{⊤}
 use Rattle.std.specs.Bool.{MatchBool}
 use Rattle.std.specs.Option.{option_map}
@@ -7,15 +7,42 @@ use Rattle.hgs_reader.specs.Answer.{is_of_outside}
 use Rattle.hgs_index.specs.Manifest.{Row, last_path}
 use Rattle.hgs_model.specs.declared.files.NewFile.{NewFile}
 use Rattle.hgs_path.specs.Fncache.{listing}
-use Rattle.hgs_commit.specs.Files.{OfFile, can_follow, file_in, view_file}
+use Rattle.hgs_commit.specs.Files.{OfFile, can_follow, file_in, new_path, view_file}
 use Rattle.hgs_commit.specs.NewTree.{tree_of}
-use Rattle.hgs_commit.specs.Obstacles.{Met, met_of, noting}
+use Rattle.hgs_commit.specs.Obstacles.{ClashBehind, Met, either_list, met_of, noting, with_all}
 use Rattle.hgs_commit.specs.Tree.{ClashIn, OfTree, files_in, row_at, with_file}
 use Rattle.hgs_commit.specs.Walk.{told_of_found}
-use Rattle.hgs_commit.proofs.AnswerLemmas.{alone-both}
+use Rattle.hgs_files.specs.Tree.{Tree}
+use Rattle.hgs_path.specs.declared.name.Ext.{Ext}
+use Rattle.hgs_commit.proofs.AnswerLemmas.{alone-both, alone-free}
+use Rattle.hgs_commit.proofs.ClashLemmas.{either-all, either-none}
 use Rattle.hgs_commit.proofs.FileLemmas.{next_count, next_order}
 use Rattle.hgs_commit.proofs.TreeLemmas.{given, grown-is, next, next-clash, none}
 use Rattle.hgs_commit.proofs.file.add_files.Goals as goal
+
+pub loop-file-init : goal.loop-file-init
+loop-file-init g c =
+    let lists = listing c.args.fncache.now in
+    let link = c.args.link in
+    let files = c.args.new_files.now in
+    let tree : OfTree = tree_of c.args.tree.now in
+    let m : Met = met_of c.args.met.now in
+    let start : 0 + length files ≡ length files = omega arith in
+    let listed : either_list lists (listing c.empty-new_paths.result) ≡ lists = either-none lists (listing c.empty-new_paths.result) c.empty-new_paths.ensures in
+    record {
+      found = alone-free g.R.Reads.alone (g.R.Reads.seen c.args.files.now) (g.R.Reads.start c.args.files.now) (λ t. given lists link tree m files t ≡ given lists link tree m files t) (λ t. refl);
+      clash =
+          alone-free g.R.Reads.alone (g.R.Reads.seen c.args.files.now) (g.R.Reads.start c.args.files.now)
+          (λ t. (clash : Option (List ℕ)) → ClashIn (either_list lists (listing c.empty-new_paths.result)) (files_in lists link files tree.first tree.second t) c.args.met.now.clash clash → ClashIn lists (files_in lists link files tree.first tree.second t) c.args.met.now.clash clash)
+          (λ t clash h. (let P : (List ℕ → Ext → Bool) → Type 0 = λ l. ClashIn l (files_in lists link files tree.first tree.second t) c.args.met.now.clash clash in subst P listed h));
+      order = ap (λ l. can_follow (last_path l) files) c.requires.empty ∙ c.requires.order;
+      count = ap (λ l. length l + length files) c.requires.empty ∙ start;
+      few = c.requires.few;
+      same_start = refl;
+      still = λ alone. refl;
+      later = omega arith;
+      refused = omega arith;
+    }
 
 pub loop-file-preserved : goal.loop-file-preserved
 loop-file-preserved g c =
@@ -33,35 +60,45 @@ loop-file-preserved g c =
     let tree : OfTree = tree_of c.loop-file.tree in
     let tree_next : OfTree = tree_of c.add.new.self in
     let m : Met = met_of c.loop-file.met in
-    let m_next : Met = met_of c.file_of.new.met in
+    let m_next : Met = met_of c.with_new.new.met in
+    let base = either_list lists (listing c.loop-file.new_paths) in
+    let after = either_list lists (listing c.in_ok-new_paths.new_paths) in
     let x : OfFile = view_file c.in-Ok.added in
     let first = option_map told_of_found c.in_ok-rows.rows.first in
     let second = option_map told_of_found c.in_ok-rows.rows.second in
     let path : x.row.path ≡ file.path = c.in-Ok.ensures.path in
-    let is_first : first ≡ row_at file.path tree.first = c.in_ok-rows.ensures.found.0 ∙ ap (λ p. row_at p tree.first) c.as_slice.ensures in
-    let is_second : second ≡ row_at file.path tree.second = c.in_ok-rows.ensures.found.1 ∙ ap (λ p. row_at p tree.second) c.as_slice.ensures in
+    let is_first : first ≡ row_at file.path tree.first = c.in_ok-rows.ensures.found.0 ∙ ap (λ p. row_at p tree.first) c.as_slice-path.ensures in
+    let is_second : second ≡ row_at file.path tree.second = c.in_ok-rows.ensures.found.1 ∙ ap (λ p. row_at p tree.second) c.as_slice-path.ensures in
     let is : tree_next ≡ with_file tree x =
-    grown-is tree (tree_of c.parent_files.new.self) tree_next x c.as_slice.result.now (c.as_slice.ensures ∙ sym path)
+    grown-is tree (tree_of c.parent_files.new.self) tree_next x c.as_slice-path.result.now (c.as_slice-path.ensures ∙ sym path)
     c.in_ok-rows.ensures.first c.in_ok-rows.ensures.second c.in_ok-rows.ensures.rows c.in_ok-rows.ensures.changed (ap (λ v. v.items) c.in_ok-rows.ensures.growth) (ap (λ v. v.items) c.in_ok-rows.ensures.lines)
     c.in_ok-add.ensures.first c.in_ok-add.ensures.second c.in_ok-add.ensures.rows c.in_ok-add.ensures.changed c.in_ok-add.ensures.growth c.in_ok-add.ensures.lines in
+    let noted_alike : met_of c.file_of.new.met ≡ m_next = sym c.with_new.ensures.met in
+    let at_file : Tree → Type 0 = λ t. noting m (file_in lists link file first second t) ≡ Ok (x, met_of c.file_of.new.met) in
+    let entered : after ≡ with_all base (new_path x.new x.row.path) =
+    ap (either_list lists) (c.in_ok-new_paths.ensures.paths ∙ ap (λ p. with_all (listing c.loop-file.new_paths) (new_path x.new p)) (c.as_slice-path.ensures ∙ sym path)) ∙ either-all lists (listing c.loop-file.new_paths) (new_path x.new x.row.path) in
+    let told : ClashBehind base (new_path x.new x.row.path) c.loop-file.met.clash c.with_new.new.met.clash =
+    (let P : Option (List ℕ) → Type 0 = λ o. ClashBehind base (new_path x.new x.row.path) o c.with_new.new.met.clash in
+    let Q : List ℕ → Type 0 = λ p. ClashBehind base (new_path x.new p) c.file_of.new.met.clash c.with_new.new.met.clash in
+    subst P c.in-Ok.ensures.clash (subst Q (c.as_slice-path.ensures ∙ sym path) c.in_ok-new_paths.ensures.clash)) in
     record {
       found =
           alone-both g.R.Reads.alone (g.R.Reads.seen c.loop-file.files) (g.R.Reads.seen c.file_of.new.files) (g.R.Reads.start c.loop-file.files) (g.R.Reads.start c.file_of.new.files)
           (λ t. given lists link tree m c.loop-file.rest.now t ≡ given lists link (tree_of c.args.tree.now) (met_of c.args.met.now) c.args.new_files.now t)
-          (λ t. noting m (file_in lists link file first second t) ≡ Ok (x, m_next))
+          at_file
           (λ t. given lists link tree_next m_next behind t ≡ given lists link (tree_of c.args.tree.now) (met_of c.args.met.now) c.args.new_files.now t)
           c.in-Ok.ensures.still c.in-Ok.ensures.same_start
-          (λ t p q. sym (next lists link file behind tree first second t is_first is_second x m m_next tree_next path is q) ∙ ap (λ l. given lists link tree m l t) (sym split) ∙ p)
+          (λ t p q. sym (next lists link file behind tree first second t is_first is_second x m m_next tree_next path is (q ∙ ap (λ n. Ok (x, n)) noted_alike)) ∙ ap (λ l. given lists link tree m l t) (sym split) ∙ p)
           i.found c.in-Ok.ensures.found;
       clash =
           alone-both g.R.Reads.alone (g.R.Reads.seen c.loop-file.files) (g.R.Reads.seen c.file_of.new.files) (g.R.Reads.start c.loop-file.files) (g.R.Reads.start c.file_of.new.files)
-          (λ t. (clash : Option (List ℕ)) → ClashIn lists (files_in lists link c.loop-file.rest.now tree.first tree.second t) c.loop-file.met.clash clash → ClashIn lists (files_in lists link c.args.new_files.now c.args.tree.now.first c.args.tree.now.second t) c.args.met.now.clash clash)
-          (λ t. noting m (file_in lists link file first second t) ≡ Ok (x, m_next))
-          (λ t. (clash : Option (List ℕ)) → ClashIn lists (files_in lists link behind tree_next.first tree_next.second t) c.file_of.new.met.clash clash → ClashIn lists (files_in lists link c.args.new_files.now c.args.tree.now.first c.args.tree.now.second t) c.args.met.now.clash clash)
+          (λ t. (clash : Option (List ℕ)) → ClashIn base (files_in lists link c.loop-file.rest.now tree.first tree.second t) c.loop-file.met.clash clash → ClashIn lists (files_in lists link c.args.new_files.now c.args.tree.now.first c.args.tree.now.second t) c.args.met.now.clash clash)
+          at_file
+          (λ t. (clash : Option (List ℕ)) → ClashIn after (files_in lists link behind tree_next.first tree_next.second t) c.with_new.new.met.clash clash → ClashIn lists (files_in lists link c.args.new_files.now c.args.tree.now.first c.args.tree.now.second t) c.args.met.now.clash clash)
           c.in-Ok.ensures.still c.in-Ok.ensures.same_start
           (λ t p q clash k. p clash (
-          let P : List NewFile → Type 0 = λ l. ClashIn lists (files_in lists link l tree.first tree.second t) c.loop-file.met.clash clash in
-          subst P (sym split) (next-clash lists link file behind tree first second t is_first is_second x m m_next tree_next path is q c.loop-file.met.clash c.file_of.new.met.clash clash c.in-Ok.ensures.clash k)
+          let P : List NewFile → Type 0 = λ l. ClashIn base (files_in lists link l tree.first tree.second t) c.loop-file.met.clash clash in
+          subst P (sym split) (next-clash lists link file behind tree first second t is_first is_second base after x m (met_of c.file_of.new.met) tree_next path is q entered c.loop-file.met.clash c.with_new.new.met.clash clash told k)
           ))
           i.clash c.in-Ok.ensures.found;
       order = next_order c.parent_files.new.self.rows c.add.new.self.rows r c.in-Some.file.now c.loop-file.rest.now c.in-Some.behind.now split c.in-Ok.ensures.path grown (ap (λ q. can_follow (last_path q) c.loop-file.rest.now) rows ∙ i.order);
@@ -86,8 +123,8 @@ returns-in-Err-clause-found g c =
     let e = c.in-Err.refusal in
     let first = option_map told_of_found c.in_ok-rows.rows.first in
     let second = option_map told_of_found c.in_ok-rows.rows.second in
-    let is_first : first ≡ row_at file.path tree.first = c.in_ok-rows.ensures.found.0 ∙ ap (λ p. row_at p tree.first) c.as_slice.ensures in
-    let is_second : second ≡ row_at file.path tree.second = c.in_ok-rows.ensures.found.1 ∙ ap (λ p. row_at p tree.second) c.as_slice.ensures in
+    let is_first : first ≡ row_at file.path tree.first = c.in_ok-rows.ensures.found.0 ∙ ap (λ p. row_at p tree.first) c.as_slice-path.ensures in
+    let is_second : second ≡ row_at file.path tree.second = c.in_ok-rows.ensures.found.1 ∙ ap (λ p. row_at p tree.second) c.as_slice-path.ensures in
     alone-both g.R.Reads.alone (g.R.Reads.seen c.loop-file.files) (g.R.Reads.seen c.file_of.new.files) (g.R.Reads.start c.loop-file.files) (g.R.Reads.start c.file_of.new.files)
     (λ t. given lists link tree m c.loop-file.rest.now t ≡ given lists link (tree_of c.args.tree.now) (met_of c.args.met.now) c.args.new_files.now t)
     (λ t. MatchBool (is_of_outside e) ⊤ (noting m (file_in lists link file first second t) ≡ Err e))

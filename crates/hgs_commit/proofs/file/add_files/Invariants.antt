@@ -5,7 +5,7 @@ use Rattle.hgs_index.specs.Manifest.{last_path}
 use Rattle.hgs_path.specs.Fncache.{listing}
 use Rattle.hgs_commit.specs.Files.{can_follow}
 use Rattle.hgs_commit.specs.NewTree.{tree_of}
-use Rattle.hgs_commit.specs.Obstacles.{met_of}
+use Rattle.hgs_commit.specs.Obstacles.{either_list, met_of}
 use Rattle.hgs_commit.specs.Tree.{ClashIn, files_in}
 use Rattle.hgs_commit.proofs.TreeLemmas.{given}
 use Rattle.hgs_commit.proofs.file.add_files.Given as goal
@@ -13,7 +13,7 @@ use Rattle.hgs_commit.proofs.file.add_files.Given as goal
 abbrev pub invariant-loop-file : goal.invariant-loop-file
 invariant-loop-file g l = record {
   found : g.R.Reads.alone ≡ true → IfSome (g.R.Reads.seen l.files) (λ log. given (listing l.fncache) l.link (tree_of l.tree) (met_of l.met) l.rest (after_all log (g.R.Reads.start l.files)) ≡ given (listing l.fncache) l.link (tree_of l.fn.tree) (met_of l.fn.met) l.fn.new_files (after_all log (g.R.Reads.start l.files)));
-  clash : g.R.Reads.alone ≡ true → IfSome (g.R.Reads.seen l.files) (λ log. (clash : Option (List ℕ)) → ClashIn (listing l.fncache) (files_in (listing l.fncache) l.link l.rest l.tree.first l.tree.second (after_all log (g.R.Reads.start l.files))) l.met.clash clash → ClashIn (listing l.fncache) (files_in (listing l.fncache) l.link l.fn.new_files l.fn.tree.first l.fn.tree.second (after_all log (g.R.Reads.start l.files))) l.fn.met.clash clash);
+  clash : g.R.Reads.alone ≡ true → IfSome (g.R.Reads.seen l.files) (λ log. (clash : Option (List ℕ)) → ClashIn (either_list (listing l.fncache) (listing l.new_paths)) (files_in (listing l.fncache) l.link l.rest l.tree.first l.tree.second (after_all log (g.R.Reads.start l.files))) l.met.clash clash → ClashIn (listing l.fncache) (files_in (listing l.fncache) l.link l.fn.new_files l.fn.tree.first l.fn.tree.second (after_all log (g.R.Reads.start l.files))) l.fn.met.clash clash);
   order : can_follow (last_path l.tree.rows) l.rest ≡ true;
   count : length l.tree.rows + length l.rest ≡ length l.fn.new_files;
   few : length l.fn.new_files ≤ 20000;

@@ -11,8 +11,10 @@ returns c = record {
   entry_nodes = c.entries_of_revisions.ensures.nodes;
   entry_parents = c.entries_of_revisions.ensures.parents;
   entry_count = c.entries_of_revisions.ensures.count;
+  index_length = c.held_index_length.ensures;
   empty = c.empty_entries.ensures;
   unused = c.used_paths_have_revisions.ensures.unused;
   names = λ p q e f same. (c.listed_names_differ.ensures p q e f same).0;
+  kinds = c.filelogs_have_their_own_names.ensures.kinds;
   file = c.listed_names_name_files.ensures.file;
 }

@@ -4,8 +4,8 @@ use Rattle.hgs_writer.proofs.laws.calls_leave_what_they_answer.Goals as goal
 
 pub returns : goal.returns
 returns c = record {
-  answered = λ t r command who answer done s valid no_commit w. (written c.laws_below.ensures t r command who answer done s valid no_commit w).0;
-  pieces = λ t r command who answer done s valid no_commit w. pieces-of t r (step r command) done (written c.laws_below.ensures t r command who answer done s valid no_commit w).1;
-  stops = λ t r command who answer done u s valid no_commit w.
-      stops-of c.pieces_end.ensures.stops c.pieces_end.ensures.left_stops t r (step r command) done u s (written c.laws_below.ensures t r command who answer done s valid no_commit w).1;
+  answered = λ t r command who answer done s valid has w. (written c.laws_below.ensures t r command who answer done s valid has w).0;
+  pieces = λ t r command who answer done s valid has w. pieces-of t r (step r command) done (written c.laws_below.ensures t r command who answer done s valid has w).1;
+  stops = λ t r command who answer done u s valid has w.
+      stops-of c.pieces_end.ensures.stops c.pieces_end.ensures.left_stops t r (step r command) done u s (written c.laws_below.ensures t r command who answer done s valid has w).1;
 }

@@ -14,4 +14,7 @@ returns c = record {
   moved = c.phase_commands_agree.ensures;
   marked = c.bookmark_commands_agree.ensures.set;
   unmarked = c.bookmark_commands_agree.ensures.deleted;
+  committed = c.commits_agree.ensures;
+  others = c.locks_do_not_matter.ensures.others;
+  filelog_names = c.filelogs_have_their_own_names.ensures.file;
 }

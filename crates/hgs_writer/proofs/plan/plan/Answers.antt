@@ -4,9 +4,9 @@ use Rattle.hgs_files.specs.Tree.{Tree}
 use Rattle.hgs_loading.specs.Store.{loaded_in, view_store}
 use Rattle.hgs_machine.specs.Planned.{IsPlanned}
 use Rattle.hgs_steps.specs.declared.fault.PlanFault.TheVariants.{Memory}
-use Rattle.hgs_writer.specs.Planning.{Plans, has_no_memory, is_refused}
+use Rattle.hgs_writer.specs.Planning.{ComesTo, Plans, has_no_memory, is_refused}
 use Rattle.hgs_writer.specs.declared.plan.Planned.{Planned}
-use Rattle.hgs_writer.proofs.PlanLemmas.{refusal-told, told}
+use Rattle.hgs_writer.proofs.PlanLemmas.{refusal-told, told, told-both}
 use Rattle.hgs_writer.proofs.plan.plan.Goals as goal
 
 pub returns-in-Err-clause-found : goal.returns-in-Err-clause-found
@@ -18,9 +18,9 @@ returns-in-Err-step_of-clause-found g c = λ alone.
     let store = c.in-Ok.store in
     let loaded = c.loaded_of-loaded.result in
     let fault = c.in-Err-step_of.fault in
-    told (λ t. loaded_in t ≡ Ok (view_store store)) (λ t. Plans c.args.command.now t (Err fault)) (g.R.Reads.seen c.history.new.files) (g.R.Reads.seen c.step_of.new.files) (g.R.Reads.start c.history.new.files) (g.R.Reads.start c.step_of.new.files)
+    told-both (λ t. loaded_in t ≡ Ok (view_store store)) (λ t. ComesTo t loaded c.args.command.now (Err fault)) (λ t. Plans c.args.command.now t (Err fault)) (g.R.Reads.seen c.history.new.files) (g.R.Reads.seen c.step_of.new.files) (g.R.Reads.start c.history.new.files) (g.R.Reads.start c.step_of.new.files)
     (c.in-Err-step_of.ensures.still alone) c.in-Err-step_of.ensures.same_start
-    (λ t is. is_refused loaded fault (c.stores_are_loaded.ensures t (view_store store) loaded is c.loaded_of-loaded.ensures) c.in-Err-step_of.ensures.comes) (c.in-Ok.ensures.found alone)
+    (λ t is comes. is_refused loaded fault (c.stores_are_loaded.ensures t (view_store store) loaded is c.loaded_of-loaded.ensures) comes) (c.in-Ok.ensures.found alone) (c.in-Err-step_of.ensures.comes alone)
 
 pub returns-in-Ok-assemble-clause-found : goal.returns-in-Ok-assemble-clause-found
 returns-in-Ok-assemble-clause-found g c = λ alone.
@@ -28,17 +28,17 @@ returns-in-Ok-assemble-clause-found g c = λ alone.
     let loaded = c.loaded_of-loaded.result in
     let step = c.in-Ok-step_of.step in
     let planned : Planned = record { plan = c.in-Ok-assemble.plan; rev = step.rev; node = step.node } in
-    told (λ t. loaded_in t ≡ Ok (view_store store)) (λ t. Plans c.args.command.now t (Ok planned)) (g.R.Reads.seen c.history.new.files) (g.R.Reads.seen c.step_of.new.files) (g.R.Reads.start c.history.new.files) (g.R.Reads.start c.step_of.new.files)
+    told-both (λ t. loaded_in t ≡ Ok (view_store store)) (λ t. ComesTo t loaded c.args.command.now (Ok step)) (λ t. Plans c.args.command.now t (Ok planned)) (g.R.Reads.seen c.history.new.files) (g.R.Reads.seen c.step_of.new.files) (g.R.Reads.start c.history.new.files) (g.R.Reads.start c.step_of.new.files)
     (c.in-Ok-step_of.ensures.still alone) c.in-Ok-step_of.ensures.same_start
-    (λ t is. record {
+    (λ t is comes. record {
       loaded = loaded;
       is_loaded = c.stores_are_loaded.ensures t (view_store store) loaded is c.loaded_of-loaded.ensures;
       step = step;
-      comes = c.in-Ok-step_of.ensures.comes;
+      comes = comes;
       plan = c.in-Ok-assemble.ensures;
       rev = refl;
       node = refl;
-    }) (c.in-Ok.ensures.found alone)
+    }) (c.in-Ok.ensures.found alone) (c.in-Ok-step_of.ensures.comes alone)
 
 pub returns-in-Err-assemble-clause-found : goal.returns-in-Err-assemble-clause-found
 returns-in-Err-assemble-clause-found g c = λ alone.

@@ -1,0 +1,212 @@
+//! Entries and texts that Mercurial wrote, and what is refused of them.
+ghost use Rattle.std.specs.Prelude.{◌≡◌, false};
+
+use hgs_index::entry::EntryFault;
+use hgs_index::kinds::Which;
+use hgs_index::node::{Node, node_of};
+use hgs_revlog::add::Added;
+use hgs_revlog::fault::{RevFault, Tail};
+use hgs_revlog::revlog::Revlog;
+use std::alloc::Global;
+use std::fmt::InlineText;
+use std::test::Fail;
+
+// The first three entries of a changelog, and their chunks.
+const INDEX: [u8; 192] = [
+    0x00, 0x00, 0x00, 0x01, 0x00, 0x00, 0x00, 0x00, 0x00, 0x00, 0x00, 0xa5, 0x00, 0x00, 0x00, 0xa4,
+    0x00, 0x00, 0x00, 0x00, 0x00, 0x00, 0x00, 0x00, 0xff, 0xff, 0xff, 0xff, 0xff, 0xff, 0xff, 0xff,
+    0x3f, 0x96, 0xc0, 0x76, 0xae, 0x9c, 0xef, 0x57, 0xed, 0x0d, 0x71, 0xfd, 0x2e, 0x0f, 0x9f, 0x7a,
+    0x80, 0xc3, 0x64, 0x3e, 0x00, 0x00, 0x00, 0x00, 0x00, 0x00, 0x00, 0x00, 0x00, 0x00, 0x00, 0x00,
+    0x00, 0x00, 0x00, 0x00, 0x00, 0xa5, 0x00, 0x00, 0x00, 0x00, 0x00, 0x72, 0x00, 0x00, 0x00, 0x71,
+    0x00, 0x00, 0x00, 0x01, 0x00, 0x00, 0x00, 0x01, 0x00, 0x00, 0x00, 0x00, 0xff, 0xff, 0xff, 0xff,
+    0xd5, 0x3a, 0x2e, 0xf4, 0xee, 0x29, 0x05, 0xff, 0xb4, 0xf1, 0xb4, 0x6f, 0x52, 0x05, 0xaa, 0x38,
+    0x76, 0x22, 0x18, 0xf2, 0x00, 0x00, 0x00, 0x00, 0x00, 0x00, 0x00, 0x00, 0x00, 0x00, 0x00, 0x00,
+    0x00, 0x00, 0x00, 0x00, 0x01, 0x17, 0x00, 0x00, 0x00, 0x00, 0x00, 0x61, 0x00, 0x00, 0x00, 0x60,
+    0x00, 0x00, 0x00, 0x02, 0x00, 0x00, 0x00, 0x02, 0x00, 0x00, 0x00, 0x01, 0xff, 0xff, 0xff, 0xff,
+    0x2a, 0xc2, 0xec, 0xd3, 0x14, 0xa5, 0x4d, 0x7c, 0x89, 0x6f, 0xc5, 0xe4, 0xc2, 0xf8, 0x3a, 0xff,
+    0x6a, 0x0e, 0xa2, 0x8e, 0x00, 0x00, 0x00, 0x00, 0x00, 0x00, 0x00, 0x00, 0x00, 0x00, 0x00, 0x00,
+];
+
+const FIRST: [u8; 165] =
+    *b"u1b93023f08cdd3b3193a8962f45c4e7b64417e9d\nx: y\n1000000000 0\nsrc/d0/file0.txt\nsrc/d1/file1.txt\nsrc/d2/file2.txt\nsrc/d3/file3.txt\nsrc/d4/file4.txt\nsrc/d5/file5.txt\n\nc0";
+
+const SECOND: [u8; 114] =
+    *b"u96c74325eae32970d71a2d189334951b9763689c\nZo\xc3\xab \xc3\x9cn\xc3\xaf <z@ex.org>\n1000000060 0\nsrc/d1/file1.txt\nsrc/d5/file5.txt\n\nc1";
+
+const THIRD: [u8; 97] =
+    *b"ue52e97bca918f8fd4c11986042f99ec1d8a25224\nx: y\n1000000120 0\nsrc/d1/file1.txt\nsrc/d5/file5.txt\n\nc2";
+
+const NEVER: Node = Node([7; 20]);
+
+// The index with one byte changed.
+fn edited(at: usize, byte: u8) -> [u8; 192] {
+    let mut index = INDEX;
+    if at < 192 {
+        index[at] = byte;
+    }
+    index
+}
+
+fn revisions(alloc: Global, index: &[u8], tail: Tail) -> Result<u32, RevFault> {
+    match Revlog::load(alloc, index, tail) {
+        Ok(log) => Ok(log.len()),
+        Err(fault) => Err(fault),
+    }
+}
+
+#[test]
+fn loads(rt: HostRuntime) -> Result<(), Fail> {
+    let alloc = rt.alloc();
+    let mut node = [0u8; 20];
+    node.copy_from_slice(&INDEX[96..116]);
+    let second = Node(node);
+    let cases = [
+        (192, Tail::Ignore, Ok(3)),
+        (191, Tail::Ignore, Ok(2)),
+        (63, Tail::Ignore, Ok(0)),
+        (191, Tail::Refuse, Err(RevFault::Tail(2))),
+        (128, Tail::Refuse, Ok(2)),
+        (192, Tail::Until(second), Ok(2)),
+        (127, Tail::Until(second), Err(RevFault::Missing)),
+        (191, Tail::Until(NEVER), Err(RevFault::Missing)),
+    ];
+    for (len, tail, want) in cases {
+        if len <= 192 {
+            assert_eq!(rt; revisions(alloc, &INDEX[..len], tail), want, "{len}");
+        }
+    }
+    Ok(())
+}
+
+#[test]
+fn refuses_entries(rt: HostRuntime) -> Result<(), Fail> {
+    let alloc = rt.alloc();
+    let mut twice = INDEX;
+    twice[96..116].copy_from_slice(&INDEX[32..52]);
+    let mut null = INDEX;
+    null[160..180].copy_from_slice(&[0; 20]);
+    let cases = [
+        (edited(3, 2), RevFault::Entry(0, EntryFault::Version)),
+        (edited(69, 0xa6), RevFault::Offset(1)),
+        (edited(91, 1), RevFault::Parent(1)),
+        (twice, RevFault::Twice(1)),
+        (null, RevFault::Twice(2)),
+    ];
+    for (index, want) in cases {
+        assert_eq!(rt; revisions(alloc, &index, Tail::Refuse), Err(want));
+    }
+    // Nothing behind the wanted node is looked at.
+    let mut node = [0u8; 20];
+    node.copy_from_slice(&INDEX[96..116]);
+    assert_eq!(rt; revisions(alloc, &null, Tail::Until(Node(node))), Ok(2));
+    assert_eq!(rt;
+        revisions(alloc, &null, Tail::Until(NEVER)),
+        Err(RevFault::Twice(2))
+    );
+    Ok(())
+}
+
+// The length of the text that a chunk stands for.
+fn text_len(alloc: Global, index: &[u8], rev: u32, chunk: &[u8]) -> Result<usize, RevFault> {
+    let log = match Revlog::load(alloc, index, Tail::Refuse) {
+        Ok(log) => log,
+        Err(fault) => return Err(fault),
+    };
+    if rev >= log.len() || chunk.len() > log.entry(rev).stored as usize {
+        return Err(RevFault::Missing);
+    }
+    match log.text(rev, chunk) {
+        Ok(text) => Ok(text.len()),
+        Err(fault) => Err(fault),
+    }
+}
+
+#[test]
+fn reads_texts(rt: HostRuntime) -> Result<(), Fail> {
+    let alloc = rt.alloc();
+    let mut zipped = SECOND;
+    zipped[0] = 0x78;
+    let mut changed = SECOND;
+    changed[113] = b'2';
+    assert_eq!(rt; text_len(alloc, &INDEX, 0, &FIRST), Ok(164));
+    assert_eq!(rt; text_len(alloc, &INDEX, 2, &THIRD), Ok(96));
+    let cases = [
+        (INDEX, SECOND, 114, Ok(113)),
+        (edited(71, 1), SECOND, 114, Err(RevFault::Flagged(1))),
+        (edited(83, 0), SECOND, 114, Err(RevFault::Delta(1))),
+        (INDEX, SECOND, 113, Err(RevFault::Short(1))),
+        (INDEX, zipped, 114, Err(RevFault::Compressed(1))),
+        (edited(79, 0x72), SECOND, 114, Err(RevFault::Length(1))),
+        (INDEX, changed, 114, Err(RevFault::Hash(1))),
+    ];
+    for (index, chunk, len, want) in cases {
+        if len <= 114 {
+            assert_eq!(rt; text_len(alloc, &index, 1, &chunk[..len]), want);
+        }
+    }
+    Ok(())
+}
+
+// Adds a text without parents, told the chunk that stands where its node is there.
+fn added(log: &Revlog, text: &[u8], chunk: &[u8]) -> Result<Added, RevFault>
+    requires { log.now.inline ≡ false }
+{
+    let null = Node([0; 20]);
+    let node = node_of(&null, &null, text);
+    match log.rev_of(&node) {
+        None => log.add(text, None, None, 0, None),
+        Some(rev) => {
+            if chunk.len() > log.entry(rev).stored as usize {
+                return Err(RevFault::Missing);
+            }
+            log.add(text, None, None, 0, Some(chunk))
+        }
+    }
+}
+
+#[test]
+fn a_first_entry(rt: HostRuntime) -> Result<(), Fail> {
+    let log = Revlog::empty(rt.alloc(), false);
+    let node = [
+        0xb7, 0x89, 0xfd, 0xd9, 0x6d, 0xc2, 0xf3, 0xbd, 0x22, 0x9c, 0x1d, 0xd8, 0xee, 0xdf, 0x0f,
+        0xc6, 0x0e, 0x2b, 0x68, 0xe3,
+    ];
+    let mut want = [0u8; 64];
+    want[..32].copy_from_slice(
+        b"\0\0\0\x01\0\0\0\0\0\0\0\x03\0\0\0\x02\0\0\0\0\0\0\0\0\xff\xff\xff\xff\xff\xff\xff\xff",
+    );
+    want[32..52].copy_from_slice(&node);
+    match added(&log, b"a\n", b"") {
+        Ok(
+            Added::New {
+                entry,
+                chunk,
+                node: _,
+            },
+        ) => {
+            assert_eq!(rt; entry, want);
+            assert_eq!(rt; chunk.as_slice(), b"ua\n".as_slice());
+        }
+        _ => assert!(rt; false, "not new"),
+    }
+    Ok(())
+}
+
+#[test]
+fn a_fault_says_what_it_is(rt: HostRuntime) {
+    let cases = [
+        (
+            RevFault::Entry(3, EntryFault::Padding),
+            "revision 3: a byte without meaning is not zero",
+        ),
+        (
+            RevFault::Compressed(0),
+            "the chunk of revision 0 is compressed",
+        ),
+        (RevFault::Limit(Which::Text), "limit 4 is passed"),
+    ];
+    for (fault, line) in cases {
+        let text: InlineText<64> = InlineText::of(fault);
+        assert_eq!(rt; text.as_str(), line);
+    }
+}

@@ -1,0 +1,5 @@
+//! Examples of files in memory. There is nothing here but tests.
+#![tactic(auto)]
+
+#[cfg(test)]
+mod mem;

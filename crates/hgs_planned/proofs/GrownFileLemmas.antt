@@ -1,0 +1,228 @@
+-- What is appended for a file of a commit is what its path's filelog grows by.
+use Rattle.std.proofs.Common.{◌≡◌, ◌⊎◌, ◌<◌, ◌≤◌, ℕ, List, [], ◌∷◌, ◌++◌, Bool, true, false, ◌==◌, cond, length, inl, inr, refl, sym, ◌∙◌, ap, subst, arith}
+use Rattle.std.specs.Prelude.{Option, Some, None, Result, Ok, IfSome, find}
+use Rattle.hgs_bytes.specs.Bytes.{same}
+use Rattle.hgs_files.specs.declared.op.Op.{Op}
+use Rattle.hgs_files.specs.Tree.{Tree, bytes_at}
+use Rattle.hgs_index.specs.FileText.{plain_prefix}
+use Rattle.hgs_index.specs.Revision.{Parents, Revision, standing as standing_in, with_revision}
+use Rattle.hgs_loading.specs.Found.{and_then}
+use Rattle.hgs_loading.specs.Logs.{data_in, log_in}
+use Rattle.hgs_model.specs.History.{History, file_parents, file_revision, filelog_with, first_of, history, kept, kept_of, uses}
+use Rattle.hgs_model.specs.Repo.{Changeset, Repo, TreeFile}
+use Rattle.hgs_model.specs.Step.{new_changeset, new_file}
+use Rattle.hgs_model.specs.declared.command.NewChange.{NewChange}
+use Rattle.hgs_model.specs.declared.files.NewFile.{NewFile}
+use Rattle.hgs_model.proofs.CountLemmas.{file-revision-below, sound}
+use Rattle.hgs_model.proofs.ListLemmas.{bool}
+use Rattle.hgs_ops.specs.Growth.{filelog_growth}
+use Rattle.hgs_ops.specs.Unhindered.{AreNewRevisions}
+use Rattle.hgs_path.specs.declared.name.Ext.{Ext}
+use Rattle.hgs_path.specs.declared.name.Ext.TheVariants.{I, D}
+use Rattle.hgs_path.specs.Fncache.{listing, lists}
+use Rattle.hgs_path.specs.StoreName.{store_name}
+use Rattle.hgs_reader.specs.declared.answer.ReadAnswer.{ReadAnswer}
+use Rattle.hgs_revlog.specs.Load.{most_data}
+use Rattle.hgs_revlog.specs.Log.{Log}
+use Rattle.hgs_stands.specs.Stands.{Stands}
+use Rattle.hgs_steps.specs.Planned.{IsLoadedOf}
+use Rattle.hgs_steps.specs.declared.loaded.Loaded.{Loaded}
+use Rattle.hgs_commit.specs.Files.{OfFile, empty_log, file_in, file_with, filelog_in, filelog_with as filelog_at, kept_file, place_in, row_with, standing_at}
+use Rattle.hgs_commit.specs.Obstacles.{Obstacle, stands}
+use Rattle.hgs_commit.specs.Texts.{OfGrowth, OfLog, OfText, changes_of, new_text_in}
+use Rattle.hgs_commit.specs.Walk.{Told}
+use Rattle.hgs_planned.specs.Below.{Below}
+use Rattle.hgs_planned.specs.Files.{told_at}
+use Rattle.hgs_planned.specs.Growth.{AreAppends, IsGrownFileOf, IsWhole}
+use Rattle.hgs_planned.specs.Logs.{IsLogOf}
+use Rattle.hgs_planned.specs.NewTexts.{IsTextOf, growth_by}
+use Rattle.hgs_planned.proofs.Basics.{both, never, ok-is}
+use Rattle.hgs_planned.proofs.FilelogLemmas.{listing-is}
+use Rattle.hgs_planned.proofs.FreshLemmas.{fresh-same}
+use Rattle.hgs_planned.proofs.GrowthLemmas.{count-is, grown-none, growth-grows, no-appends, some-length, whole-empty, whole-of}
+use Rattle.hgs_planned.proofs.NewTextLemmas.{text-of}
+use Rattle.hgs_planned.proofs.RowLemmas.{file-steps, filelog-is, new-revision}
+use Rattle.hgs_planned.proofs.WholeTextLemmas.{none-left, none-right}
+
+-- ---- a filelog's files
+
+-- The filelog of a path that is loaded, whose files are as long as its entries say where the path is used.
+pub record Parts (t : Tree) (r : Repo) (path : List ℕ) (f : OfLog) : Type 0 where
+  pub log : Log
+  pub is : filelog_at path log ≡ f
+  pub whole : uses r.changesets path ≡ true → IsWhole t (filelog_at path log)
+
+pub parts-of : (laws : Below) (t : Tree) (r : Repo) (l : Loaded) (path : List ℕ) (f : OfLog) → Stands t r → IsLoadedOf t l → filelog_in (listing l.fncache) path t ≡ Ok f → Parts t r path f
+parts-of laws t r l path f s h e = by (lists s.fncache.names path I) refl (ap (λ (list : List ℕ → Ext → Bool). filelog_in list path t) (sym (listing-is t r l s h)) ∙ e)
+  where
+    answer : Bool → Result OfLog ReadAnswer
+    answer b = cond b (and_then (log_in (store_name path I) t) (λ log. Ok (filelog_at path log))) (Ok (filelog_at path empty_log))
+
+    by : (listed : Bool) → lists s.fncache.names path I ≡ listed → answer (lists s.fncache.names path I) ≡ Ok f → Parts t r path f
+    by true listed g =
+        let a = both (log_in (store_name path I) t) (λ log. Ok (filelog_at path log)) f (ap answer (sym listed) ∙ g) in
+        record {
+          log = a.0;
+          is = ok-is {E = ReadAnswer} (filelog_at path a.0) f a.2;
+          whole = λ used. whole-of laws t (filelog_at path a.0) ((history r.changesets).filelog path) (s.revlogs.filelogs path used) (laws.whole (store_name path I) t a.0 a.1);
+        }
+    by false listed g = record {
+      log = empty_log;
+      is = ok-is {E = ReadAnswer} (filelog_at path empty_log) f (ap answer (sym listed) ∙ g);
+      whole = λ used. never (sym (s.fncache.listed path I used) ∙ listed);
+    }
+
+small-files : (t : Tree) (path : List ℕ) (log : Log) (revisions : List Revision) → IsLogOf t (filelog_at path log) revisions → IsWhole t (filelog_at path log) → (ext : Ext) → length (bytes_at t (store_name path ext)) ≤ most_data
+small-files t path log revisions is whole I = omega (arith, whole.entries, is.entries.few)
+small-files t path log revisions is whole D = omega (arith, whole.chunks, is.entries.data_end)
+
+-- no file with bytes stands there
+free-at : (path bytes : List ℕ) → (let os : List Obstacle = cond (length bytes == 0) [] (stands path ∷ []) in os) ≡ [] → bytes ≡ []
+free-at path [] none = refl
+free-at path (b ∷ bytes) none = absurd (no (sym (ap (λ z. let os : List Obstacle = cond z [] (stands path ∷ []) in os) (some-length (length (b ∷ bytes)) (omega arith))) ∙ none))
+  where
+    no : ◌≡◌ {A = List Obstacle} (stands path ∷ []) [] → ⊥
+    no h = cc
+
+-- where nothing is met at the place of a filelog without entries, its files have no bytes
+place-free : (t : Tree) (f : OfLog) (obstacles : List Obstacle) → length f.log.entries ≡ 0 → place_in f t ≡ Ok obstacles → obstacles ≡ [] → (bytes_at t f.index ≡ []) × (bytes_at t f.chunks ≡ [])
+place-free t f obstacles none e free =
+    let met : standing_at f.index t ++ standing_at f.chunks t ≡ [] = ok-is {E = ReadAnswer} (standing_at f.index t ++ standing_at f.chunks t) obstacles (sym (ap answer none) ∙ e) ∙ free in
+    (free-at f.index (bytes_at t f.index) (none-left (standing_at f.index t) (standing_at f.chunks t) met), free-at f.chunks (bytes_at t f.chunks) (none-right (standing_at f.index t) (standing_at f.chunks t) met))
+  where
+    answer : ℕ → Result (List Obstacle) ReadAnswer
+    answer n = cond (n == 0) (Ok (standing_at f.index t ++ standing_at f.chunks t)) (and_then (data_in f.index f.chunks f.log t) (λ x. Ok []))
+
+-- a revision that is kept is one of the list
+kept-some : (log : List Revision) (a b : Option ℕ) (body : List ℕ) (rev : ℕ) → IfSome a (λ p. p < length log) → kept_of log a b body ≡ Some rev → 0 < length log
+kept-some log None b body rev low e = absurd (no e)
+  where
+    no : None ≡ Some rev → ⊥
+    no h = cc
+kept-some log (Some a) None body rev low e = omega (arith, low)
+kept-some log (Some a) (Some b) body rev low e = absurd (no e)
+  where
+    no : None ≡ Some rev → ⊥
+    no h = cc
+
+-- ---- a file
+
+module _ (laws : Below) (t : Tree) (r : Repo) (l : Loaded) (s : Stands t r) (loads : IsLoadedOf t l) (n : NewChange) (parents : Parents) (link : ℕ) (linked : link ≡ length (history r.changesets).placed) (file : NewFile) where
+  abbrev h : History
+  h = history r.changesets
+
+  abbrev c : Changeset
+  c = new_changeset h parents n
+
+  abbrev g : TreeFile
+  g = new_file h parents file
+
+  abbrev revisions : List Revision
+  revisions = h.filelog file.path
+
+  abbrev both_parents : Parents
+  both_parents = file_parents h parents file.path
+
+  abbrev old : Option Told
+  old = first_of (told_at h parents.0 file.path) (told_at h parents.1 file.path)
+
+  abbrev Found : Type 0
+  Found = find (λ (y : TreeFile). same y.path g.path) c.tree ≡ Some g
+
+  -- a path with revisions is used
+  used-with : 0 < length revisions → uses r.changesets file.path ≡ true
+  used-with some = by (bool (uses r.changesets file.path))
+    where
+      by : (uses r.changesets file.path ≡ true) ⊎ (uses r.changesets file.path ≡ false) → uses r.changesets file.path ≡ true
+      by (inl used) = used
+      by (inr unused) = absurd (omega (arith, some, ap length (laws.unused r.changesets file.path unused)))
+
+  module _ (log : Log) (is : IsLogOf t (filelog_at file.path log) revisions) (whole : uses r.changesets file.path ≡ true → IsWhole t (filelog_at file.path log)) where
+    abbrev f : OfLog
+    f = filelog_at file.path log
+
+    -- a file whose revision is kept
+    grown-kept : (rev : ℕ) → kept h parents file.path file.body ≡ Some rev → Found → IsGrownFileOf t h c g (kept_file f file old rev)
+    grown-kept rev k found = record {
+      path = refl;
+      growth = subst (λ (new : List Revision). AreAppends t (filelog_growth t g.path revisions new) []) (sym stays) (subst (λ (ops : List Op). AreAppends t ops []) (sym (grown-none t f.index f.chunks revisions)) (no-appends t));
+      new = sym (some-length (length revisions) some);
+      fresh = subst (AreNewRevisions revisions) (sym stays) (fresh-same t f revisions is);
+      small = small-files t file.path log revisions is (whole (used-with some));
+      free = λ none. absurd (omega (arith, some, ap length none));
+    }
+      where
+        some : 0 < length revisions
+        some = kept-some revisions both_parents.0 both_parents.1 file.body rev (file-revision-below h parents file.path (sound r s.repository)).first k
+
+        stays : filelog_with h c g.path ≡ revisions
+        stays = filelog-is laws t r l s loads n parents link linked file (Some rev) k found
+
+    abbrev asked : Revision
+    asked = record { text = plain_prefix file.body ++ file.body; parents = both_parents; link = link }
+
+    abbrev made_of : OfText × List Obstacle → List Obstacle → OfFile × List Obstacle
+    made_of text obstacles = (record { row = row_with file text.0.node; changed = true; growth = text.0.growth; new = length f.log.entries == 0 }, obstacles ++ text.1)
+
+    -- a file with another revision, before which nothing was met
+    grown-new : (text : OfText × List Obstacle) (obstacles : List Obstacle) → kept h parents file.path file.body ≡ None → Found → new_text_in f asked t ≡ Ok text → place_in f t ≡ Ok obstacles → text.1 ≡ [] → obstacles ≡ [] → IsGrownFileOf t h c g (made_of text obstacles).0
+    grown-new text obstacles k found told placed plain free = record {
+      path = refl;
+      growth = subst (λ (new : List Revision). AreAppends t (filelog_growth t g.path revisions new) (changes_of text.0.growth)) (sym more)
+          (subst (λ (o : Option OfGrowth). AreAppends t (filelog_growth t g.path revisions (with_revision revisions revision)) (changes_of o)) (sym growth) (growth-grows t f revisions revision (standing_in revisions revision.text revision.parents) is whole_now));
+      new = ap (λ m. m == 0) count;
+      fresh = subst (AreNewRevisions revisions) (sym more) (subst (λ (z : Revision). AreNewRevisions revisions (with_revision revisions z)) same_revision (y.2.fresh (ap (λ (z : OfText × List Obstacle). z.1) text_is ∙ plain)));
+      small = small-files t file.path log revisions is whole_now;
+      free = λ none. no-bytes none;
+    }
+      where
+        revision : Revision
+        revision = file_revision h c g
+
+        y : (z : OfText × List Obstacle) × (new_text_in f asked t ≡ Ok z) × IsTextOf f revisions asked z
+        y = text-of t f revisions asked is
+
+        text_is : y.0 ≡ text
+        text_is = ok-is {E = ReadAnswer} y.0 text (sym y.1 ∙ told)
+
+        same_revision : asked ≡ revision
+        same_revision = new-revision laws t r l s loads n parents link linked file k
+
+        growth : text.0.growth ≡ growth_by f revision (standing_in revisions revision.text revision.parents)
+        growth =
+            ap (λ (z : OfText × List Obstacle). z.0.growth) (sym text_is) ∙ y.2.growth (ap (λ (z : OfText × List Obstacle). z.1) text_is ∙ plain)
+            ∙ ap (λ (z : Revision). growth_by f z (standing_in revisions z.text z.parents)) same_revision
+
+        more : filelog_with h c g.path ≡ with_revision revisions revision
+        more = filelog-is laws t r l s loads n parents link linked file None k found
+
+        count : length f.log.entries ≡ length revisions
+        count = count-is t f revisions is
+
+        no-bytes : revisions ≡ [] → (ext : Ext) → bytes_at t (store_name file.path ext) ≡ []
+        no-bytes none I = (place-free t f obstacles (count ∙ ap length none) placed free).0
+        no-bytes none D = (place-free t f obstacles (count ∙ ap length none) placed free).1
+
+        whole_now : IsWhole t f
+        whole_now = by (bool (uses r.changesets file.path))
+          where
+            by : (uses r.changesets file.path ≡ true) ⊎ (uses r.changesets file.path ≡ false) → IsWhole t f
+            by (inl used) = whole used
+            by (inr unused) = let none = laws.unused r.changesets file.path unused in whole-empty t f (count ∙ ap length none) (no-bytes none I) (no-bytes none D)
+
+    grown-by : (x : OfFile × List Obstacle) (o : Option ℕ) → kept h parents file.path file.body ≡ o → Found → file_with f file old both_parents link o t ≡ Ok x → x.1 ≡ [] → IsGrownFileOf t h c g x.0
+    grown-by x (Some rev) k found e free = subst (λ (z : OfFile × List Obstacle). IsGrownFileOf t h c g z.0) (ok-is {E = ReadAnswer} (kept_file f file old rev, []) x e) (grown-kept rev k found)
+    grown-by x None k found e free =
+        let a = both (new_text_in f asked t) (λ text. and_then (place_in f t) (λ obstacles. Ok (made_of text obstacles))) x e in
+        let b = both (place_in f t) (λ obstacles. Ok (made_of a.0 obstacles)) x a.2 in
+        let made : made_of a.0 b.0 ≡ x = ok-is {E = ReadAnswer} (made_of a.0 b.0) x b.2 in
+        let none : b.0 ++ a.0.1 ≡ [] = ap (λ (z : OfFile × List Obstacle). z.1) made ∙ free in
+        subst (λ (z : OfFile × List Obstacle). IsGrownFileOf t h c g z.0) made (grown-new a.0 b.0 k found a.1 b.1 (none-right b.0 a.0.1 none) (none-left b.0 a.0.1 none))
+
+  pub grown-file : (x : OfFile × List Obstacle) → Found → file_in (listing l.fncache) link file (told_at h parents.0 file.path) (told_at h parents.1 file.path) t ≡ Ok x → x.1 ≡ [] → IsGrownFileOf t h c g x.0
+  grown-file x found e free =
+      let a = file-steps laws t r l s loads n parents link linked file x e in
+      let p = parts-of laws t r l file.path a.0 s loads a.1 in
+      let back = sym p.is in
+      grown-by p.log (subst (λ (z : OfLog). IsLogOf t z revisions) back a.2) p.whole x (kept h parents file.path file.body) refl found
+      (subst (λ (z : OfLog). file_with z file old both_parents link (kept h parents file.path file.body) t ≡ Ok x) back a.3) free

@@ -1,0 +1,11 @@
+//! Examples of whole runs over files in memory. There is nothing here but tests.
+#![tactic(auto)]
+
+#[cfg(test)]
+mod outside;
+#[cfg(test)]
+mod refresh;
+#[cfg(test)]
+mod stops;
+#[cfg(test)]
+mod stores;

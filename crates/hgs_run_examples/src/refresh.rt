@@ -1,0 +1,139 @@
+//! A session that is loaded again after its files changed. The stores are those of the other tests.
+use crate::stores::{FIRST, FIRST_CHUNK, SECOND, SECOND_CHUNK, TURNED, both, store};
+use hgs_files::files::Files;
+use hgs_files::path::StorePath;
+use hgs_mem::mem::MemFiles;
+use hgs_reader::session::Session;
+use std::alloc::Global;
+use std::test::Fail;
+
+const DRAFT: &[u8] = b"1 cb9a9f314b8b07ba71012fcdbc544b5a4d82ff5b\n";
+
+const MARK: &[u8] = b"37bdf19219c0e69b87d6371fabfaf5c3a63794d9 new\n";
+
+/// Sets the bytes of a file, whatever stood there.
+fn set(alloc: Global, files: &mut MemFiles, path: &[u8], bytes: &[u8]) -> Result<(), Fail> {
+    let path = StorePath::new(alloc, path)?;
+    files.remove(&path)?;
+    files.put(&path, bytes)?;
+    Ok(())
+}
+
+/// The store of the first changeset, or of both.
+fn store_of(alloc: Global, whole: bool) -> Result<MemFiles, Fail> {
+    if whole {
+        let index = both(alloc, FIRST, SECOND)?;
+        store(alloc, &index, &both(alloc, FIRST_CHUNK, SECOND_CHUNK)?)
+    } else {
+        store(alloc, FIRST, FIRST_CHUNK)
+    }
+}
+
+/// The heads, the bookmarks and the phase of the first changeset that a session tells.
+fn told(alloc: Global, session: &Session) -> Result<Vec<u8>, Fail> {
+    let mut text = Vec::new(alloc);
+    session.heads(&mut text)?;
+    session.bookmarks(&mut text)?;
+    if session.len() > 0 {
+        text.extend_from_slice(session.phase(0).name())?;
+    }
+    Ok(text)
+}
+
+const FIRST_TOLD: &[u8] = b"0 cb9a9f314b8b07ba71012fcdbc544b5a4d82ff5b\npublic";
+
+/// Of both changesets, with no phase root and no bookmark.
+const PLAIN_TOLD: &[u8] = b"1 37bdf19219c0e69b87d6371fabfaf5c3a63794d9\npublic";
+
+const BOTH_TOLD: &[u8] =
+    b"1 37bdf19219c0e69b87d6371fabfaf5c3a63794d9\nnew\t1\t37bdf19219c0e69b87d6371fabfaf5c3a63794d9\ndraft";
+
+/// The store of both changesets with a draft and a bookmark. It lacks `requires`, which a refresh does not read again.
+fn published(alloc: Global) -> Result<MemFiles, Fail> {
+    let mut files = store_of(alloc, true)?;
+    set(alloc, &mut files, b"store/phaseroots", DRAFT)?;
+    set(alloc, &mut files, b"bookmarks", MARK)?;
+    files.remove(&StorePath::new(alloc, b"requires")?)?;
+    Ok(files)
+}
+
+/// The store of both changesets with other bytes at a path.
+fn damaged(alloc: Global, path: &[u8], bytes: &[u8]) -> Result<MemFiles, Fail> {
+    let mut files = store_of(alloc, true)?;
+    set(alloc, &mut files, path, bytes)?;
+    Ok(files)
+}
+
+/// The line of the refusal with which a refresh ends; empty where there is none.
+fn refused(alloc: Global, session: &mut Session, files: &mut MemFiles) -> Result<Vec<u8>, Fail> {
+    let mut line = Vec::new(alloc);
+    match session.refresh(files) {
+        Ok(()) => {}
+        Err(refusal) => refusal.print(alloc, &mut line)?,
+    }
+    Ok(line)
+}
+
+/// What a session over the first files tells before it is refreshed from the second, the line of the refresh, and what it
+/// tells after.
+fn around(
+    alloc: Global,
+    first: &mut MemFiles,
+    second: &mut MemFiles,
+) -> Result<[Vec<u8>; 3], Fail> {
+    let mut session = Session::open(alloc, first)?;
+    let before = told(alloc, &session)?;
+    let line = refused(alloc, &mut session, second)?;
+    let after = told(alloc, &session)?;
+    Ok([before, line, after])
+}
+
+#[test]
+fn a_refresh_sees_what_was_published(rt: HostRuntime) -> Result<(), Fail> {
+    let alloc = rt.alloc();
+    let mut first = store_of(alloc, false)?;
+    let [before, refusal, after] = around(alloc, &mut first, &mut published(alloc)?)?;
+    assert_eq!(rt; before.as_slice(), FIRST_TOLD);
+    assert_eq!(rt; refusal.as_slice(), b"".as_slice());
+    assert_eq!(rt; after.as_slice(), BOTH_TOLD);
+    Ok(())
+}
+
+/// A file, its new bytes, and the line of the refusal.
+type Case = (&'static [u8], &'static [u8], &'static [u8]);
+
+// The second changeset is taken away, or the first is another; or a file of the load is out of form.
+const CASES: [Case; 3] = [
+    (
+        b"store/00changelog.i",
+        FIRST,
+        b"abort: damaged store/00changelog.i: shrunk 1 1\n",
+    ),
+    (
+        b"store/00changelog.i",
+        TURNED,
+        b"abort: damaged store/00changelog.i: shrunk 1 0\n",
+    ),
+    (
+        b"bookmarks",
+        b"no line\n",
+        b"abort: damaged bookmarks: bookmarks 1 1\n",
+    ),
+];
+
+#[test]
+fn a_refused_refresh_changes_nothing(rt: HostRuntime) -> Result<(), Fail> {
+    let alloc = rt.alloc();
+    for (path, bytes, line) in CASES {
+        let mut first = store_of(alloc, true)?;
+        let [before, refusal, after] = around(
+            alloc,
+            &mut first,
+            &mut damaged(alloc, path, bytes)?,
+        )?;
+        assert_eq!(rt; before.as_slice(), PLAIN_TOLD);
+        assert_eq!(rt; refusal.as_slice(), line);
+        assert_eq!(rt; after.as_slice(), PLAIN_TOLD);
+    }
+    Ok(())
+}

@@ -1,0 +1,122 @@
+//! Each call of a commit stops in turn after so many bytes, or fails, and so does each of a recovery behind it: what is told then
+//! are the lines before or those after, and those after where the commit was answered. The nodes are Mercurial's.
+use hgs_files::yard::{Left, Yard};
+use hgs_mem::mem::MemFiles;
+use hgs_mem::streams::{MemSink, MemSource};
+use hgs_mem::yard::MemYard;
+use hgs_top::run::{Ran, run};
+use std::test::Fail;
+
+const FIRST: &[u8] = b"commit\nuser test\ndate 0 0\ndesc 1\na\nfile - 2 a\na\n\nend\n";
+
+const SECOND: &[u8] =
+    b"commit\nparent tip\nuser test\ndate 60 0\ndesc 1\nb\nfile - 2 a\na\n\nfile - 2 b\nb\n\nend\n";
+
+const BEFORE: &[u8] =
+    b"0\x09cb9a9f314b8b07ba71012fcdbc544b5a4d82ff5b\x09-1\x09-1\x090\x090\x09test\x09a\n";
+
+const AFTER: &[u8] =
+    b"1\x0937bdf19219c0e69b87d6371fabfaf5c3a63794d9\x090\x09-1\x0960\x090\x09test\x09b\n0\x09cb9a9f314b8b07ba71012fcdbc544b5a4d82ff5b\x09-1\x09-1\x090\x090\x09test\x09a\n";
+
+/// More calls than a commit makes.
+const CALLS: u64 = 100;
+
+/// What a word comes to over these files, with this input: the status, the text, and the files.
+#[derive(Drop)]
+struct Came {
+    status: u8,
+    text: Vec<u8>,
+    files: MemFiles,
+}
+
+fn run_word(rt: &HostRuntime, files: MemFiles, word: &str, given: &[u8]) -> Result<Came, Fail> {
+    let alloc = rt.alloc();
+    let mut words = Vec::new(alloc);
+    words.push(String::from_str(alloc, word)?)?;
+    let mut input = MemSource::new(alloc, given)?;
+    let mut sink = MemSink::new(alloc);
+    let Ran { status, left } = run(
+        rt,
+        alloc,
+        &words,
+        MemYard::new(files),
+        &mut input,
+        &mut sink,
+    );
+    let Left::Whole(yard) = left;
+    let (files, _) = yard.alone();
+    Ok(Came {
+        status,
+        text: Vec::from_slice(alloc, sink.bytes())?,
+        files,
+    })
+}
+
+/// A repository with the first changeset.
+fn committed(rt: &HostRuntime) -> Result<MemFiles, Fail> {
+    let made = run_word(rt, MemFiles::new(rt.alloc())?, "init", b"")?;
+    let first = run_word(rt, made.files, "commit", FIRST)?;
+    Ok(first.files.restart())
+}
+
+/// Recovers, and gives the lines of the history.
+fn lines(rt: &HostRuntime, files: MemFiles) -> Result<Vec<u8>, Fail> {
+    let recovered = run_word(rt, files.restart(), "recover", b"")?;
+    Ok(run_word(rt, recovered.files, "log", b"")?.text)
+}
+
+/// Whether the lines behind a commit that came to this are those before or those after, and those after where it was answered.
+fn is_right(rt: &HostRuntime, left: Came) -> Result<bool, Fail> {
+    let Came { status, files, .. } = left;
+    let lines = lines(rt, files)?;
+    Ok(lines.as_slice() == AFTER || status != 0 && lines.as_slice() == BEFORE)
+}
+
+#[test]
+fn each_call_of_a_commit_stops_in_turn(rt: HostRuntime) -> Result<(), Fail> {
+    for call in 0..CALLS {
+        for bytes in [0, 1, 32, 63, 64] {
+            let mut files = committed(&rt)?;
+            files.stop(call, bytes);
+            let left = run_word(&rt, files, "commit", SECOND)?;
+            assert!(rt; is_right(&rt, left)?);
+        }
+    }
+    Ok(())
+}
+
+#[test]
+fn each_call_of_a_commit_fails_in_turn(rt: HostRuntime) -> Result<(), Fail> {
+    for call in 0..CALLS {
+        for bytes in [0, 1, 32, 63, 64] {
+            let mut files = committed(&rt)?;
+            files.fail(call, bytes)?;
+            let left = run_word(&rt, files, "commit", SECOND)?;
+            assert!(rt; is_right(&rt, left)?);
+        }
+    }
+    Ok(())
+}
+
+/// A commit that stopped at each of its calls, and a recovery that stopped at each of its own.
+#[test]
+fn each_call_of_a_recovery_stops_in_turn(rt: HostRuntime) -> Result<(), Fail> {
+    for commit_call in 0..CALLS {
+        let mut files = committed(&rt)?;
+        files.stop(commit_call, 1);
+        let open = run_word(&rt, files, "commit", SECOND)?;
+        if open.status == 0 {
+            break;
+        }
+        for call in 0..CALLS {
+            let mut files = committed(&rt)?;
+            files.stop(commit_call, 1);
+            let mut files = run_word(&rt, files, "commit", SECOND)?.files.restart();
+            files.stop(call, 0);
+            let left = run_word(&rt, files, "recover", b"")?;
+            let lines = lines(&rt, left.files)?;
+            assert!(rt; lines.as_slice() == BEFORE || lines.as_slice() == AFTER);
+        }
+    }
+    Ok(())
+}

@@ -1,0 +1,95 @@
+-- The words of a command that sets a bookmark have a name that a bookmark can have.
+use Rattle.std.proofs.Common.{◌≡◌, ℕ, ◌+◌, Bool, true, false, List, [], ◌∷◌, Option, Some, None, Result, Ok, Err, refl, sym, subst}
+use Rattle.std.specs.Prelude.{if◌then◌else◌, IfOk, ⊤, slice_index_or, codes, not, ◌&&◌}
+use Rattle.hgs_bytes.specs.Bytes.{same, begins_with}
+use Rattle.hgs_index.specs.MarkName.{is_mark_name}
+use Rattle.hgs_model.specs.declared.phase.Phase.{Phase}
+use Rattle.hgs_top.specs.declared.operands.Operand.{Operand}
+use Rattle.hgs_top.specs.declared.operands.Operand.TheVariants as operand_kinds
+use Rattle.hgs_top.specs.declared.pages.Page.{Page}
+use Rattle.hgs_top.specs.Words.{Question, Job, do_init, do_commit, do_recover, do_move, do_mark, do_unmark, Request, to_answer, to_do, operands, operand, with_operand, asked_with, alone_named, alone_else, about_named, bookmark_with, phase_with, phase_or_move, moved_with, behind_word, request_named, request_of_words, page_named, page_else}
+
+abbrev pub IsFitJob : Job → Type 0
+IsFitJob do_init = ⊤
+IsFitJob do_commit = ⊤
+IsFitJob do_recover = ⊤
+IsFitJob (do_move rev phase force) = ⊤
+IsFitJob (do_mark name rev) = is_mark_name name ≡ true
+IsFitJob (do_unmark name) = ⊤
+
+abbrev pub IsFitRequest : Request → Type 0
+IsFitRequest (to_answer question) = ⊤
+IsFitRequest (to_do job) = IsFitJob job
+
+either : (b : Bool) (x y : Result Request ℕ) → IfOk x IsFitRequest → IfOk y IsFitRequest → IfOk (if b then x else y) IsFitRequest
+either true x y hx hy = hx
+either false x y hx hy = hy
+
+with-operands : (f : List (List ℕ) → Request) (r : Result (List (List ℕ)) ℕ) → ((words : List (List ℕ)) → r ≡ Ok words → IsFitRequest (f words)) → IfOk (asked_with f r) IsFitRequest
+with-operands f (Ok words) h = h words refl
+with-operands f (Err place) h = tt
+
+first-word : (word : List ℕ) (r : Result (List (List ℕ)) ℕ) (words : List (List ℕ)) → with_operand word r ≡ Ok words → operand words 0 ≡ word
+first-word word (Ok rest) (w ∷ words) h = cc
+first-word word (Ok rest) [] h = cc
+first-word word (Err place) words h = cc
+
+first-fits : (ended : Bool) (kinds : List Operand) (place : ℕ) (words found : List (List ℕ)) → operands ended (operand_kinds.MarkName ∷ kinds) place words ≡ Ok found → is_mark_name (operand found 0) ≡ true
+first-fits ended kinds place [] found h = cc
+first-fits ended kinds place (word ∷ words) found h = by (not ended && same word (codes "--")) (not ended && begins_with word (codes "-")) (is_mark_name word) refl (first-fits true kinds (place + 1) words found) h
+  where
+    by : (ends option fit : Bool) → is_mark_name word ≡ fit → (operands true (operand_kinds.MarkName ∷ kinds) (place + 1) words ≡ Ok found → is_mark_name (operand found 0) ≡ true)
+        → (if ends then operands true (operand_kinds.MarkName ∷ kinds) (place + 1) words else if option then Err place else if fit then with_operand word (operands ended kinds (place + 1) words) else Err place) ≡ Ok found → is_mark_name (operand found 0) ≡ true
+    by true option fit e behind k = behind k
+    by false true fit e behind k = cc
+    by false false true e behind k = subst (λ w. is_mark_name w ≡ true) (sym (first-word word (operands ended kinds (place + 1) words) found k)) e
+    by false false false e behind k = cc
+
+bookmark-fits : (behind : Option (List (List ℕ))) (words : List (List ℕ)) → IfOk (bookmark_with behind words) IsFitRequest
+bookmark-fits (Some behind) words = with-operands (λ w. to_do (do_unmark (operand w 0))) (operands false (operand_kinds.MarkName ∷ []) 2 behind) (λ found h. tt)
+bookmark-fits None words = with-operands (λ w. to_do (do_mark (operand w 0) (operand w 1))) (operands false (operand_kinds.MarkName ∷ operand_kinds.Any ∷ []) 1 words) (λ found h. first-fits false (operand_kinds.Any ∷ []) 1 words found h)
+
+move-fits : (force : Bool) (r : Result (List (List ℕ)) ℕ) → IfOk (moved_with force r) IsFitRequest
+move-fits force (Ok words) = tt
+move-fits force (Err place) = tt
+
+phase-fits : (behind : Option (List (List ℕ))) (words : List (List ℕ)) → IfOk (phase_with behind words) IsFitRequest
+phase-fits (Some behind) words = move-fits true (operands false (operand_kinds.Any ∷ operand_kinds.PhaseName ∷ []) 2 behind)
+phase-fits None words = by (operands false (operand_kinds.Any ∷ []) 1 words) (operands false (operand_kinds.Any ∷ operand_kinds.PhaseName ∷ []) 1 words)
+  where
+    by : (one both : Result (List (List ℕ)) ℕ) → IfOk (phase_or_move one both) IsFitRequest
+    by (Ok found) both = tt
+    by (Err place) both = move-fits false both
+
+about-fits : (name : List ℕ) (words : List (List ℕ)) → IfOk (about_named name words) IsFitRequest
+about-fits name words =
+    either (same name (codes "files")) _ _ (with-operands _ (operands false (operand_kinds.Any ∷ []) 1 words) (λ found h. tt))
+    (either (same name (codes "cat")) _ _ (with-operands _ (operands false (operand_kinds.Any ∷ operand_kinds.Any ∷ []) 1 words) (λ found h. tt))
+    (either (same name (codes "phase")) _ _ (phase-fits (behind_word (codes "--force") words) words)
+    (either (same name (codes "bookmark")) _ _ (bookmark-fits (behind_word (codes "--delete") words) words) tt)))
+
+abbrev IsFitOption : Option Request → Type 0
+IsFitOption None = ⊤
+IsFitOption (Some request) = IsFitRequest request
+
+either-option : (b : Bool) (x y : Option Request) → IsFitOption x → IsFitOption y → IsFitOption (if b then x else y)
+either-option true x y hx hy = hx
+either-option false x y hx hy = hy
+
+alone-fits : (name : List ℕ) → IsFitOption (alone_named name)
+alone-fits name =
+    either-option (same name (codes "log")) _ _ tt (either-option (same name (codes "heads")) _ _ tt (either-option (same name (codes "bookmarks")) _ _ tt (either-option (same name (codes "parents")) _ _ tt
+    (either-option (same name (codes "init")) _ _ tt (either-option (same name (codes "commit")) _ _ tt (either-option (same name (codes "recover")) _ _ tt tt))))))
+
+alone-else-fits : (o : Option Request) (about : Result Request ℕ) (words : List (List ℕ)) → IsFitOption o → IfOk about IsFitRequest → IfOk (alone_else o about words) IsFitRequest
+alone-else-fits None about words fit h = h
+alone-else-fits (Some request) about words fit h = with-operands (λ w. request) (operands false [] 1 words) (λ found k. fit)
+
+page-else-fits : (o : Option Page) (words : List (List ℕ)) (r : Result Request ℕ) → IfOk r IsFitRequest → IfOk (page_else o words r) IsFitRequest
+page-else-fits None words r h = h
+page-else-fits (Some page) [] r h = tt
+page-else-fits (Some page) (word ∷ words) r h = tt
+
+pub request-fits : (words : List (List ℕ)) → IfOk (request_of_words words) IsFitRequest
+request-fits [] = tt
+request-fits (name ∷ words) = page-else-fits (page_named name) words (request_named name words) (alone-else-fits (alone_named name) (about_named name words) words (alone-fits name) (about-fits name words))

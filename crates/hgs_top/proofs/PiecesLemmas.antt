@@ -1,0 +1,51 @@
+-- What a run did to the log is made of pieces of a legal log.
+use Rattle.std.proofs.Common.{◌≡◌, ◌++◌, ℕ, List, [], Option, Some, None, Result, Ok, Err, refl, sym, ◌∙◌, ap, subst}
+use Rattle.std.proofs.lemmas.List.{append-nil}
+use Rattle.std.specs.Prelude.{IfSome}
+use Rattle.hgs_answers.specs.declared.answer.Answer.{Answer}
+use Rattle.hgs_files.specs.declared.op.Op.{Op}
+use Rattle.hgs_files.specs.Tree.{Tree, after_all}
+use Rattle.hgs_legal.specs.Pieces.{Pieces, no_pieces}
+use Rattle.hgs_model.specs.Repo.{Repo}
+use Rattle.hgs_model.specs.Valid.{IsValid}
+use Rattle.hgs_model.specs.declared.command.Command.{Command}
+use Rattle.hgs_stands.specs.Stands.{Stands}
+use Rattle.hgs_writer.specs.Alone.{HasWhatItNeeds}
+use Rattle.hgs_top.specs.Histories.{GoesOnAs, IsWriting, MakesHistory, MakesPieces}
+use Rattle.hgs_top.specs.Orders.{ComesTo, IsCommandOf, Obeys}
+use Rattle.hgs_top.specs.Words.{Job, Request, do_init, do_recover, request_of_words, to_do}
+use Rattle.hgs_top.specs.declared.ended.Ended.{Ended}
+use Rattle.hgs_top.specs.declared.ended.Ended.TheVariants.{Made, Exists, NotMade, NoInput, NoRecord, Refused, Answered, Recovered}
+
+-- What is taken of the laws: a command that words and input give is valid, and one that was answered made a history.
+pub record Taken : Type 0 where
+  pub valid : (words : List (List ℕ)) (job : Job) (bytes : List ℕ) (command : Command) → request_of_words words ≡ Ok (to_do job) → IsCommandOf job (Some bytes) command → IsValid command
+  pub answered : (job : Job) (left : Option (List ℕ)) (log : List Op) (new : Option (List Op)) (start : Tree) (r : Repo) (command : Command) (answer : Answer) → Stands (after_all log start) r → IsValid command → HasWhatItNeeds (after_all log start) r command → ComesTo job left (Some log) new start (Answered command answer) → GoesOnAs log new start r command answer.outcome
+
+module _ (taken : Taken) (words : List (List ℕ)) (job : Job) (bytes : List ℕ) (log : List Op) (new : Option (List Op)) (start : Tree) (asked : request_of_words words ≡ Ok (to_do job)) (writing : IsWriting job) (r : Repo) (stands : Stands (after_all log start) r)
+    (needs : (command : Command) → IsCommandOf job (Some bytes) command → HasWhatItNeeds (after_all log start) r command) where
+  unchanged : new ≡ Some log → (done : List Op) × (new ≡ Some (log ++ done)) × Pieces (after_all log start) r done
+  unchanged e = ([], e ∙ ap (λ l. Some l) (sym (append-nil log)), no_pieces)
+
+  pub by-end : (ended : Ended) → ComesTo job (Some bytes) (Some log) new start ended → (done : List Op) × (new ≡ Some (log ++ done)) × Pieces (after_all log start) r done
+  by-end Made comes = absurd (subst IsWriting comes.0 writing)
+  by-end Exists comes = absurd (subst IsWriting comes.0 writing)
+  by-end (NotMade fault) comes = absurd (subst IsWriting comes.0 writing)
+  by-end NoInput comes = unchanged comes.1
+  by-end (NoRecord fault) comes = unchanged comes.2
+  by-end (Refused refusal) comes = unchanged comes.1
+  by-end (Answered command answer) comes =
+      let history = taken.answered job (Some bytes) log new start r command answer stands (taken.valid words job bytes command asked comes.0) (needs command comes.0) comes in
+      (history.0, history.1, history.2.pieces)
+  by-end (Recovered done) comes = absurd (subst IsWriting comes.0 writing)
+
+obeyed : (taken : Taken) (words : List (List ℕ)) (bytes : List ℕ) (log : List Op) (new : Option (List Op)) (start : Tree) (request : Result Request ℕ) (status : ℕ) (written_old written_new : Option (List ℕ)) → request_of_words words ≡ request
+    → Obeys request (Some bytes) (Some log) new start status written_old written_new → (job : Job) → request ≡ Ok (to_do job) → IsWriting job → MakesPieces job bytes log new start
+obeyed taken words bytes log new start request status written_old written_new is obeys job e writing = λ r stands needs.
+    let does = subst (λ (q : Result Request ℕ). Obeys q (Some bytes) (Some log) new start status written_old written_new) e obeys in
+    by-end taken words job bytes log new start (is ∙ e) writing r stands needs does.0 does.1
+
+pub made : (taken : Taken) (words : List (List ℕ)) (left : Option (List ℕ)) (old new : Option (List Op)) (start : Tree) (status : ℕ) (written_old written_new : Option (List ℕ)) → Obeys (request_of_words words) left old new start status written_old written_new → MakesHistory words left old new start
+made taken words None old new start status written_old written_new obeys = tt
+made taken words (Some bytes) None new start status written_old written_new obeys = tt
+made taken words (Some bytes) (Some log) new start status written_old written_new obeys = obeyed taken words bytes log new start (request_of_words words) status written_old written_new refl obeys

@@ -1,0 +1,46 @@
+-- What a command that was answered did to files that stood for a repository.
+use Rattle.std.specs.Prelude.{◌≡◌, ◌++◌, List, Option, Some, ℕ, Ok, IfSome, ⊤}
+use Rattle.hgs_answers.specs.declared.outcome.Outcome.{Outcome}
+use Rattle.hgs_files.specs.declared.op.Op.{Op}
+use Rattle.hgs_files.specs.Stop.{StopLeaves}
+use Rattle.hgs_files.specs.Tree.{Tree, after_all}
+use Rattle.hgs_legal.specs.Pieces.{Pieces}
+use Rattle.hgs_model.specs.Repo.{Repo}
+use Rattle.hgs_model.specs.Step.{step}
+use Rattle.hgs_model.specs.declared.command.Command.{Command}
+use Rattle.hgs_stands.specs.Stands.{Stands}
+use Rattle.hgs_writer.specs.Alone.{HasWhatItNeeds, IsAnswered, IsStopOf}
+use Rattle.hgs_top.specs.Orders.{IsCommandOf}
+use Rattle.hgs_top.specs.Words.{Job, do_init, do_commit, do_recover, do_move, do_mark, do_unmark, request_of_words, to_do}
+
+-- The operations are pieces of a legal log; behind them the tree stands for what the answer says; and wherever they are stopped it
+-- stands for the repository before, or is open for it, or stands for the next one.
+pub record IsHistoryOf (t : Tree) (r : Repo) (command : Command) (outcome : Outcome) (done : List Op) : Type 0 where
+  pub pieces : Pieces t r done
+  pub answered : IsAnswered r (step r command) outcome (after_all done t)
+  pub stops : (u : Tree) → StopLeaves t done u → IsStopOf r (step r command) u
+
+-- The log went on by such operations.
+abbrev pub GoesOnAs : List Op → Option (List Op) → Tree → Repo → Command → Outcome → Type 0
+GoesOnAs log new start r command outcome = (done : List Op) × (new ≡ Some (log ++ done)) × IsHistoryOf (after_all log start) r command outcome done
+
+-- ---- a run
+
+-- a command whose operations are those of a transaction
+abbrev pub IsWriting : Job → Type 0
+IsWriting do_init = ⊥
+IsWriting do_commit = ⊤
+IsWriting do_recover = ⊥
+IsWriting (do_move rev phase force) = ⊤
+IsWriting (do_mark name rev) = ⊤
+IsWriting (do_unmark name) = ⊤
+
+-- From files that stand for a repository, and have what the command on the input needs of them that no test tells, the log went on
+-- by pieces of a legal log.
+abbrev pub MakesPieces : Job → List ℕ → List Op → Option (List Op) → Tree → Type 0
+MakesPieces job bytes log new start = (r : Repo) → Stands (after_all log start) r → ((command : Command) → IsCommandOf job (Some bytes) command → HasWhatItNeeds (after_all log start) r command)
+    → (done : List Op) × (new ≡ Some (log ++ done)) × Pieces (after_all log start) r done
+
+-- where the input and the log are told
+abbrev pub MakesHistory : List (List ℕ) → Option (List ℕ) → Option (List Op) → Option (List Op) → Tree → Type 0
+MakesHistory words left old new start = IfSome left (λ bytes. IfSome old (λ log. (job : Job) → request_of_words words ≡ Ok (to_do job) → IsWriting job → MakesPieces job bytes log new start))

@@ -1,0 +1,105 @@
+//! A bookmark is moved over files in memory, of which each call fails in turn.
+ghost use Rattle.std.specs.Prelude.{IfOk};
+ghost use Rattle.hgs_files.specs.Tree.{Tree};
+ghost use Rattle.hgs_machine.specs.Planned.{IsPlanned};
+
+use hgs_bytes::bytes::Bytes;
+use hgs_files::files::{Files, Reads};
+use hgs_files::path::StorePath;
+use hgs_machine::carry::carry_out;
+use hgs_machine::ended::{Ended, Published, Short};
+use hgs_machine::laws::plans_can_be_carried_out;
+use hgs_mem::mem::MemFiles;
+use hgs_transaction::assemble::{Plan, assemble};
+use hgs_transaction::parts::{Change, Changes, Parts, ReplacedFile, Replacing, Replacings};
+use std::alloc::{AllocError, Global};
+use std::test::Fail;
+
+/// The plan that gives the bookmarks another text.
+fn plan_of(alloc: Global) -> Result<Plan, AllocError>
+    ensures { IfOk result (λ plan. (t : Tree) → IsPlanned t plan) }
+{
+    plans_can_be_carried_out();
+    let bookmarks = Replacing {
+        file: ReplacedFile::Bookmarks,
+        text: Bytes::from_slice(alloc, b"new")?,
+        standing: Some(Bytes::from_slice(alloc, b"old")?),
+    };
+    assemble(
+        alloc,
+        Parts {
+            before: Changes::from_vec(Vec::new(alloc)),
+            publishing: Change::Replace(bookmarks),
+            after: Replacings::from_vec(Vec::new(alloc)),
+        },
+    )
+}
+
+/// Files with bookmarks and both locks.
+fn files_before(alloc: Global) -> Result<MemFiles, Fail> {
+    let mut files = MemFiles::new(alloc)?;
+    put(alloc, &mut files, b"bookmarks", b"old")?;
+    put(alloc, &mut files, b"wlock", b"me")?;
+    put(alloc, &mut files, b"store/lock", b"me")?;
+    Ok(files)
+}
+
+fn put(alloc: Global, files: &mut MemFiles, path: &[u8], bytes: &[u8]) -> Result<(), Fail> {
+    files.put(&StorePath::new(alloc, path)?, bytes)?;
+    Ok(())
+}
+
+/// The bytes of a file, none where it is absent.
+fn bytes_of(alloc: Global, files: &mut MemFiles, path: &[u8]) -> Result<Option<Vec<u8>>, Fail> {
+    let mut bytes = Vec::new(alloc);
+    match files.read(&StorePath::new(alloc, path)?, 0, 100, &mut bytes)? {
+        Some(_) => Ok(Some(bytes)),
+        None => Ok(None),
+    }
+}
+
+fn is_there(alloc: Global, files: &mut MemFiles, path: &[u8]) -> Result<bool, Fail> {
+    Ok(bytes_of(alloc, files, path)?.is_some())
+}
+
+/// Whether the bookmarks have this text.
+fn reads(alloc: Global, files: &mut MemFiles, text: &[u8]) -> Result<bool, Fail> {
+    match bytes_of(alloc, files, b"bookmarks")? {
+        Some(bytes) => Ok(bytes.as_slice() == text),
+        None => Ok(false),
+    }
+}
+
+/// Whether the files stand as this end says: as before, as after, or with the journal.
+fn stands_so(alloc: Global, files: &mut MemFiles, ended: Ended) -> Result<bool, Fail> {
+    let journal = is_there(alloc, files, b"store/journal")?;
+    match ended.outcome {
+        Short::Done => Ok(!journal && reads(alloc, files, b"new")?),
+        Short::Fault => Ok(!journal && reads(alloc, files, b"old")?),
+        Short::Unfinished(Published::Yes) => Ok(journal && reads(alloc, files, b"new")?),
+        _ => Ok(false),
+    }
+}
+
+/// The ends where each call fails in turn, in letters: taken back, unfinished behind the publishing operation, and done with
+/// something left.
+#[test]
+fn each_call_fails_in_turn(rt: HostRuntime) -> Result<(), Fail> {
+    let alloc = rt.alloc();
+    let mut ends = Vec::new(alloc);
+    for call in 0..17 {
+        let mut files = files_before(alloc)?;
+        files.fail(files.calls().saturating_add(call), 1)?;
+        let ended = carry_out(&mut files, plan_of(alloc)?);
+        let mut left = files.restart();
+        assert!(rt; stands_so(alloc, &mut left, ended)?);
+        ends.push(match ended.outcome {
+            Short::Fault => b'f',
+            Short::Unfinished(_) => b'u',
+            _ if ended.swept => b'd',
+            _ => b'l',
+        })?;
+    }
+    assert_eq!(rt; ends.as_slice(), b"fffffulllllllllld".as_slice());
+    Ok(())
+}

@@ -1,0 +1,170 @@
+//! Recovering over files in memory: a transaction that was left open, and each call that fails or stops in turn.
+use hgs_files::files::{Files, Reads};
+use hgs_files::path::StorePath;
+use hgs_mem::mem::MemFiles;
+use hgs_recover::answer::{RecoverAnswer, Recovered};
+use hgs_recover::recover::recover;
+use std::alloc::Global;
+use std::test::Fail;
+
+const JOURNAL: &[u8] = b"data/b.i\x000\nfncache\x0018\n00changelog.i\x0064\n";
+
+const BACKUPS: &[u8] =
+    b"2\nplain\x00dirstate\x00journal.backup.dirstate\x000\nplain\x00bookmarks\x00\x000\n";
+
+/// The files of a transaction that was left open.
+const WORKED_ON: [(&[u8], &[u8]); 10] = [
+    (b"store/data/b.i", b"an index"),
+    (b"store/fncache", b"data/a.i\ndata/a.d\ndata/b.i\n"),
+    (
+        b"store/00changelog.i",
+        b"................................................................and more",
+    ),
+    (b"dirstate", b"after"),
+    (b"bookmarks", b"after"),
+    (b"store/lock", b"me"),
+    (b"wlock", b"me"),
+    (b"store/journal", JOURNAL),
+    (b"store/journal.backupfiles", BACKUPS),
+    (b"journal.backup.dirstate", b"before"),
+];
+
+/// What the files are before the transaction, and none of those that it made or left.
+const BEFORE: [(&[u8], Option<&[u8]>); 10] = [
+    (b"store/data/b.i", None),
+    (b"store/fncache", Some(b"data/a.i\ndata/a.d\n")),
+    (
+        b"store/00changelog.i",
+        Some(b"................................................................"),
+    ),
+    (b"dirstate", Some(b"before")),
+    (b"bookmarks", None),
+    (b"store/lock", None),
+    (b"wlock", None),
+    (b"store/journal", None),
+    (b"store/journal.backupfiles", None),
+    (b"journal.backup.dirstate", None),
+];
+
+fn put(alloc: Global, files: &mut MemFiles, path: &[u8], bytes: &[u8]) -> Result<(), Fail> {
+    files.put(&StorePath::new(alloc, path)?, bytes)?;
+    Ok(())
+}
+
+/// A transaction that was left open.
+fn open(alloc: Global) -> Result<MemFiles, Fail> {
+    let mut files = MemFiles::new(alloc)?;
+    for (path, bytes) in WORKED_ON {
+        put(alloc, &mut files, path, bytes)?;
+    }
+    Ok(files.restart())
+}
+
+/// Whether a file has these bytes, or is absent.
+fn has(
+    alloc: Global,
+    files: &mut MemFiles,
+    path: &[u8],
+    wanted: Option<&[u8]>,
+) -> Result<bool, Fail> {
+    let mut bytes = Vec::new(alloc);
+    match files.read(&StorePath::new(alloc, path)?, 0, 100, &mut bytes)? {
+        Some(_) => Ok(wanted == Some(bytes.as_slice())),
+        None => Ok(wanted.is_none()),
+    }
+}
+
+/// Whether the files are those before the transaction.
+fn is_before(alloc: Global, files: &mut MemFiles) -> Result<bool, Fail> {
+    for (path, wanted) in BEFORE {
+        if !has(alloc, files, path, wanted)? {
+            return Ok(false);
+        }
+    }
+    Ok(true)
+}
+
+fn text_of(alloc: Global, recovered: &Recovered) -> Result<Vec<u8>, Fail> {
+    let mut text = Vec::from_slice(alloc, b"> ")?;
+    recovered.print(alloc, &mut text)?;
+    Ok(text)
+}
+
+#[test]
+fn an_open_transaction_is_undone_once(rt: HostRuntime) -> Result<(), Fail> {
+    let alloc = rt.alloc();
+    let mut files = open(alloc)?;
+    let first = recover(alloc, &mut files);
+    assert_eq!(rt; first.status(), 0);
+    assert_eq!(rt;
+        text_of(alloc, &first)?.as_slice(),
+        b"> transaction undone\n".as_slice()
+    );
+    assert!(rt; is_before(alloc, &mut files)?);
+    put(alloc, &mut files, b"wlock", b"me")?;
+    let second = recover(alloc, &mut files);
+    assert_eq!(rt; second.status(), 1);
+    assert_eq!(rt;
+        text_of(alloc, &second)?.as_slice(),
+        b"> no interrupted transaction available\n".as_slice()
+    );
+    assert!(rt; is_before(alloc, &mut files)?);
+    Ok(())
+}
+
+/// Recovers anew, and answers whether the files are those before.
+fn recovers(alloc: Global, files: MemFiles) -> Result<bool, Fail> {
+    let mut files = files.restart();
+    recover(alloc, &mut files);
+    is_before(alloc, &mut files)
+}
+
+/// The ends where each call fails in turn, in letters: a read failed, unfinished, and done with something left.
+#[test]
+fn each_call_fails_in_turn(rt: HostRuntime) -> Result<(), Fail> {
+    let alloc = rt.alloc();
+    let mut ends = Vec::new(alloc);
+    for call in 0..26 {
+        let mut files = open(alloc)?;
+        files.fail(call, 1)?;
+        let recovered = recover(alloc, &mut files);
+        ends.push(match recovered.outcome {
+            RecoverAnswer::Fault => b'f',
+            RecoverAnswer::Unfinished => b'u',
+            RecoverAnswer::Restored if recovered.swept => b'd',
+            RecoverAnswer::Restored => b'l',
+            _ => b'?',
+        })?;
+        assert!(rt; recovers(alloc, files)?);
+    }
+    assert_eq!(rt; ends.as_slice(), b"ffffffuuuuuuulllllllllllld".as_slice());
+    Ok(())
+}
+
+#[test]
+fn each_call_stops_in_turn(rt: HostRuntime) -> Result<(), Fail> {
+    let alloc = rt.alloc();
+    for call in 0..26 {
+        for bytes in 0..7 {
+            let mut files = open(alloc)?;
+            files.stop(call, bytes);
+            recover(alloc, &mut files);
+            assert!(rt; recovers(alloc, files)?);
+        }
+    }
+    Ok(())
+}
+
+#[test]
+fn what_is_left_is_said(rt: HostRuntime) -> Result<(), Fail> {
+    let alloc = rt.alloc();
+    let recovered = Recovered {
+        outcome: RecoverAnswer::NothingToDo,
+        swept: false,
+    };
+    assert_eq!(rt;
+        text_of(alloc, &recovered)?.as_slice(),
+        b"> no interrupted transaction available\nleftover files remain\n".as_slice()
+    );
+    Ok(())
+}

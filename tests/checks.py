@@ -1,0 +1,38 @@
+"""What scripts of checks share: counting, the program, and the bytes of a repository's files."""
+
+import os
+import subprocess
+
+HERE = os.path.dirname(os.path.abspath(__file__))
+
+
+class Checks:
+    """Counts what holds, and shows what does not."""
+
+    def __init__(self):
+        self.passed = self.failed = 0
+
+    def check(self, what, holds):
+        if holds:
+            self.passed += 1
+        else:
+            self.failed += 1
+            print(what)
+
+
+def built_program():
+    """The path of the program, which is built first where that is needed."""
+    built = subprocess.run([os.path.join(HERE, "../bin/hg_store"), "--build"], stdout=subprocess.PIPE, text=True, check=True)
+    return built.stdout.strip()
+
+
+def bytes_of(folder):
+    """The files below the folder's .hg that have bytes: their names in it, and these."""
+    found = {}
+    root = os.path.join(folder, ".hg")
+    for above, _, names in os.walk(root):
+        for name in names:
+            path = os.path.join(above, name)
+            with open(path, "rb") as file:
+                found[os.path.relpath(path, root)] = file.read()
+    return {path: data for path, data in found.items() if data}

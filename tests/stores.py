@@ -1,0 +1,270 @@
+#!/usr/bin/env python3
+"""Questions and commands over small stores that are laid out byte by byte, whole and damaged: what is written, the status, and the
+files that stand afterwards. A question changes none.
+
+Entries and nodes are made here by `struct` and `hashlib`; texts, lines and refusals are written by hand. The last line is
+'N passed, M failed'.
+"""
+
+import hashlib
+import os
+import struct
+import subprocess
+import sys
+import tempfile
+
+sys.dont_write_bytecode = True
+from checks import Checks, built_program, bytes_of
+
+NULL = bytes(20)
+REQUIRES = b"dotencode\nfncache\nrevlogv1\nstore\n"
+
+
+def node(text, parent=NULL):
+    return hashlib.sha1(min(parent, NULL) + max(parent, NULL) + text).digest()
+
+
+def revlog(*texts):
+    """Index and data of texts, each the child of the one before, stored whole behind a `u`."""
+    index, data, parent = b"", b"", NULL
+    for rev, text in enumerate(texts):
+        own = node(text, parent)
+        index += struct.pack(">QIIIIii20s12x", len(data) << 16, len(text) + 1, len(text), rev, rev, rev - 1, -1, own)
+        data, parent = data + b"u" + text, own
+    return (b"\0\0\0\x01" + index[4:] if index else b""), data
+
+
+def changeset(manifest, seconds, files, words):
+    return b"%s\ntest\n%d 0\n%s\n%s" % (manifest.hex().encode(), seconds, b"".join(b"%s\n" % path for path in files), words)
+
+
+BODY = b"a\n"
+MANIFEST = b"a\0%s\n" % node(BODY).hex().encode()
+TURNED = b"b\0%s\n" % node(BODY).hex().encode() + MANIFEST  # whose second line is below the first
+FIRST = changeset(node(MANIFEST), 0, [b"a"], b"a")
+SECOND = changeset(bytes.fromhex("a539ce0c1a22b0ecf34498f9f5ce8ea56df9ecb7"), 60, [b"b"], b"b")
+ZERO = "cb9a9f314b8b07ba71012fcdbc544b5a4d82ff5b"  # their nodes, as Mercurial gives them
+ONE = "37bdf19219c0e69b87d6371fabfaf5c3a63794d9"
+GONE = "a" * 40
+ZERO_LINE = f"0\t{ZERO}\t-1\t-1\t0\t0\ttest\ta\n"
+ONE_LINE = f"1\t{ONE}\t0\t-1\t60\t0\ttest\tb\n"
+FILES = "b789fdd96dc2f3bd229c1dd8eedf0fc60e2b68e3 - a\n"
+ROOTS = f"1 {ONE}\n2 {GONE}\n"
+MARKS = f"{ONE} new\n{GONE} gone\n{ZERO} main\n"
+UNKNOWN = "abort: unknown revision\n"
+
+
+def store(*changesets, **others):
+    """Files of a store with these changesets; others as `manifest`, `filelog` (their texts), or a name of .hg and its bytes."""
+    files = {"requires": REQUIRES}
+    named = {"00changelog": changesets, "00manifest": others.pop("manifest", ()), "data/a": others.pop("filelog", ())}
+    for name, texts in named.items():
+        if texts:
+            files[f"store/{name}.i"], files[f"store/{name}.d"] = revlog(*texts)
+    return {**files, **others}
+
+
+def changed(files, name, place, byte):
+    old = files[name]
+    return {**files, name: old[:place] + bytes([byte]) + old[place + 1 :]}
+
+
+def behind(files, more):
+    """With bytes that a writer may have appended behind the nodes."""
+    return {**files, **{name: files[name] + more for name in ("store/00manifest.i", "store/data/a.i")}}
+
+
+def with_file(name, text):
+    return {**store(FIRST, SECOND), name: text if isinstance(text, bytes) else text.encode()}
+
+
+TWO = store(FIRST, SECOND)
+WHOLE = store(FIRST, manifest=[MANIFEST], filelog=[BODY])
+INDEX, DATA = "store/00changelog.i", "store/00changelog.d"
+
+
+def damage(what, path=INDEX):
+    return f"abort: damaged {path}: {what}\n"
+
+
+# A store, the words, what is written, and the status.
+ROWS = [
+    ({"requires": REQUIRES}, "log", "", 0),
+    (store(FIRST), "log --", ZERO_LINE, 0),
+    (TWO, "log", ONE_LINE + ZERO_LINE, 0),
+    ({**TWO, INDEX: TWO[INDEX] + TWO[INDEX][64:127]}, "log", ONE_LINE + ZERO_LINE, 0),  # an entry that is cut
+    (store(FIRST), "heads", f"0 {ZERO}\n", 0),
+    ({**TWO, DATA: b""}, "heads", f"1 {ONE}\n", 0),  # what the texts hold is not looked at
+    # words that do not fit
+    (TWO, "", "abort: bad word 0\n", 28),
+    (TWO, "log x", "abort: bad word 1\n", 28),
+    (TWO, "logs", "abort: bad word 0\n", 28),
+    (TWO, "log -r", "abort: bad word 1\n", 28),
+    (TWO, "log -- x", "abort: bad word 2\n", 28),
+    (TWO, "heads x", "abort: bad word 1\n", 28),
+    (TWO, "files", "abort: bad word 1\n", 28),
+    (TWO, "files --", "abort: bad word 2\n", 28),
+    (TWO, "files -1", "abort: bad word 1\n", 28),
+    (TWO, "cat 0", "abort: bad word 2\n", 28),
+    (TWO, "cat -- 0 -a b", "abort: bad word 4\n", 28),
+    (TWO, "phase", "abort: bad word 1\n", 28),
+    (TWO, "parents 0", "abort: bad word 1\n", 28),
+    (TWO, "bookmarks -- 0", "abort: bad word 2\n", 28),
+    # a chunk that is compressed, and a byte of a text
+    (changed(TWO, DATA, 0, 0x78), "log", ONE_LINE + damage("revlog 2 0"), 15),
+    (changed(TWO, DATA, 54, ord("b")), "log", ONE_LINE + damage("revlog 7 0"), 15),
+    # a base that is another revision, flags, a parent that comes later, the version, a text that is too long
+    (changed(TWO, INDEX, 64 + 19, 0), "log", damage("revlog 3 1"), 15),
+    (changed(TWO, INDEX, 64 + 7, 1), "log", damage("revlog 4 1"), 15),
+    (changed(TWO, INDEX, 64 + 27, 1), "log", damage("revlog 8 1"), 15),
+    (changed(TWO, INDEX, 3, 2), "log", damage("revlog 1 0"), 15),
+    (changed(TWO, INDEX, 12, 2), "log", "abort: limit 4\n", 20),
+    # files and bodies
+    *(
+        row
+        for files in (WHOLE, behind(WHOLE, b"\xff" * 100))
+        for row in (
+            (files, "files 0 --", FILES, 0),
+            (files, "files tip", FILES, 0),
+            (files, f"files {ZERO}", FILES, 0),
+            (files, "cat tip a", "a\n", 0),
+            (files, f"cat -- {ZERO} a", "a\n", 0),
+            (files, "cat 0 b", "abort: unknown path\n", 23),
+            (files, ["cat", "0", ""], "abort: unknown path\n", 23),
+            (files, "cat 1 a", UNKNOWN, 12),
+            (files, "cat null a", UNKNOWN, 12),
+            (files, "files .", UNKNOWN, 12),
+            (files, "files 00", UNKNOWN, 12),
+            (files, f"files {ZERO.upper()}", UNKNOWN, 12),
+            (files, f"files {ZERO[:39]}", UNKNOWN, 12),
+            (files, ["files", ""], UNKNOWN, 12),
+        )
+    ),
+    (store(changeset(node(TURNED), 0, [b"a", b"b"], b"a"), manifest=[TURNED]), "files 0", damage("manifest 2 2", "store/00manifest.i"), 15),
+    (store(FIRST), "cat 0 a", damage("revlog 15 0", "store/00manifest.i"), 15),
+    (store(changeset(NULL, 0, [], b"a")), "files 0", "", 0),
+    # the words of `requires`
+    (with_file("requires", "dotencode\nfncache\ntreemanifest\n"), "log", "abort: requirement treemanifest\n", 27),
+    (with_file("requires", "fncache\nrevlogv1\nstore\n"), "heads", "abort: requirement dotencode\n", 27),
+    (with_file("requires", ""), "parents", "abort: requirement dotencode\n", 27),
+    # phase roots, one of which is of no changeset
+    (with_file("store/phaseroots", ROOTS), "phase 0", "public\n", 0),
+    (with_file("store/phaseroots", ROOTS), "phase tip", "draft\n", 0),
+    (with_file("store/phaseroots", ROOTS), "phase 2", UNKNOWN, 12),
+    (with_file("store/phaseroots", f"3 {ONE}\n"), "log", damage("roots 1 1", "store/phaseroots"), 15),
+    # bookmarks, one of which is of no changeset
+    (with_file("bookmarks", MARKS), "bookmarks", f"main\t0\t{ZERO}\nnew\t1\t{ONE}\n", 0),
+    (with_file("bookmarks", MARKS), "phase main", "public\n", 0),
+    (with_file("bookmarks", MARKS), "phase gone", UNKNOWN, 12),
+    (with_file("bookmarks", f"{ZERO} tip\n"), "bookmarks", damage("bookmarks 2 1", "bookmarks"), 15),
+    # working parents
+    (with_file("dirstate", bytes.fromhex(ZERO) + NULL), "parents", f"0 {ZERO}\n", 0),
+    (with_file("dirstate", bytes.fromhex(ZERO) + NULL), "phase .", "public\n", 0),
+    (with_file("dirstate", ""), "parents", "", 0),
+    (with_file("dirstate", ""), "phase .", UNKNOWN, 12),
+    (with_file("dirstate", b"\xaa" * 40), "parents", damage("dirstate 6 0", "dirstate"), 15),
+    (with_file("dirstate", bytes(39)), "parents", damage("dirstate 3 0", "dirstate"), 15),
+    (with_file("dirstate", ""), "phase null", UNKNOWN, 12),
+    (with_file("dirstate", ""), "phase 01", UNKNOWN, 12),
+    # no repository
+    ({}, "log", "abort: not a repository\n", 24),
+    ({}, "heads", "abort: not a repository\n", 24),
+    ({}, "cat 0 a", "abort: not a repository\n", 24),
+]
+
+# Two drafts, the second of which is the working parent; a bookmark names the first.
+DRAFTS = {
+    **TWO,
+    "store/phaseroots": f"1 {ZERO}\n".encode(),
+    "bookmarks": f"{ZERO} main\n".encode(),
+    "dirstate": bytes.fromhex(ONE) + NULL,
+}
+ROOTS_PATH = "store/phaseroots"
+
+# A transaction that was left open, and what it began from.
+JOURNAL, BACKUPS, BACKUP = "store/journal", "store/journal.backupfiles", "journal.backup.dirstate"
+OPEN = {
+    **store(FIRST),
+    "store/data/b.i": b"an index",
+    "store/fncache": b"data/a.i\ndata/a.d\ndata/b.i\n",
+    INDEX: store(FIRST)[INDEX] + b"and more",
+    "dirstate": b"after",
+    "bookmarks": b"after",
+    "store/lock": b"me",
+    "wlock": b"me",
+    JOURNAL: b"data/b.i\x000\nfncache\x0018\n00changelog.i\x0064\n",
+    BACKUPS: b"2\nplain\0dirstate\0journal.backup.dirstate\x000\nplain\0bookmarks\0\x000\n",
+    BACKUP: b"before",
+}
+BEFORE = {**store(FIRST), "store/fncache": b"data/a.i\ndata/a.d\n", "dirstate": b"before"}
+
+
+def other(files, **changes):
+    """The files with others in their place, or without those that are none."""
+    files = {**files, **{names[key]: data for key, data in changes.items()}}
+    return {name: data for name, data in files.items() if data is not None}
+
+
+names = {"roots": ROOTS_PATH, "marks": "bookmarks", "journal": JOURNAL, "backups": BACKUPS, "backup": BACKUP}
+
+# A store, the words, what is written, the status, and the files that stand afterwards.
+COMMANDS = [
+    (DRAFTS, "phase 0 public", "0 public\n", 0, other(DRAFTS, roots=f"1 {ONE}\n".encode())),
+    (DRAFTS, "phase . public", "1 public\n", 0, other(DRAFTS, roots=b"")),
+    (DRAFTS, "phase --force tip secret", "1 secret\n", 0, other(DRAFTS, roots=f"1 {ZERO}\n2 {ONE}\n".encode())),
+    (DRAFTS, "phase tip secret", "abort: phase of 1 needs --force\n", 26, DRAFTS),
+    (DRAFTS, "phase main draft", "abort: nothing changed (0)\n", 13, DRAFTS),
+    (DRAFTS, "phase 12 public", UNKNOWN, 12, DRAFTS),
+    (DRAFTS, "bookmark here .", "here 1\n", 0, other(DRAFTS, marks=f"{ONE} here\n{ZERO} main\n".encode())),
+    (DRAFTS, "bookmark main 0", "abort: nothing changed (0)\n", 13, DRAFTS),
+    (DRAFTS, "bookmark --delete main", "main removed\n", 0, other(DRAFTS, marks=b"")),
+    (DRAFTS, "bookmark --delete here", UNKNOWN, 12, DRAFTS),
+    # bytes behind the last, which a writer does not take
+    *(
+        (files, "bookmark new 0", damage(what, path), 15, files)
+        for files, what, path in (
+            ({**DRAFTS, INDEX: DRAFTS[INDEX] + b"\0"}, "revlog 14 2", INDEX),
+            ({**DRAFTS, DATA: DRAFTS[DATA] + b"u"}, "revlog 14 2", INDEX),
+            ({**DRAFTS, "store/fncache": b"data/b"}, "fncache 1 1", "store/fncache"),
+            ({**DRAFTS, "dirstate": DRAFTS["dirstate"] + b"n"}, "dirstate 3 0", "dirstate"),
+        )
+    ),
+    (DRAFTS, "recover", "no interrupted transaction available\n", 1, DRAFTS),
+    (OPEN, "recover", "transaction undone\n", 0, BEFORE),
+    (OPEN, "phase 0 public", "abort: lock held by me\n", 10, OPEN),
+    *(
+        (files, "recover", damage(what, path), 15, files)
+        for files, what, path in (
+            (other(OPEN, journal=b"data/b.i\x000\nfncache\x00018\n"), "journal 1 2", JOURNAL),
+            (other(OPEN, backups=b"3\n"), "journal 2 0", BACKUPS),
+            (other(OPEN, backups=None), "journal 5 0", BACKUPS),
+            (other(OPEN, backup=None), "journal 5 0", BACKUP),
+            (other(OPEN, journal=b"data/b.i\x000\n00changelog.i\x001000\n"), "journal 4 1000", INDEX),
+        )
+    ),
+]
+
+
+def lay(folder, files):
+    for name, data in files.items():
+        path = os.path.join(folder, ".hg", name)
+        os.makedirs(os.path.dirname(path), exist_ok=True)
+        with open(path, "wb") as file:
+            file.write(data)
+
+
+def main():
+    program, checks = built_program(), Checks()
+    for files, words, text, status, after in [(*row, row[0]) for row in ROWS] + COMMANDS:
+        with tempfile.TemporaryDirectory() as folder:
+            lay(folder, files)
+            words = words.split() if isinstance(words, str) else words
+            ended = subprocess.run([program, *words], stdin=subprocess.DEVNULL, capture_output=True, cwd=folder, check=False)
+            said = (ended.returncode, ended.stdout) == (status, text.encode())
+            checks.check(f"{words}: status {ended.returncode} ({status}), {ended.stdout} ({text.encode()})", said)
+            checks.check(f"{words}: other files stand", bytes_of(folder) == {name: data for name, data in after.items() if data})
+    print(f"{checks.passed} passed, {checks.failed} failed")
+    sys.exit(checks.failed > 0 or checks.passed == 0)
+
+
+main()
