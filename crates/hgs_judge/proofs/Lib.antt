@@ -1,0 +1,13 @@
+pub mod AddedLemmas
+pub mod Basics
+pub mod ChangesetLemmas
+pub mod FoundLemmas
+pub mod KindsLemmas
+pub mod EntryLemmas
+pub mod PathLemmas
+pub mod ReportLemmas
+pub mod SearchLemmas
+pub mod TextLemmas
+pub mod TreeLemmas
+pub mod WalkLemmas
+pub mod WordLemmas

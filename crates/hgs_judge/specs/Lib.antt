@@ -1,0 +1,9 @@
+pub mod Changesets
+pub mod Found
+pub mod Kinds
+pub mod Path
+pub mod Paths
+pub mod Read
+pub mod Report
+pub mod Trees
+pub mod Words

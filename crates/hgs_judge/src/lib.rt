@@ -1,0 +1,12 @@
+//! What `verify` finds of one revlog and of one path, from bytes and from what the changesets say.
+#![tactic(auto)]
+
+pub mod changesets;
+pub mod kinds;
+pub mod laws;
+pub mod path;
+pub mod paths;
+pub mod reading;
+pub mod report;
+pub mod trees;
+pub mod words;

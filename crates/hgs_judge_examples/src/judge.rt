@@ -1,0 +1,132 @@
+//! Files that Mercurial wrote and values of its formats.
+ghost use Rattle.std.specs.Prelude.{◌≡◌, false};
+
+use hgs_files::path::StorePath;
+use hgs_index::kinds::Flag;
+use hgs_index::node::Node;
+use hgs_judge::kinds::{Naming, Rule, judge};
+use hgs_judge::path::judge_path;
+use hgs_judge::reading::read;
+use hgs_judge::report::{Finding, in_order};
+use hgs_judge::words::{Found, Word};
+use std::alloc::Global;
+use std::test::Fail;
+
+// The node of an empty file, and the index of a filelog that has it alone.
+const EMPTY: [u8; 20] = [
+    0xb8, 0x0d, 0xe5, 0xd1, 0x38, 0x75, 0x85, 0x41, 0xc5, 0xf0, 0x52, 0x65, 0xad, 0x14, 0x4a, 0xb9,
+    0xfa, 0x86, 0xd1, 0xdb,
+];
+
+const INDEX: [u8; 64] = [
+    0x00, 0x00, 0x00, 0x01, 0x00, 0x00, 0x00, 0x00, 0x00, 0x00, 0x00, 0x00, 0x00, 0x00, 0x00, 0x00,
+    0x00, 0x00, 0x00, 0x00, 0x00, 0x00, 0x00, 0x00, 0xff, 0xff, 0xff, 0xff, 0xff, 0xff, 0xff, 0xff,
+    0xb8, 0x0d, 0xe5, 0xd1, 0x38, 0x75, 0x85, 0x41, 0xc5, 0xf0, 0x52, 0x65, 0xad, 0x14, 0x4a, 0xb9,
+    0xfa, 0x86, 0xd1, 0xdb, 0x00, 0x00, 0x00, 0x00, 0x00, 0x00, 0x00, 0x00, 0x00, 0x00, 0x00, 0x00,
+];
+
+const NO_PARENTS: (Option<u32>, Option<u32>) = (None, None);
+
+fn word(parents: (Option<u32>, Option<u32>), found: Found, listed: bool) -> Word {
+    Word {
+        parents,
+        found,
+        listed: Some(listed),
+    }
+}
+
+#[test]
+fn reads_up_to_the_first_fault(rt: HostRuntime) -> Result<(), Fail> {
+    let alloc = rt.alloc();
+    let whole = read(alloc, &INDEX, b"")?;
+    assert_eq!(rt; whole.log.len(), 1);
+    assert!(rt; !whole.broken);
+    assert!(rt; whole.has_data_rest(b"x"));
+    assert!(rt; !whole.has_index_rest(&INDEX));
+    assert_eq!(rt; whole.place(&Node(EMPTY)), Some(0));
+    assert_eq!(rt; whole.links(alloc)?.as_slice(), [0].as_slice());
+    assert_eq!(rt; whole.text(0, b"").len(), 0);
+    let mut index = INDEX;
+    index[35] = 0;
+    let broken = read(alloc, &index, b"")?;
+    assert_eq!(rt; broken.log.len(), 0);
+    assert!(rt; broken.broken);
+    Ok(())
+}
+
+#[test]
+fn judges_a_path(rt: HostRuntime) -> Result<(), Fail> {
+    let alloc = rt.alloc();
+    let there = Found::File(Node(EMPTY), Flag::Plain);
+    let first = word(NO_PARENTS, there, true);
+    let removed = word((Some(0), None), Found::Nothing, false);
+    let lost = word(NO_PARENTS, Found::File(Node([7; 20]), Flag::Plain), true);
+    let found = judge_path(alloc, &INDEX, b"", &[first, removed, lost])?;
+    assert_eq!(rt; found.count, 1);
+    assert_eq!(rt;
+        found.listed_wrongly.as_slice(),
+        [false, true, false].as_slice()
+    );
+    assert_eq!(rt; found.lacking.as_slice(), [false, false, true].as_slice());
+    for kinds in found.kinds.iter() {
+        assert!(rt; !kinds.is_unneeded);
+        assert!(rt; !kinds.is_misplaced);
+        assert!(rt; !kinds.is_wrongly_made);
+    }
+    let needless = judge_path(alloc, &INDEX, b"", &[lost])?;
+    for kinds in needless.kinds.iter() {
+        assert!(rt; kinds.is_unneeded);
+    }
+    Ok(())
+}
+
+#[test]
+fn judges_revisions(rt: HostRuntime) -> Result<(), Fail> {
+    let alloc = rt.alloc();
+    let parents = [NO_PARENTS, (Some(0), None)];
+    let namings = [
+        Some(Naming {
+            rev: 1,
+            rule: Rule::Makes(NO_PARENTS),
+        }),
+        None,
+        Some(Naming {
+            rev: 0,
+            rule: Rule::Keeps(0),
+        }),
+    ];
+    let kinds = judge(alloc, &parents, &[2, 2], &namings)?;
+    let mut misplaced = Vec::new(alloc);
+    let mut wrong = Vec::new(alloc);
+    for kind in kinds.iter() {
+        misplaced.push(kind.is_misplaced)?;
+        wrong.push(kind.is_wrongly_made)?;
+    }
+    assert_eq!(rt; misplaced.as_slice(), [false, true].as_slice());
+    assert_eq!(rt; wrong.as_slice(), [false, true].as_slice());
+    Ok(())
+}
+
+fn finding(alloc: Global, rev: Option<u32>, kind: u8) -> Result<Finding, Fail> {
+    Ok(Finding {
+        path: StorePath::new(alloc, b"store/00changelog.i")?,
+        rev,
+        kind,
+    })
+}
+
+#[test]
+fn orders_findings(rt: HostRuntime) -> Result<(), Fail> {
+    let alloc = rt.alloc();
+    let mut findings = Vec::new(alloc);
+    findings.push(finding(alloc, Some(2), 17)?)?;
+    findings.push(finding(alloc, Some(0), 9)?)?;
+    findings.push(finding(alloc, None, 12)?)?;
+    findings.push(finding(alloc, Some(0), 9)?)?;
+    let mut kinds = Vec::new(alloc);
+    for found in in_order(findings)?.iter() {
+        kinds.push(found.kind)?;
+    }
+    assert_eq!(rt; kinds.as_slice(), [12, 9, 17].as_slice());
+    Ok(())
+}

@@ -1,0 +1,5 @@
+//! Examples of what is found of a revlog and of a path. There is nothing here but tests.
+#![tactic(auto)]
+
+#[cfg(test)]
+mod judge;

@@ -1,0 +1,8 @@
+//! What `verify` reads of a store's files, and what it finds there.
+#![tactic(auto)]
+
+pub mod filelog;
+pub mod one;
+pub mod store;
+pub mod walk;
+pub mod whole;
