@@ -15,3 +15,5 @@ mod model;
 mod phases;
 #[cfg(test)]
 mod plan;
+#[cfg(test)]
+mod schedules;

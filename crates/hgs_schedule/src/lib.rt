@@ -1,0 +1,8 @@
+//! Reading a schedule: what happens, one event after another, to a repository with one writer and some readers.
+#![tactic(auto)]
+
+pub mod event;
+pub mod laws;
+mod line;
+mod number;
+pub mod schedule;
