@@ -1,0 +1,252 @@
+"""A second, simple implementation of a store, after docs/FORMATS.md and docs/DECISIONS.md: the whole repository in memory, and the
+bytes that its files have. `tests/histories.py` compares the program with it.
+"""
+
+import hashlib
+import struct
+
+NULL = bytes(20)
+PHASES = ["public", "draft", "secret"]
+REQUIRES = b"dotencode\nfncache\nrevlogv1\nstore\n"
+
+
+class Refused(Exception):
+    """A status, and the line that says why."""
+
+    def __init__(self, status, line):
+        super().__init__(line)
+        self.status, self.line = status, line
+
+
+class Revlog:
+    """Revisions: texts with the numbers of their parents, once each."""
+
+    def __init__(self):
+        self.texts, self.parents, self.nodes, self.links = [], [], [], []
+
+    def node(self, rev):
+        return NULL if rev is None else self.nodes[rev]
+
+    def standing(self, text, parents):
+        same = {parents, parents[::-1]}
+        return next((rev for rev, old in enumerate(self.texts) if old == text and self.parents[rev] in same), None)
+
+    def add(self, text, parents, link):
+        rev = self.standing(text, parents)
+        if rev is None:
+            rev = len(self.texts)
+            low, high = sorted(self.node(parent) for parent in parents)
+            self.texts.append(text)
+            self.parents.append(parents)
+            self.nodes.append(hashlib.sha1(low + high + text).digest())
+            self.links.append(link)
+        return rev
+
+    def ancestors(self, rev):
+        found, left = set(), [rev]
+        while left:
+            rev = left.pop()
+            if rev is not None and rev not in found:
+                found.add(rev)
+                left += self.parents[rev]
+        return found
+
+    def files(self):
+        index, data = b"", b""
+        for rev, text in enumerate(self.texts):
+            chunk = text if not text or text[0] == 0 else b"u" + text
+            p1, p2 = (-1 if parent is None else parent for parent in self.parents[rev])
+            entry = struct.pack(">QIIIIii20s12x", len(data) << 16, len(chunk), len(text), rev, self.links[rev], p1, p2, self.nodes[rev])
+            index += b"\0\0\0\x01" + entry[4:] if rev == 0 else entry
+            data += chunk
+        return index, data
+
+
+def listed_name(path, ext):
+    *folders, last = path.split(b"/")
+    marked = [f + b".hg" if f.endswith((b".hg", b".i", b".d")) else f for f in folders]
+    return b"data/" + b"/".join([*marked, last]) + ext
+
+
+def store_name(path, ext):
+    """The plain form alone, of paths that need no code but that of capitals, `_` and a leading dot."""
+    spelled = b"".join(b"_" + bytes([c]).lower() if bytes([c]).isupper() else b"__" if c == ord("_") else bytes([c]) for c in listed_name(path, ext))
+    named = b"/".join(b"~2e" + part[1:] if part.startswith(b".") else part for part in spelled.split(b"/"))
+    assert len(named) <= 120 and all(33 <= c <= 126 for c in named)
+    return (b"store/" + named).decode()
+
+
+def body_text(body):
+    """The text of a body: behind an empty block where it begins with a marker itself."""
+    return b"\x01\n\x01\n" + body if body.startswith(b"\x01\n") else body
+
+
+class Store:
+    def __init__(self):
+        self.changelog, self.manifest, self.filelogs, self.list = Revlog(), Revlog(), {}, b""
+        self.trees, self.manifests = [], []
+        self.phases, self.marks, self.working, self.tracked = [], {}, None, None
+        self.roots, self.has_marks = b"", False
+
+    # ---- names
+
+    def named(self, name):
+        known = {"null": None, ".": self.working, "tip": len(self.trees) - 1 if self.trees else None}
+        if name in known:
+            return known[name]
+        if name in map(str, range(len(self.trees))):
+            return int(name)
+        nodes = [node.hex() for node in self.changelog.nodes]
+        if name in nodes:
+            return nodes.index(name)
+        return self.marks.get(name)
+
+    def known(self, name):
+        rev = self.named(name)
+        if rev is None:
+            raise Refused(12, "abort: unknown revision")
+        return rev
+
+    # ---- a commit
+
+    def parents_of(self, names):
+        named = [self.known(name) for name in names if name != "null" and not (name == "." and self.working is None)]
+        first, second = (named + [None, None])[:2]
+        return (first, None if second == first else second)
+
+    def file_at(self, rev, path):
+        return None if rev is None else self.trees[rev].get(path)
+
+    def file_parents(self, log, parents, path):
+        a, b = ((self.file_at(parent, path) or (None,))[0] for parent in parents)
+        if a is None or a == b:
+            return (b, None)
+        if b is None or b in log.ancestors(a):
+            return (a, None)
+        return (b, None) if a in log.ancestors(b) else (a, b)
+
+    def commit(self, names, tree, user, seconds, phase, mark, description):
+        """Of a tree from paths to a flag and a body. The revisions are added at the end, where nothing refuses them."""
+        parents = self.parents_of(names)
+        link = len(self.trees)
+        rows, changed, added = {}, set(), {}
+        for path, (flag, body) in tree.items():
+            log = self.filelogs.get(path) or Revlog()
+            first, second = self.file_parents(log, parents, path)
+            is_kept = first is not None and second is None and log.texts[first] == body_text(body)
+            old = self.file_at(parents[0], path) or self.file_at(parents[1], path)
+            if not is_kept or (old and old[1] != flag):
+                changed.add(path)
+            if is_kept:
+                rows[path] = (first, flag)
+            else:
+                added[path] = (body_text(body), (first, second))
+                rows[path] = (None, flag)
+        changed |= {path for parent in parents if parent is not None for path in self.trees[parent] if path not in tree}
+        if parents[1] is None and not changed:
+            raise Refused(13, f"abort: nothing changed ({parents[0] or 0})")
+        return self.add(parents, link, rows, added, sorted(changed), user, seconds, phase, mark, description)
+
+    def add(self, parents, link, rows, added, changed, user, seconds, phase, mark, description):
+        nodes = {}
+        for path, (text, file_parents) in added.items():
+            log = self.filelogs.get(path) or Revlog()
+            rev = log.standing(text, file_parents)
+            low, high = sorted(log.node(parent) for parent in file_parents)
+            nodes[path] = hashlib.sha1(low + high + text).digest() if rev is None else log.nodes[rev]
+        for path, (rev, _) in rows.items():
+            if path not in nodes:
+                nodes[path] = self.filelogs[path].nodes[rev]
+        text = b"".join(b"%s\0%s%s\n" % (path, nodes[path].hex().encode(), flag.replace("-", "").encode()) for path, (_, flag) in sorted(rows.items()))
+        first, second = (None if parent is None else self.manifests[parent] for parent in parents)
+        above = (first, None if second == first else second)
+        low, high = sorted(self.manifest.node(parent) for parent in above)
+        node = hashlib.sha1(low + high + text).digest()
+        lines = [node.hex().encode(), user, b"%d 0" % seconds, *changed]
+        change = b"\n".join(lines) + b"\n\n" + description
+        standing = self.changelog.standing(change, parents)
+        if standing is not None:
+            raise Refused(13, f"abort: nothing changed ({standing})")
+        for path in sorted(added):
+            if path not in self.filelogs:
+                self.filelogs[path] = Revlog()
+                self.list += b"".join(listed_name(path, ext) + b"\n" for ext in (b".i", b".d"))
+            rows[path] = (self.filelogs[path].add(*added[path], link), rows[path][1])
+        self.manifests.append(self.manifest.add(text, above, link))
+        self.changelog.add(change, parents, link)
+        self.trees.append(rows)
+        self.phases.append(max([PHASES.index(phase)] + [self.phases[parent] for parent in parents if parent is not None]))
+        self.working, self.tracked = link, sorted(rows)
+        if mark is not None:
+            self.marks[mark], self.has_marks = link, True
+        self.roots = self.roots_text()
+        return f"{link}:{self.changelog.nodes[link].hex()}"
+
+    # ---- the other commands
+
+    def move(self, name, phase, force):
+        rev, to = self.known(name), PHASES.index(phase)
+        if to > self.phases[rev] and not force:
+            raise Refused(26, f"abort: phase of {rev} needs --force")
+        if to == self.phases[rev]:
+            raise Refused(13, f"abort: nothing changed ({rev})")
+        if to < self.phases[rev]:
+            for other in self.changelog.ancestors(rev):
+                self.phases[other] = min(to, self.phases[other])
+        else:
+            for other in range(len(self.phases)):
+                if rev in self.changelog.ancestors(other):
+                    self.phases[other] = max(to, self.phases[other])
+        self.roots = self.roots_text()
+        return f"{rev} {phase}"
+
+    def mark(self, mark, name):
+        rev = self.known(name)
+        if self.marks.get(mark) == rev:
+            raise Refused(13, f"abort: nothing changed ({rev})")
+        self.marks[mark], self.has_marks = rev, True
+        return f"{mark} {rev}"
+
+    def unmark(self, mark):
+        if mark not in self.marks:
+            raise Refused(12, "abort: unknown revision")
+        del self.marks[mark]
+        return f"{mark} removed"
+
+    # ---- what the files hold, and what questions answer
+
+    def roots_text(self):
+        roots = []
+        for rev, phase in enumerate(self.phases):
+            if all(phase > self.phases[parent] for parent in self.changelog.parents[rev] if parent is not None) and phase:
+                roots.append((phase, rev))
+        return b"".join(b"%d %s\n" % (phase, self.changelog.nodes[rev].hex().encode()) for phase, rev in sorted(roots))
+
+    def files(self):
+        files = {"requires": REQUIRES, "store/fncache": self.list, "store/phaseroots": self.roots}
+        logs = {"store/00changelog": self.changelog, "store/00manifest": self.manifest}
+        for name, log in logs.items():
+            files[f"{name}.i"], files[f"{name}.d"] = log.files()
+        for path, log in self.filelogs.items():
+            files[store_name(path, b".i")], files[store_name(path, b".d")] = log.files()
+        files["bookmarks"] = b"".join(b"%s %s\n" % (self.changelog.nodes[rev].hex().encode(), name.encode()) for name, rev in sorted(self.marks.items()))
+        if self.working is not None:
+            entries = b"".join(struct.pack(">cIiiI", b"n", 0, -1, -1, len(path)) + path for path in self.tracked)
+            files["dirstate"] = self.changelog.nodes[self.working] + NULL + entries
+        return {name: data for name, data in files.items() if data}
+
+    def answers(self):
+        """The whole answers of `heads`, `bookmarks` and `parents`."""
+        def hexed(rev):
+            return self.changelog.nodes[rev].hex()
+
+        parents = {parent for both in self.changelog.parents for parent in both}
+        return {
+            "heads": "".join(f"{rev} {hexed(rev)}\n" for rev in range(len(self.trees)) if rev not in parents),
+            "bookmarks": "".join(f"{name}\t{rev}\t{hexed(rev)}\n" for name, rev in sorted(self.marks.items())),
+            "parents": "" if self.working is None else f"{self.working} {hexed(self.working)}\n",
+        }
+
+    def listing(self, rev):
+        rows = sorted(self.trees[rev].items())
+        return "".join(f"{self.filelogs[path].nodes[file].hex()} {flag} {path.decode()}\n" for path, (file, flag) in rows)
