@@ -9,8 +9,7 @@ use Rattle.hgs_load.specs.declared.answer.ReadAnswer.{ReadAnswer}
 use Rattle.hgs_load.specs.Answer.{is_of_outside}
 use Rattle.hgs_load.specs.Asks.{Asks, answer, read, then_asks}
 use Rattle.hgs_load.specs.View.{changelog_index, piece_length, pieces_then}
-use Rattle.hgs_load.specs.Open.{log_of}
-use Rattle.hgs_load.specs.Load.{left_to_ask, reads_left_of, IsNext, AsksFor, rest_of, Feeds, Finishes}
+use Rattle.hgs_load.specs.Load.{left_to_ask, log_behind, reads_left_of, IsNext, AsksFor, rest_of, Feeds, Finishes}
 use Rattle.hgs_load.specs.declared.load.LoadNext.TheVariants.{Read}
 
 is_one : (n : ℕ) → (n == 1) ≡ true → n ≡ 1
@@ -25,30 +24,30 @@ other true b h e = cc
 other false b h e = h
 
 -- a whole piece, and more pieces may come
-pub goes_on : (left : ℕ) (index new piece : List ℕ) (part : Option (List ℕ)) (log : Option Log) → AsksFor (left_to_ask left index log) part → ForNone log (0 < left) → piece ≡ unwrap_or part [] →
-    (nat_lt (length piece) piece_length || left == 1) ≡ false → new ≡ index ++ piece → left_to_ask (left - 1) new log ≡ rest_of (left_to_ask left index log) part
-goes_on left index new piece part (Some l) asked some p whole n = absurd asked
-goes_on zero index new piece part None asked some p whole n = absurd asked
-goes_on (suc left) index new piece part None asked some p whole n =
-    let more : List ℕ → Asks (Result Log ReadAnswer) = λ bytes. answer (log_of bytes) in
+pub goes_on : (former : Option Log) (left : ℕ) (index new piece : List ℕ) (part : Option (List ℕ)) (log : Option Log) → AsksFor (left_to_ask former left index log) part → ForNone log (0 < left) → piece ≡ unwrap_or part [] →
+    (nat_lt (length piece) piece_length || left == 1) ≡ false → new ≡ index ++ piece → left_to_ask former (left - 1) new log ≡ rest_of (left_to_ask former left index log) part
+goes_on former left index new piece part (Some l) asked some p whole n = absurd asked
+goes_on former zero index new piece part None asked some p whole n = absurd asked
+goes_on former (suc left) index new piece part None asked some p whole n =
+    let more : List ℕ → Asks (Result Log ReadAnswer) = λ bytes. answer (log_behind former bytes) in
     let e : suc left - 1 ≡ left = omega arith in
     ap (λ k. pieces_then changelog_index k new more) e
     ∙ ap (λ b. pieces_then changelog_index left b more) (n ∙ ap (λ q. index ++ q) p)
     ∙ sym (ap (λ t. cond t (more (index ++ unwrap_or part [])) (pieces_then changelog_index left (index ++ unwrap_or part []) more)) (ap (λ q. nat_lt (length q) piece_length) (sym p) ∙ neither (nat_lt (length piece) piece_length) (suc left == 1) whole))
 
-last_step : (t : Bool) (left : ℕ) (bytes : List ℕ) → (t ≡ false → suc left ≡ 1) → cond t (answer (log_of bytes)) (pieces_then changelog_index left bytes (λ b. answer (log_of b))) ≡ answer (log_of bytes)
-last_step true left bytes h = refl
-last_step false left bytes h = let z : left ≡ 0 = (let k = h refl in omega (arith, k)) in ap (λ k. pieces_then changelog_index k bytes (λ b. answer (log_of b))) z
+last_step : (former : Option Log) (t : Bool) (left : ℕ) (bytes : List ℕ) → (t ≡ false → suc left ≡ 1) → cond t (answer (log_behind former bytes)) (pieces_then changelog_index left bytes (λ b. answer (log_behind former b))) ≡ answer (log_behind former bytes)
+last_step former true left bytes h = refl
+last_step former false left bytes h = let z : left ≡ 0 = (let k = h refl in omega (arith, k)) in ap (λ k. pieces_then changelog_index k bytes (λ b. answer (log_behind former b))) z
 
 -- the last piece
-pub last_piece : (left : ℕ) (index new piece : List ℕ) (part : Option (List ℕ)) (log : Option Log) → AsksFor (left_to_ask left index log) part → piece ≡ unwrap_or part [] → new ≡ index ++ piece →
-    (nat_lt (length piece) piece_length || left == 1) ≡ true → rest_of (left_to_ask left index log) part ≡ answer (log_of new)
-last_piece left index new piece part (Some l) asked p n last = absurd asked
-last_piece zero index new piece part None asked p n last = absurd asked
-last_piece (suc left) index new piece part None asked p n last =
-    let more : List ℕ → Asks (Result Log ReadAnswer) = λ bytes. answer (log_of bytes) in
+pub last_piece : (former : Option Log) (left : ℕ) (index new piece : List ℕ) (part : Option (List ℕ)) (log : Option Log) → AsksFor (left_to_ask former left index log) part → piece ≡ unwrap_or part [] → new ≡ index ++ piece →
+    (nat_lt (length piece) piece_length || left == 1) ≡ true → rest_of (left_to_ask former left index log) part ≡ answer (log_behind former new)
+last_piece former left index new piece part (Some l) asked p n last = absurd asked
+last_piece former zero index new piece part None asked p n last = absurd asked
+last_piece former (suc left) index new piece part None asked p n last =
+    let more : List ℕ → Asks (Result Log ReadAnswer) = λ bytes. answer (log_behind former bytes) in
     let same : index ++ unwrap_or part [] ≡ new = ap (λ q. index ++ q) (sym p) ∙ sym n in
-    last_step (nat_lt (length (unwrap_or part [])) piece_length) left (index ++ unwrap_or part [])
+    last_step former (nat_lt (length (unwrap_or part [])) piece_length) left (index ++ unwrap_or part [])
     (λ h. is_one (suc left) (other (nat_lt (length piece) piece_length) (suc left == 1) last (ap (λ q. nat_lt (length q) piece_length) p ∙ h)))
     ∙ ap more same
 
@@ -61,9 +60,9 @@ pub finished : {A : Type 0} (question left : Asks (Result A ReadAnswer)) (part :
 finished question left part given (Ok x) e f = f ∙ sym e
 finished question left part given (Err a) e f = either (is_of_outside a) _ _ (λ h. e ∙ ap answer h) f
 
-pub none_left : (left : ℕ) (index : List ℕ) (part : Option (List ℕ)) (log : Option Log) (after : ℕ) → AsksFor (left_to_ask left index log) part → ForNone log (0 < left) → after ≡ 0 → after < reads_left_of left log
-none_left left index part (Some l) after asked some e = absurd asked
-none_left left index part None after asked some e = let h = some refl in omega (arith, h, e)
+pub none_left : (former : Option Log) (left : ℕ) (index : List ℕ) (part : Option (List ℕ)) (log : Option Log) (after : ℕ) → AsksFor (left_to_ask former left index log) part → ForNone log (0 < left) → after ≡ 0 → after < reads_left_of left log
+none_left former left index part (Some l) after asked some e = absurd asked
+none_left former left index part None after asked some e = let h = some refl in omega (arith, h, e)
 
 -- ---- a question before others
 

@@ -29,12 +29,3 @@ module _ (rest more entries : List Entry) (rev : ℕ) (o e : Entry) (all : Optio
       let next : rev + 1 ≡ suc rev = omega arith in
       ap (λ k. first_changed k more (drop k entries)) next
       ∙ sym (ap (λ b. cond b (first_changed (suc rev) more (drop (suc rev) entries)) (Some rev)) t) ∙ here
-
--- one entry more
-pub taken : (entries : List Entry) (i : ℕ) (x : Entry) → slice_get entries i ≡ Some x → take i entries ++ x ∷ [] ≡ take (i + 1) entries
-taken [] i x e = cc
-taken (y ∷ entries) zero x e = ap (λ q. q ∷ []) (sym (some_is y x e))
-taken (y ∷ entries) (suc i) x e = ap (λ q. y ∷ q) (taken entries i x e) ∙ ap (λ k. take k (y ∷ entries)) (turned i)
-  where
-    turned : (i : ℕ) → suc (i + 1) ≡ suc i + 1
-    turned i = omega arith

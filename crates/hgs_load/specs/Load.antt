@@ -10,24 +10,28 @@ use Rattle.hgs_load.specs.declared.load.LoadMachine.{LoadMachine}
 use Rattle.hgs_load.specs.declared.pieces.IndexLoad.{IndexLoad}
 use Rattle.hgs_load.specs.declared.load.LoadNext.{LoadNext}
 use Rattle.hgs_load.specs.declared.load.LoadNext.TheVariants.{Read, End}
-use Rattle.hgs_index.specs.declared.entry.Entry.{Entry}
 use Rattle.hgs_marks.specs.Bookmarks.{Mark}
 use Rattle.hgs_revlog.specs.Log.{Log}
 use Rattle.hgs_load.specs.Answer.{is_of_outside}
 use Rattle.hgs_load.specs.Asks.{Asks, answer, read, then_asks, Continues, MayAnswerWhereTold}
 use Rattle.hgs_load.specs.Marks.{Nodes, nodes_of}
-use Rattle.hgs_load.specs.Open.{requires_asks, bookmarks_asks, dirstate_asks, roots_asks, log_of}
-use Rattle.hgs_load.specs.Refresh.{view_after}
+use Rattle.hgs_load.specs.Open.{requires_asks, bookmarks_asks, dirstate_asks, roots_asks, log_of, view_of}
+use Rattle.hgs_load.specs.Refresh.{log_after}
 use Rattle.hgs_load.specs.View.{View, changelog_index, pieces_then}
 
 -- ---- an index under way
 
-abbrev pub left_to_ask : ℕ → List ℕ → Option Log → Asks (Result Log ReadAnswer)
-left_to_ask left bytes None = pieces_then changelog_index left bytes (λ index. answer (log_of index))
-left_to_ask left bytes (Some log) = answer (Ok log)
+-- the history of an index, which has to begin with the former one where there is one
+abbrev pub log_behind : Option Log → List ℕ → Result Log ReadAnswer
+log_behind None index = log_of index
+log_behind (Some old) index = log_after old.entries (log_of index)
+
+abbrev pub left_to_ask : Option Log → ℕ → List ℕ → Option Log → Asks (Result Log ReadAnswer)
+left_to_ask former left bytes None = pieces_then changelog_index left bytes (λ index. answer (log_behind former index))
+left_to_ask former left bytes (Some log) = answer (Ok log)
 
 abbrev pub index_asks : IndexLoad → Asks (Result Log ReadAnswer)
-index_asks m = left_to_ask m.left m.bytes.items m.log
+index_asks m = left_to_ask m.former m.left m.bytes.items m.log
 
 abbrev pub reads_left_of : ℕ → Option Log → ℕ
 reads_left_of left None = left
@@ -47,19 +51,19 @@ abbrev pub asks_unless : {A : Type 0} → Option A → Asks (Result A ReadAnswer
 asks_unless None question = question
 asks_unless (Some x) question = answer (Ok x)
 
--- The reads in their order, without those that were answered. The history has to begin with the old entries.
-abbrev pub asks_from : List Entry → Bool → Option (List Mark) → Option Nodes → Asks (Result Log ReadAnswer) → Asks (Result View ReadAnswer)
-asks_from old required marks nodes index =
+-- the reads in their order, without those that were answered
+abbrev pub asks_from : Bool → Option (List Mark) → Option Nodes → Asks (Result Log ReadAnswer) → Asks (Result View ReadAnswer)
+asks_from required marks nodes index =
     then_asks (requires_left required) (λ x.
     then_asks (asks_unless marks bookmarks_asks) (λ marks.
     then_asks (asks_unless nodes dirstate_asks) (λ nodes.
     then_asks index (λ log.
     then_asks roots_asks (λ roots.
-    answer (view_after old marks nodes log roots))))))
+    answer (view_of marks nodes log roots))))))
 
 -- the question that a load still asks
 abbrev pub asks_of : LoadMachine → Asks (Result View ReadAnswer)
-asks_of m = asks_unless m.loaded (asks_from m.former.items m.required m.bookmarks (option_map nodes_of m.nodes) (index_asks m.index))
+asks_of m = asks_unless m.loaded (asks_from m.required m.bookmarks (option_map nodes_of m.nodes) (index_asks m.index))
 
 abbrev pub reads_unless : {A : Type 0} → Option A → ℕ → ℕ
 reads_unless None reads = reads

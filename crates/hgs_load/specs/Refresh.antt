@@ -1,16 +1,13 @@
 -- What a refresh asks.
-use Rattle.std.specs.Prelude.{ℕ, suc, Bool, true, false, ◌==◌, ◌&&◌, List, [], ◌∷◌, Option, Some, None, Result, Err, if◌then◌else◌}
+use Rattle.std.specs.Prelude.{ℕ, suc, Bool, true, false, ◌==◌, ◌&&◌, List, [], ◌∷◌, Option, Some, None, Result, Ok, Err, if◌then◌else◌}
 use Rattle.hgs_bytes.specs.Bytes.{same}
 use Rattle.hgs_index.specs.declared.entry.Entry.{Entry}
-use Rattle.hgs_marks.specs.Bookmarks.{Mark}
-use Rattle.hgs_phases.specs.declared.roots.Root.{Root}
 use Rattle.hgs_plan.specs.declared.damage.Part.TheVariants as parts
 use Rattle.hgs_revlog.specs.Log.{Log}
 use Rattle.hgs_load.specs.declared.answer.ReadAnswer.{ReadAnswer}
 use Rattle.hgs_load.specs.Asks.{Asks, answer, then_asks}
-use Rattle.hgs_load.specs.Marks.{Nodes}
-use Rattle.hgs_load.specs.Open.{bookmarks_asks, dirstate_asks, log_asks, roots_asks, view_of}
-use Rattle.hgs_load.specs.View.{View, changelog_index, damaged}
+use Rattle.hgs_load.specs.Open.{bookmarks_asks, dirstate_asks, roots_asks, log_of, view_of}
+use Rattle.hgs_load.specs.View.{View, changelog_index, damaged, most_pieces, pieces_then}
 
 abbrev pub same_parent : Option ℕ → Option ℕ → Bool
 same_parent None None = true
@@ -33,19 +30,24 @@ first_changed rev [] entries = None
 first_changed rev (o ∷ old) [] = Some rev
 first_changed rev (o ∷ old) (e ∷ entries) = if same_entry o e then first_changed (suc rev) old entries else Some rev
 
-abbrev pub unless_changed : Option ℕ → Result View ReadAnswer → Result View ReadAnswer
-unless_changed None view = view
-unless_changed (Some rev) view = Err (damaged changelog_index parts.Shrunk 1 rev)
+abbrev pub unless_changed : Option ℕ → Log → Result Log ReadAnswer
+unless_changed None log = Ok log
+unless_changed (Some rev) log = Err (damaged changelog_index parts.Shrunk 1 rev)
 
--- the view of what was read, whose history has to begin with the old one
-abbrev pub view_after : List Entry → List Mark → Nodes → Log → List Root → Result View ReadAnswer
-view_after old marks nodes log roots = unless_changed (first_changed 0 old log.entries) (view_of marks nodes log roots)
+-- the history that was read, which has to begin with the old entries
+abbrev pub log_after : List Entry → Result Log ReadAnswer → Result Log ReadAnswer
+log_after old (Err e) = Err e
+log_after old (Ok log) = unless_changed (first_changed 0 old log.entries) log
+
+-- the new history, which is refused as soon as its index was read
+abbrev pub newer_log_asks : List Entry → Asks (Result Log ReadAnswer)
+newer_log_asks old = pieces_then changelog_index most_pieces [] (λ index. answer (log_after old (log_of index)))
 
 -- all is read again but `requires`
 abbrev pub refresh_asks : View → Asks (Result View ReadAnswer)
 refresh_asks old =
     then_asks bookmarks_asks (λ marks.
     then_asks dirstate_asks (λ nodes.
-    then_asks log_asks (λ log.
+    then_asks (newer_log_asks old.changelog.entries) (λ log.
     then_asks roots_asks (λ roots.
-    answer (view_after old.changelog.entries marks nodes log roots)))))
+    answer (view_of marks nodes log roots)))))

@@ -4,25 +4,19 @@ ghost use Rattle.hgs_bytes.specs.Answer.{Gives};
 ghost use Rattle.hgs_load.specs.Answer.{is_of_outside, NeverFaults};
 ghost use Rattle.hgs_load.specs.Marks.{dirstate_path, nodes_of};
 ghost use Rattle.hgs_load.specs.Open.{view_of};
-ghost use Rattle.hgs_load.specs.Refresh.{view_after};
-ghost use Rattle.hgs_load.specs.View.{changelog_index};
 
 use crate::answer::ReadAnswer;
 use crate::loaded::Loaded;
 use crate::marks::{WorkingNodes, working_parents_of};
 use crate::paths::{ChangelogPaths, LoadPaths};
 use crate::pieces::{IndexLoad, PIECE};
-use crate::refresh::{entries_of, first_changed};
-use crate::refusal::damage;
 use crate::whole::{
     MOST_BOOKMARKS_TEXT, MOST_DIRSTATE, MOST_REQUIRES, MOST_ROOTS, take_bookmarks, take_nodes,
     take_requirements, take_roots,
 };
 use hgs_files::path::StorePath;
-use hgs_index::entry::Entry;
 use hgs_marks::bookmarks::Bookmarks;
 use hgs_phases::roots::Roots;
-use hgs_plan::damage::Part;
 use hgs_revlog::revlog::Revlog;
 use std::alloc::{AllocError, Global};
 use std::mem;
@@ -60,36 +54,12 @@ fn loaded_of(
     Ok(Loaded::of(log, bookmarks, working, phases))
 }
 
-// The same for a history that has to begin with the old entries. The paths are those of the file that names the working
-// parents and of the changelog's index.
-fn loaded_after(
-    alloc: Global,
-    path: &StorePath,
-    index: &StorePath,
-    old: &[Entry],
-    bookmarks: Bookmarks,
-    nodes: &WorkingNodes,
-    log: Revlog,
-    roots: &Roots,
-) -> Result<Loaded, ReadAnswer>
-    requires path { path.now ≡ dirstate_path }
-    requires index { index.now ≡ changelog_index }
-    ensures loaded { Gives is_of_outside (λ loaded. loaded) result (view_after old.now bookmarks (nodes_of nodes.now) log roots.now) }
-    ensures inner { NeverFaults result }
-{
-    match first_changed(old, &log) {
-        Some(rev) => Err(damage(alloc, index, Part::Shrunk, 1, rev as u64)),
-        None => loaded_of(alloc, path, bookmarks, nodes, log, roots),
-    }
-}
-
 /// A load under way: what was read so far, and what was loaded once all was.
 #[derive(Drop)]
 pub struct LoadMachine {
     alloc: Global,
     paths: LoadPaths,
     changelog: ChangelogPaths,
-    former: Vec<Entry>,
     required: bool,
     bookmarks: Option<Bookmarks>,
     nodes: Option<WorkingNodes>,
@@ -114,7 +84,6 @@ impl LoadMachine {
             alloc,
             paths: LoadPaths::new(alloc)?,
             changelog: ChangelogPaths::new(alloc)?,
-            former: Vec::new(alloc),
             required: false,
             bookmarks: None,
             nodes: None,
@@ -124,7 +93,7 @@ impl LoadMachine {
     }
 
     /// A load of what has changed since an older one. It does not read `requires` again, and is refused where the history does
-    /// not begin with the older one.
+    /// not begin with the older one, as soon as its index was read.
     pub fn refresh(alloc: Global, old: &Loaded) -> Result<LoadMachine, AllocError>
         ensures asks { IfOk result (λ machine. asks_of machine ≡ refresh_asks old.now) }
     {
@@ -132,11 +101,10 @@ impl LoadMachine {
             alloc,
             paths: LoadPaths::new(alloc)?,
             changelog: ChangelogPaths::new(alloc)?,
-            former: entries_of(alloc, old.changelog())?,
             required: true,
             bookmarks: None,
             nodes: None,
-            index: IndexLoad::new(alloc),
+            index: IndexLoad::behind(alloc, old.changelog())?,
             loaded: None,
         })
     }
@@ -288,11 +256,9 @@ impl LoadMachine {
             unreachable!()
         };
         let log = mem::replace(&mut self.index, IndexLoad::new(self.alloc)).take();
-        match loaded_after(
+        match loaded_of(
             self.alloc,
             self.paths.dirstate(),
-            self.changelog.index(),
-            &self.former,
             bookmarks,
             &nodes,
             log,
@@ -353,7 +319,6 @@ impl LoadMachine {
             alloc: _,
             paths: _,
             changelog: _,
-            former: _,
             required: _,
             bookmarks: _,
             nodes: _,

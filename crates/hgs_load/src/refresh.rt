@@ -1,12 +1,11 @@
 //! Whether a history goes on from an older one.
-ghost use Rattle.std.specs.Prelude.{◌≡◌, ◌&&◌, length, IfOk, false};
+ghost use Rattle.std.specs.Prelude.{◌≡◌, ◌&&◌, length, false};
 ghost use Rattle.hgs_plan.specs.declared.damage.Part.TheVariants.{Shrunk};
 ghost use Rattle.hgs_load.specs.Refresh.{same_parent, same_lengths, same_links, same_entry, first_changed};
 
 use hgs_bytes::parts::equal;
 use hgs_index::entry::Entry;
 use hgs_revlog::revlog::Revlog;
-use std::alloc::{AllocError, Global};
 
 fn is_same_parent(a: Option<u32>, b: Option<u32>) -> bool
     ensures { result ≡ same_parent a b }
@@ -54,15 +53,4 @@ pub fn first_changed(old: &[Entry], log: &Revlog) -> Option<u32>
         rest = behind;
     }
     None
-}
-
-/// A copy of the entries of a history.
-pub fn entries_of(alloc: Global, log: &Revlog) -> Result<Vec<Entry>, AllocError>
-    ensures { IfOk result (λ entries. entries.items ≡ log.now.entries) }
-{
-    let mut entries = Vec::new(alloc);
-    for rev in 0..log.len() {
-        entries.push(*log.entry(rev))?;
-    }
-    Ok(entries)
 }
