@@ -1,5 +1,6 @@
 pub mod AskLemmas
 pub mod FeedLemmas
+pub mod GivenLemmas
 pub mod MachineLemmas
 pub mod OpenedLemmas
 pub mod PartLemmas
