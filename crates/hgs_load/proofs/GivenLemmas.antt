@@ -31,9 +31,9 @@ rises-both a b c n m h k =
       later = omega (arith, l1, l2);
       at_most = omega (arith, m1, m2);
       exact = λ below.
-        (let second = k.exact below in
-         let first = h.exact (omega (arith, l2, below)) in
-         omega (arith, first, second));
+          (let second = k.exact below in
+          let first = h.exact (omega (arith, l2, below)) in
+          omega (arith, first, second));
     }
 
 -- ---- the way of a question
@@ -131,17 +131,20 @@ takes-then view view_next g0 g1 g2 before now next start start_now q more x (Ok 
 takes-then view view_next g0 g1 g2 before now next start start_now q more x (Err e) s h k =
     refused-both g0 g1 g2 before now next start start_now (then_asks q more) (more (view x)) e s (gave-then g0 g1 before now start q (answer (Ok (view x))) more h) k
 
+refusal-asked : {A : Type 0} (b : Bool) (given : Result A ReadAnswer) (e : ReadAnswer) → MatchBool b ⊤ (given ≡ Err e) → MatchBool b ⊤ ((let q : Asks (Result A ReadAnswer) = answer given in q) ≡ answer (Err e))
+refusal-asked true given e m = tt
+refusal-asked false given e m = ap answer m
+
+-- what is left gives the answer
+pub takes-ended : {V A : Type 0} (view : V → A) (g0 g1 : ℕ) (before after : Option (List Op)) (start : Tree) (q : Asks (Result A ReadAnswer)) (given : Result A ReadAnswer) (r : Result V ReadAnswer) → Gave g0 g1 before start after q (answer given) → Gives is_of_outside view r given → Takes view g0 g1 before start after q r
+takes-ended {V} {A} view g0 g1 before after start q given (Ok x) gave h =
+    let P : Result A ReadAnswer → Type 0 = λ y. Gave g0 g1 before start after q (answer y) in
+    subst P h gave
+takes-ended {V} {A} view g0 g1 before after start q given (Err e) gave h = refused-behind g0 g1 before after start q (answer given) e gave (refusal-asked (is_of_outside e) given e h)
+
 -- what is answered without a read
 pub takes-given : {V A : Type 0} (view : V → A) (old new : ℕ) (seen : Option (List Op)) (start : Tree) (given : Result A ReadAnswer) (r : Result V ReadAnswer) → new ≡ old → Gives is_of_outside view r given → Takes view old new seen start seen (answer given) r
-takes-given {V} {A} view old new seen start given (Ok x) same h =
-    let P : Result A ReadAnswer → Type 0 = λ y. Gave old new seen start seen (answer given) (answer y) in
-    subst P h (gave-none old new seen seen start (answer given) same (grows-refl seen))
-takes-given view old new seen start given (Err e) same h =
-    refused-behind old new seen seen start (answer given) (answer given) e (gave-none old new seen seen start (answer given) same (grows-refl seen)) (either-ap (is_of_outside e) given e h)
-  where
-    either-ap : {A : Type 0} (b : Bool) (given : Result A ReadAnswer) (e : ReadAnswer) → MatchBool b ⊤ (given ≡ Err e) → MatchBool b ⊤ ((let q : Asks (Result A ReadAnswer) = answer given in q) ≡ answer (Err e))
-    either-ap true given e m = tt
-    either-ap false given e m = ap answer m
+takes-given view old new seen start given r same h = takes-ended view old new seen seen start (answer given) given r (gave-none old new seen seen start (answer given) same (grows-refl seen)) h
 
 -- ---- calls that add a text
 
@@ -180,3 +183,18 @@ takes-refused-read {V} {B} view old new before after start q r e i a outside sam
 -- there was no memory before anything was read
 pub takes-no-memory : {V B : Type 0} (view : V → B) (given : ℕ) (seen : Option (List Op)) (start : Tree) (q : Asks (Result B ReadAnswer)) (r : Result V ReadAnswer) → IsErr r → IsErrAnd r (λ x. x ≡ Memory) → Takes view given given seen start seen q r
 takes-no-memory view given seen start q r i a = takes-refused-read view given given seen seen start q r Memory i a refl refl (grows-refl seen)
+
+pub text-refused-read : (g0 g1 : ℕ) (before after : Option (List Op)) (start : Tree) (q : Asks (Result (List ℕ) ReadAnswer)) (old new : List ℕ) (r : Result Unit ReadAnswer) (e : ReadAnswer) →
+    IsErr r → IsErrAnd r (λ x. x ≡ e) → is_of_outside e ≡ true → g1 ≡ g0 → Grows before after → TakesText g0 g1 before start after q old new r
+text-refused-read g0 g1 before after start q old new r e i a outside same g =
+    let P : Result Unit ReadAnswer → Type 0 = λ x. TakesText g0 g1 before start after q old new x in
+    handed-on P r e i a (refused-first g0 g1 before after start q e outside same g)
+
+pub text-no-memory : (given : ℕ) (seen : Option (List Op)) (start : Tree) (q : Asks (Result (List ℕ) ReadAnswer)) (old new : List ℕ) (r : Result Unit ReadAnswer) → IsErr r → IsErrAnd r (λ x. x ≡ Memory) → TakesText given given seen start seen q old new r
+text-no-memory given seen start q old new r i a = text-refused-read given given seen seen start q old new r Memory i a refl refl (grows-refl seen)
+
+-- there was no memory for the text behind what was read
+pub text-lost : (g0 g1 : ℕ) (before after : Option (List Op)) (start : Tree) (q left : Asks (Result (List ℕ) ReadAnswer)) (old new : List ℕ) (r : Result Unit ReadAnswer) → IsErr r → IsErrAnd r (λ x. x ≡ Memory) → Gave g0 g1 before start after q left → TakesText g0 g1 before start after q old new r
+text-lost g0 g1 before after start q left old new r i a gave =
+    let P : Result Unit ReadAnswer → Type 0 = λ x. TakesText g0 g1 before start after q old new x in
+    handed-on P r Memory i a (left, gave)

@@ -7,6 +7,7 @@ use Rattle.hgs_files.specs.Tree.{Tree, after_all}
 use Rattle.hgs_load.specs.declared.answer.ReadAnswer.{ReadAnswer}
 use Rattle.hgs_load.specs.Answer.{is_of_outside}
 use Rattle.hgs_load.specs.Asks.{Asks, answer, read, part_of}
+use Rattle.hgs_load.specs.View.{View}
 
 -- a count rises by so many, and by fewer only where it then stands at its greatest value
 pub record RisesBy (old new more : ℕ) : Type 0 where
@@ -58,3 +59,8 @@ abbrev pub TakesStep : {B : Type 0} → ℕ → ℕ → Option (List Op) → Tre
 TakesStep given_old given_new before start after question left (Ok true) = Gave given_old given_new before start after question left
 TakesStep given_old given_new before start after question left (Ok false) = given_new ≡ given_old
 TakesStep given_old given_new before start after question left (Err e) = GaveRefused given_old given_new before start after question e
+
+-- so did a call that takes the answer as its new view
+abbrev pub TakesView : ℕ → ℕ → Option (List Op) → Tree → Option (List Op) → Asks (Result View ReadAnswer) → View → Result Unit ReadAnswer → Type 0
+TakesView given_old given_new before start after question new (Ok x) = Gave given_old given_new before start after question (answer (Ok new))
+TakesView given_old given_new before start after question new (Err e) = GaveRefused given_old given_new before start after question e

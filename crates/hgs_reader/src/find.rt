@@ -9,6 +9,7 @@ ghost use Rattle.hgs_revlog.specs.Log.{place_of};
 ghost use Rattle.hgs_revlog.specs.Text.{text_of};
 ghost use Rattle.hgs_load.specs.Answer.{is_of_outside, HasFaultCause, NeverFaults};
 ghost use Rattle.hgs_load.specs.Asks.{Answers};
+ghost use Rattle.hgs_load.specs.Given.{Takes};
 ghost use Rattle.hgs_reader.specs.Find.{has_node, is_last_of, bytes_until, log_until, text_answer, text_at_asks, text_asks};
 ghost use Rattle.hgs_load.specs.View.{most_pieces, log_answer};
 
@@ -87,6 +88,7 @@ fn read_until<R: Reads>(
     node: &Node,
 ) -> Result<Vec<u8>, ReadAnswer>
     ensures answer { Answers (λ bytes. bytes.items) (R.seen files.old) (R.start files.old) (R.seen files.new) (bytes_until index.now node.now.0 most_pieces []) result }
+    ensures given { Takes (λ bytes. bytes.items) (R.given files.old) (R.given files.new) (R.seen files.old) (R.start files.old) (R.seen files.new) (bytes_until index.now node.now.0 most_pieces []) result }
     ensures seen { Grows (R.seen files.old) (R.seen files.new) }
     ensures same_start { R.start files.new ≡ R.start files.old }
     ensures still { R.alone ≡ true → R.seen files.new ≡ R.seen files.old }
@@ -132,6 +134,7 @@ fn load_until<R: Reads>(
     node: &Node,
 ) -> Result<Revlog, ReadAnswer>
     ensures answer { Answers (λ log. log) (R.seen files.old) (R.start files.old) (R.seen files.new) (log_until index.now node.now.0) result }
+    ensures given { Takes (λ log. log) (R.given files.old) (R.given files.new) (R.seen files.old) (R.start files.old) (R.seen files.new) (log_until index.now node.now.0) result }
     ensures small { IfOk result (λ log. HaveSmallTexts log.entries) }
     ensures seen { Grows (R.seen files.old) (R.seen files.new) }
     ensures same_start { R.start files.new ≡ R.start files.old }
@@ -176,6 +179,7 @@ pub fn read_text<R: Reads>(
 ) -> Result<StoredText, ReadAnswer>
     requires { rev < length log.now.entries }
     ensures answer { Answers (λ text. text) (R.seen files.old) (R.start files.old) (R.seen files.new) (text_at_asks paths.now.index paths.now.chunks log.now (Some rev)) result }
+    ensures given { Takes (λ text. text) (R.given files.old) (R.given files.new) (R.seen files.old) (R.start files.old) (R.seen files.new) (text_at_asks paths.now.index paths.now.chunks log.now (Some rev)) result }
     ensures small { HaveSmallTexts log.now.entries → IfOk result (λ text. length text ≤ most_text) }
     ensures seen { Grows (R.seen files.old) (R.seen files.new) }
     ensures same_start { R.start files.new ≡ R.start files.old }
@@ -199,6 +203,7 @@ fn text_in_log<R: Reads>(
     node: &Node,
 ) -> Result<StoredText, ReadAnswer>
     ensures answer { Answers (λ text. text) (R.seen files.old) (R.start files.old) (R.seen files.new) (text_at_asks paths.now.index paths.now.chunks log.now (place_of log.now.entries node.now.0)) result }
+    ensures given { Takes (λ text. text) (R.given files.old) (R.given files.new) (R.seen files.old) (R.start files.old) (R.seen files.new) (text_at_asks paths.now.index paths.now.chunks log.now (place_of log.now.entries node.now.0)) result }
     ensures small { HaveSmallTexts log.now.entries → IfOk result (λ text. length text ≤ most_text) }
     ensures seen { Grows (R.seen files.old) (R.seen files.new) }
     ensures same_start { R.start files.new ≡ R.start files.old }
@@ -219,6 +224,7 @@ pub fn text_of_node<R: Reads>(
     node: &Node,
 ) -> Result<StoredText, ReadAnswer>
     ensures answer { Answers (λ text. text) (R.seen files.old) (R.start files.old) (R.seen files.new) (text_asks paths.now.index paths.now.chunks node.now.0) result }
+    ensures given { Takes (λ text. text) (R.given files.old) (R.given files.new) (R.seen files.old) (R.start files.old) (R.seen files.new) (text_asks paths.now.index paths.now.chunks node.now.0) result }
     ensures small { IfOk result (λ text. length text ≤ most_text) }
     ensures seen { Grows (R.seen files.old) (R.seen files.new) }
     ensures same_start { R.start files.new ≡ R.start files.old }

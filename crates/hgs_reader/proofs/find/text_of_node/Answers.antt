@@ -1,7 +1,8 @@
 use Rattle.std.proofs.Common.{List, ℕ}
 use Rattle.hgs_revlog.specs.Log.{Log, place_of}
 use Rattle.hgs_reader.specs.Find.{log_until, text_at_asks}
-use Rattle.hgs_load.proofs.AskLemmas.{answers-then, answers-refused}
+use Rattle.hgs_load.proofs.GivenLemmas.{takes-then, refused-then}
+use Rattle.hgs_load.proofs.AskLemmas.{answers-then, answers-refused, grows-trans}
 use Rattle.hgs_reader.proofs.find.text_of_node.Goals as goal
 
 pub returns-in-Ok-clause-answer : goal.returns-in-Ok-clause-answer
@@ -18,3 +19,21 @@ returns-in-Err-clause-answer g c =
     let node = c.args.node.now.0 in
     answers-refused (λ (log : Log). log) (λ (text : List ℕ). text) (g.R.Reads.seen c.args.files.now) (g.R.Reads.seen c.load_until.new.files) (g.R.Reads.start c.args.files.now)
     (log_until paths.index node) (λ log. text_at_asks paths.index paths.chunks log (place_of log.entries node)) c.in-Err.refusal c.in-Err.ensures.answer
+
+pub returns-in-Ok-clause-given : goal.returns-in-Ok-clause-given
+returns-in-Ok-clause-given g c =
+    let paths = c.args.paths.now in
+    let node = c.args.node.now.0 in
+    takes-then (λ (log : Log). log) (λ (text : List ℕ). text) (g.R.Reads.given c.args.files.now) (g.R.Reads.given c.load_until.new.files) (g.R.Reads.given c.text_in_log.new.files) (g.R.Reads.seen c.args.files.now) (g.R.Reads.seen c.load_until.new.files) (g.R.Reads.seen c.text_in_log.new.files) (g.R.Reads.start c.args.files.now) (g.R.Reads.start c.load_until.new.files)
+    (log_until paths.index node) (λ log. text_at_asks paths.index paths.chunks log (place_of log.entries node)) c.in-Ok.log c.text_in_log.result
+    c.in-Ok.ensures.same_start c.in-Ok.ensures.given c.text_in_log.ensures.given
+
+pub returns-in-Err-clause-given : goal.returns-in-Err-clause-given
+returns-in-Err-clause-given g c =
+    let paths = c.args.paths.now in
+    let node = c.args.node.now.0 in
+    refused-then (g.R.Reads.given c.args.files.now) (g.R.Reads.given c.load_until.new.files) (g.R.Reads.seen c.args.files.now) (g.R.Reads.seen c.load_until.new.files) (g.R.Reads.start c.args.files.now)
+    (log_until paths.index node) (λ log. text_at_asks paths.index paths.chunks log (place_of log.entries node)) c.in-Err.refusal c.in-Err.ensures.given
+
+pub returns-in-Ok-clause-seen : goal.returns-in-Ok-clause-seen
+returns-in-Ok-clause-seen g c = grows-trans (g.R.Reads.seen c.args.files.now) (g.R.Reads.seen c.load_until.new.files) (g.R.Reads.seen c.text_in_log.new.files) c.in-Ok.ensures.seen c.text_in_log.ensures.seen
