@@ -1,6 +1,7 @@
 //! One step of a load: a read, and what the machine makes of it.
-ghost use Rattle.std.specs.Prelude.{◌≡◌, ◌<◌, true};
+ghost use Rattle.std.specs.Prelude.{◌≡◌, ◌<◌, true, IfOk};
 ghost use Rattle.std.specs.Option.{option_map};
+ghost use Rattle.hgs_bytes.specs.Bytes.{IsPrefixOf};
 ghost use Rattle.hgs_files.specs.Reads.{Grows};
 ghost use Rattle.hgs_load.specs.Answer.{HasFaultCause};
 ghost use Rattle.hgs_load.specs.Asks.{Answers};
@@ -96,6 +97,7 @@ pub fn load_again<R: Reads>(
 ) -> Result<Loaded, ReadAnswer>
     ensures answer { Answers (λ loaded. loaded) (R.seen files.old) (R.start files.old) (R.seen files.new) (refresh_asks old.now) result }
     ensures given { Takes (λ loaded. loaded) (R.given files.old) (R.given files.new) (R.seen files.old) (R.start files.old) (R.seen files.new) (refresh_asks old.now) result }
+    ensures front { IfOk result (λ loaded. IsPrefixOf old.now.changelog.entries loaded.changelog.entries) }
     ensures seen { Grows (R.seen files.old) (R.seen files.new) }
     ensures same_start { R.start files.new ≡ R.start files.old }
     ensures still { R.alone ≡ true → R.seen files.new ≡ R.seen files.old }

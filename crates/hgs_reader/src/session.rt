@@ -38,6 +38,7 @@ impl Model for Session {
 impl Session {
     ghost use Rattle.std.specs.Prelude.{◌≡◌, ◌<◌, ◌≤◌, ◌++◌, true, length, slice_get, Some, IfOk, IfSome, OnOk, OnErr};
     ghost use Rattle.hgs_bytes.specs.Answer.{Gives};
+    ghost use Rattle.hgs_bytes.specs.Bytes.{IsPrefixOf};
     ghost use Rattle.hgs_files.specs.Reads.{Grows};
     ghost use Rattle.hgs_changelog.specs.View.{view_change};
     ghost use Rattle.hgs_load.specs.Answer.{is_of_outside, HasFaultCause, NeverFaults};
@@ -96,6 +97,7 @@ impl Session {
     pub fn refresh<R: Reads>(&mut self, files: &mut R) -> Result<(), ReadAnswer>
         ensures answer { Refreshes (R.seen files.old) (R.start files.old) (R.seen files.new) (refresh_asks self.old) self.old self.new result }
         ensures given { TakesView (R.given files.old) (R.given files.new) (R.seen files.old) (R.start files.old) (R.seen files.new) (refresh_asks self.old) self.new result }
+        ensures front { OnOk result (IsPrefixOf self.old.changelog.entries self.new.changelog.entries) }
         ensures seen { Grows (R.seen files.old) (R.seen files.new) }
         ensures same_start { R.start files.new ≡ R.start files.old }
         ensures still { R.alone ≡ true → R.seen files.new ≡ R.seen files.old }

@@ -1,4 +1,5 @@
 use Rattle.std.proofs.Common.{refl, Ok, Err, subst}
+use Rattle.hgs_bytes.specs.Bytes.{IsPrefixOf}
 use Rattle.hgs_load.specs.Answer.{is_of_outside}
 use Rattle.hgs_load.specs.Asks.{answer, MayAnswerWhereTold}
 use Rattle.hgs_load.specs.Given.{Gave, GaveRefused}
@@ -26,3 +27,8 @@ pub returns-in-Err-clause-given : goal.returns-in-Err-clause-given
 returns-in-Err-clause-given g c =
     let P : View → Type 0 = λ old. GaveRefused (g.R.Reads.given c.args.files.now) (g.R.Reads.given c.load_again.new.files) (g.R.Reads.seen c.args.files.now) (g.R.Reads.start c.args.files.now) (g.R.Reads.seen c.load_again.new.files) (refresh_asks old) c.in-Err.refusal in
     subst P c.self.view_is c.in-Err.ensures.given
+
+pub returns-in-Ok-clause-front : goal.returns-in-Ok-clause-front
+returns-in-Ok-clause-front g c =
+    let P : View → Type 0 = λ old. IsPrefixOf old.changelog.entries c.in-Ok.loaded.changelog.entries in
+    subst P c.self.view_is c.in-Ok.ensures.front
