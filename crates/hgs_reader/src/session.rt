@@ -194,8 +194,8 @@ impl Session {
         Ok(())
     }
 
-    // Reads the text of a changeset.
-    fn change<R: Reads>(&self, files: &mut R, rev: u32) -> Result<ChangeText, ReadAnswer>
+    /// Reads the changeset of a revision.
+    pub fn change<R: Reads>(&self, files: &mut R, rev: u32) -> Result<ChangeText, ReadAnswer>
         requires { rev < length self.now.changelog.entries }
         ensures answer { Answers view_change (R.seen files.old) (R.start files.old) (R.seen files.new) (change_asks self.now rev) result }
         ensures given { Takes view_change (R.given files.old) (R.given files.new) (R.seen files.old) (R.start files.old) (R.seen files.new) (change_asks self.now rev) result }
