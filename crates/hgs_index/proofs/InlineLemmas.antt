@@ -1,15 +1,15 @@
 -- An inline index and the separate revlog that it stands for.
 use Rattle.std.proofs.Common.{◌≡◌, ℕ, zero, suc, ◌+◌, ◌-◌, ◌%◌, ◌<◌, ◌≤◌, List, [], ◌∷◌, ◌++◌, Bool, true, false, cond, ◌&&◌, ◌||◌, not, length, take, drop, map, Option, Some, None, Result, Ok, Err, refl, sym, ◌∙◌, ap, subst, arith, append_assoc, append-nil, length-append}
 use Rattle.std.specs.Prelude.{flat_map, nat_le, nat_lt, ◌==◌}
-use Rattle.std.specs.Int.{w16, from_be_bytes}
+use Rattle.std.specs.Int.{w16, w32, from_be_bytes}
 use Rattle.std.specs.List.{AllByRecursion, concat}
-use Rattle.std.proofs.lemmas.List.{take-append-drop, drop-drop, length-take, length-drop, take_at, drop_at}
+use Rattle.std.proofs.lemmas.List.{take-append-drop, take-take, drop-take, drop-drop, length-take, length-drop, take_at, drop_at}
 use Rattle.std.proofs.lemmas.Nat.{from_be_bytes-to_be_bytes_4}
 use Rattle.hgs_index.specs.declared.entry.Entry.{Entry}
 use Rattle.hgs_index.specs.declared.entry.Header.{Header}
 use Rattle.hgs_index.specs.declared.entry.EntryFault.TheVariants.{Version, HeaderFlags}
 use Rattle.hgs_index.specs.Entry.{entry_bytes, part, number_at, is_negative, has_bad_header, header_of, header_at, Fits}
-use Rattle.hgs_index.specs.Inline.{says_inline, is_inline, is_cut, entries_in, chunks_in, without_inline, index_apart, chunks_apart}
+use Rattle.hgs_index.specs.Inline.{says_inline, is_inline, is_cut, whole_item, entries_in, chunks_in, without_inline, index_apart, chunks_apart}
 use Rattle.hgs_index.specs.Revision.{Revision, node_after}
 use Rattle.hgs_index.specs.Revlog.{Stored, Item, items_from, items, item_bytes, index_bytes, Holds, HoldsRevisions}
 use Rattle.hgs_index.proofs.EntryPartLemmas.{length-entry_bytes}
@@ -107,6 +107,41 @@ module _ (e : Entry) (first : Option Header) (chunk rest : List ℕ) (fits : Fit
   chunks-item n =
       ap (λ b. cond b [] (part 64 (number_at 8 item) item ++ chunks_in n (drop (64 + number_at 8 item) item))) (whole-item e first chunk rest fits stored)
       ∙ (λ i. item-chunk i ++ chunks_in n (item-rest i))
+
+-- ---- the front of an index
+
+empty : (xs : List ℕ) → length xs ≤ 0 → xs ≡ []
+empty [] h = refl
+empty (x ∷ xs) h = absurd (omega (arith, h))
+
+number-in-cell : (bytes : List ℕ) → number_at 8 (take 64 bytes) ≡ number_at 8 bytes
+number-in-cell bytes = ap (λ l. from_be_bytes w32 (take 4 l)) (drop-take 8 56 bytes) ∙ ap (from_be_bytes w32) (take-take 4 56 (drop 8 bytes) (omega arith))
+
+pub item-found : (bytes cell behind : List ℕ) (n : ℕ) → cell ≡ take 64 bytes → behind ≡ drop 64 bytes → 64 ≤ length bytes → n ≡ number_at 8 cell → n ≤ length behind → whole_item bytes ≡ Some (cell, drop n behind)
+item-found bytes cell behind n front back-is whole number room =
+    let is : number_at 8 bytes ≡ n = sym (number-in-cell bytes) ∙ ap (number_at 8) (sym front) ∙ sym number in
+    let len = ap length back-is in
+    let left = length-drop 64 bytes in
+    ap (λ b. cond b None (Some (take 64 bytes, drop (64 + number_at 8 bytes) bytes)))
+    (or-both (nat_lt (length bytes) 64) (not (is_negative (number_at 8 bytes))) (nat_lt (length bytes) (64 + number_at 8 bytes)) (least 64 (length bytes) whole) (least (64 + number_at 8 bytes) (length bytes) (omega (arith, is, room, len, left, whole))))
+    ∙ (λ i. Some ((sym front) i, drop (64 + is i) bytes))
+    ∙ ap (λ l. Some (cell, l)) (sym (drop-drop n 64 bytes) ∙ ap (drop n) (sym back-is))
+
+pub item-refused : (bytes cell behind : List ℕ) (n : ℕ) → cell ≡ take 64 bytes → behind ≡ drop 64 bytes → 64 ≤ length bytes → n ≡ number_at 8 cell → length behind < n → 2147483648 ≤ n → whole_item bytes ≡ Some (cell, [])
+item-refused bytes cell behind n front back-is whole number short high =
+    let is : number_at 8 bytes ≡ n = sym (number-in-cell bytes) ∙ ap (number_at 8) (sym front) ∙ sym number in
+    let len = ap length back-is in
+    let left = length-drop 64 bytes in
+    ap (λ b. cond b None (Some (take 64 bytes, drop (64 + number_at 8 bytes) bytes)))
+    (or-first (nat_lt (length bytes) 64) (not (is_negative (number_at 8 bytes))) (nat_lt (length bytes) (64 + number_at 8 bytes)) (least 64 (length bytes) whole) (has-sign (number_at 8 bytes) (omega (arith, is, high))))
+    ∙ (λ i. Some ((sym front) i, drop (64 + is i) bytes))
+    ∙ ap (λ l. Some (cell, l)) (empty (drop (64 + n) bytes) (omega (arith, length-drop (64 + n) bytes, short, len, left)))
+  where
+    has-sign : (n : ℕ) → 2147483648 ≤ n → not (is_negative n) ≡ false
+    has-sign n h = grind arith
+
+    or-first : (a b c : Bool) → a ≡ false → b ≡ false → (a || (b && c)) ≡ false
+    or-first a b c x y = ap (λ d. d || (b && c)) x ∙ ap (λ d. d && c) y
 
 -- ---- all of them
 
@@ -207,10 +242,6 @@ no-cells n (x ∷ xs) h = absurd (by (is_cut (x ∷ xs)) h)
     by : (b : Bool) → cond b (take 63 (x ∷ xs)) (take 64 (x ∷ xs) ++ entries_in n (drop (64 + number_at 8 (x ∷ xs)) (x ∷ xs))) ≡ [] → ⊥
     by true k = cc
     by false k = cc
-
-empty : (xs : List ℕ) → length xs ≤ 0 → xs ≡ []
-empty [] h = refl
-empty (x ∷ xs) h = absurd (omega (arith, h))
 
 first-false : (a b c : Bool) → (a || (b && c)) ≡ false → a ≡ false
 first-false true b c h = cc

@@ -1,5 +1,5 @@
 -- An inline index taken apart: the index and the data that a separate revlog of the same revisions has.
-use Rattle.std.specs.Prelude.{ℕ, zero, suc, ◌+◌, ◌-◌, Bool, false, ◌&&◌, ◌||◌, not, nat_le, nat_lt, List, [], ◌∷◌, ◌++◌, length, take, drop, Result, Ok, Err, if◌then◌else◌}
+use Rattle.std.specs.Prelude.{ℕ, zero, suc, ◌+◌, ◌-◌, Bool, false, ◌&&◌, ◌||◌, not, nat_le, nat_lt, List, [], ◌∷◌, ◌++◌, length, take, drop, Option, Some, None, Result, Ok, Err, if◌then◌else◌}
 use Rattle.hgs_index.specs.declared.entry.Header.{Header}
 use Rattle.hgs_index.specs.declared.entry.EntryFault.{EntryFault}
 use Rattle.hgs_index.specs.Entry.{part, number_at, is_negative, header_at}
@@ -16,6 +16,10 @@ is_inline index = nat_le 64 (length index) && says_inline (header_at index)
 -- set the entry counts as whole, since it is refused for that.
 abbrev pub is_cut : List ℕ → Bool
 is_cut bytes = nat_lt (length bytes) 64 || (not (is_negative (number_at 8 bytes)) && nat_lt (length bytes) (64 + number_at 8 bytes))
+
+-- the entry that these bytes begin with, and what stands behind its chunk
+abbrev pub whole_item : List ℕ → Option (List ℕ × List ℕ)
+whole_item bytes = if is_cut bytes then None else Some (take 64 bytes, drop (64 + number_at 8 bytes) bytes)
 
 -- the bytes of whole entries and their chunks without the chunks; of a rest, less than an entry
 abbrev pub entries_in : ℕ → List ℕ → List ℕ
