@@ -365,3 +365,17 @@ apart-held index data_bytes used left revisions inline h chunks =
 -- An inline index holds at most one list of revisions, whatever stands beside it.
 pub inline-unique : (index one other : List ℕ) (r q : List Revision) → Holds true index one r → Holds true index other q → r ≡ q
 inline-unique index one other r q a b = held-unique (index_apart index) (chunks_apart index) r q (held-apart index one r a) (held-apart index other q b)
+
+-- The index of a separate revlog that has a revision does not say that it is inline, whatever stands behind it.
+pub held-plain : (index data_bytes more : List ℕ) (r : Revision) (revisions : List Revision) → HoldsRevisions index data_bytes (r ∷ revisions) → is_inline (index ++ more) ≡ false
+held-plain index data_bytes more r revisions h =
+    ap (λ l. is_inline (l ++ more)) (h.index_is ∙ ap (λ k. index_bytes k (items h.stored)) (header-is false h.header h.form)) ∙ by h.header.generaldelta h.stored h.these
+  where
+    nothing : (b : Bool) → (b && false) ≡ false
+    nothing true = refl
+    nothing false = refl
+
+    by : (g : Bool) (stored : List Stored) → map (λ s. s.revision) stored ≡ r ∷ revisions → is_inline (index_bytes (plain_header g) (items stored) ++ more) ≡ false
+    by g [] these = cc
+    by true (s ∷ stored) these = nothing (nat_le 64 (length (index_bytes (plain_header true) (items (s ∷ stored)) ++ more)))
+    by false (s ∷ stored) these = nothing (nat_le 64 (length (index_bytes (plain_header false) (items (s ∷ stored)) ++ more)))

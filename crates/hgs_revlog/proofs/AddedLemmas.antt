@@ -53,7 +53,7 @@ pub taken_again : (before : List Entry) (e : Entry) (h : Option Header) → leng
     → (IsSome h → length before ≡ 0) → (length before ≡ 0 → IsSome h) → entry_behind before (entry_bytes e h) ≡ Ok e
 taken_again before e h few f fits separate a b =
     ap (λ x. cond x (Err (faults.Limit Changesets)) (checked before (entry_at (entry_bytes e h) (length before)))) (room (length before) few)
-    ∙ ap (checked before) (entry_again e h (length before) fits separate a b)
+    ∙ ap (checked before) (entry_again e h (length before) fits a b)
     ∙ ap (λ o. unless o e) (no_fault before e f)
 
 -- ---- what a new revision is

@@ -1,10 +1,11 @@
 -- The entries of an index, or its first fault.
-use Rattle.std.specs.Prelude.{ℕ, zero, suc, ◌+◌, ◌-◌, ◌/◌, ◌^◌, Bool, false, ◌||◌, ◌==◌, not, nat_le, nat_lt, is_some, List, [], length, take, drop, Option, Some, None, Result, Ok, Err, if◌then◌else◌}
+use Rattle.std.specs.Prelude.{ℕ, zero, suc, ◌+◌, ◌-◌, ◌/◌, ◌^◌, Bool, true, false, ◌||◌, ◌==◌, not, nat_le, nat_lt, is_some, List, [], length, take, drop, Option, Some, None, Result, Ok, Err, if◌then◌else◌}
 use Rattle.hgs_bytes.specs.Bytes.{same}
 use Rattle.hgs_index.specs.declared.entry.Entry as index_entry
 use Rattle.hgs_index.specs.declared.entry.EntryFault.{EntryFault}
 use Rattle.hgs_index.specs.declared.kinds.Which.TheVariants.{Changesets, Text, Data}
 use Rattle.hgs_index.specs.Entry.{entry_at}
+use Rattle.hgs_index.specs.Inline.{is_inline, index_apart, whole_item}
 use Rattle.hgs_index.specs.Node.{null_node}
 use Rattle.hgs_revlog.specs.declared.fault.RevFault.{RevFault}
 use Rattle.hgs_revlog.specs.declared.fault.RevFault.TheVariants.{Entry, Offset, Parent, Twice, Limit, Tail, Missing}
@@ -75,9 +76,23 @@ load_from tail (suc n) log bytes =
     after (entry_behind log.entries (take 64 bytes)) (λ e.
     if ends_at tail e then Ok (with_entry log e) else load_from tail n (with_entry log e) (drop 64 bytes))
 
--- the revlog that an index is, or its first fault
+-- the entries of a separate index, or its first fault
+abbrev pub loaded_apart : tails.Tail → List ℕ → Result Log RevFault
+loaded_apart tail index = load_from tail (length index / 64) (record { inline = false; entries = [] }) index
+
+abbrev pub in_form : Bool → Result Log RevFault → Result Log RevFault
+in_form inline (Err f) = Err f
+in_form inline (Ok log) = Ok (record { inline = inline; entries = log.entries })
+
+-- The revlog that an index is, or its first fault. An inline index has the entries of the separate one that it is taken
+-- apart into: one whose chunk is cut is no whole entry, but its header is looked at.
 abbrev pub loaded : tails.Tail → List ℕ → Result Log RevFault
-loaded tail index = load_from tail (length index / 64) (record { inline = false; entries = [] }) index
+loaded tail index = in_form (is_inline index) (loaded_apart tail (index_apart index))
+
+-- the entry that bytes of this form begin with, and what stands behind it, or behind its chunk
+abbrev pub first_entry : Bool → List ℕ → Option (List ℕ × List ℕ)
+first_entry false bytes = if nat_lt (length bytes) 64 then None else Some (take 64 bytes, drop 64 bytes)
+first_entry true bytes = whole_item bytes
 
 -- the revlog with the entry that these 64 bytes are
 abbrev pub pushed : Log → List ℕ → Result Log RevFault

@@ -9,11 +9,12 @@ ghost use Rattle.hgs_index.specs.Revlog.{chunk_text};
 ghost use Rattle.hgs_revlog.specs.declared.fault.RevFault.TheVariants.{Memory};
 ghost use Rattle.hgs_revlog.specs.Fault.{is_memory};
 ghost use Rattle.hgs_revlog.specs.Log.{place_of, nodes_of, new_header, stored_sum, with_entry};
-ghost use Rattle.hgs_revlog.specs.Load.{loaded, is_taken, entry_behind, fault_of, is_above, ends_at, at_end, most_data, most_revisions, pushed};
-ghost use Rattle.hgs_revlog.specs.Text.{span_of, node_with, text_of};
+ghost use Rattle.hgs_revlog.specs.Load.{loaded, first_entry, is_taken, entry_behind, fault_of, is_above, ends_at, at_end, most_data, most_revisions, pushed};
+ghost use Rattle.hgs_revlog.specs.Text.{span_in, node_with, text_of};
 
 use crate::fault::{RevFault, Tail};
 use hgs_index::entry::{Entry, Header, decode};
+use hgs_index::inline::{is_inline, whole_item};
 use hgs_index::kinds::{Span, Which};
 use hgs_index::node::{Node, node_of};
 use std::alloc::{AllocError, Global};
@@ -68,6 +69,17 @@ fn ends(tail: &Tail, entry: &Entry) -> bool
     }
 }
 
+// The entry that bytes of this form begin with, and what stands behind it, or behind its chunk.
+fn first_entry(inline: bool, bytes: &[u8]) -> Option<(&[u8; 64], &[u8])>
+    ensures { option_map (λ item. (item.0.now, item.1.now)) result ≡ first_entry inline bytes.now }
+{
+    if inline {
+        whole_item(bytes)
+    } else {
+        bytes.split_first_chunk::<64>()
+    }
+}
+
 impl Revlog {
     /// A revlog without revisions. Takes no memory. An inline one takes no revision yet.
     pub fn empty(alloc: Global, inline: bool) -> Revlog
@@ -81,15 +93,17 @@ impl Revlog {
         }
     }
 
-    /// The revlog of an index whose chunks stand in a data file, or its first fault in the order of revisions.
+    /// The revlog of an index, or its first fault in the order of revisions.
     ///
-    /// The index is not copied. The time is that of a search among the nodes for each entry.
+    /// The first entry's header says whether its chunks stand in a data file or in the index, each behind its entry. An
+    /// entry whose chunk is cut is no whole one. The index is not copied. The time is that of a search among the nodes for each entry.
     pub fn load(alloc: Global, index: &[u8], tail: Tail) -> Result<Revlog, RevFault>
         ensures { Gives is_memory (λ log. log) result (loaded tail index.now) }
     {
-        let mut log = Revlog::empty(alloc, false);
+        let inline = is_inline(index);
+        let mut log = Revlog::empty(alloc, inline);
         let mut rest = index;
-        while let Some((bytes, behind)) = rest.split_first_chunk::<64>() {
+        while let Some((bytes, behind)) = first_entry(inline, rest) {
             let entry = match log.next_entry(bytes) {
                 Ok(entry) => entry,
                 Err(fault) => return Err(fault),
@@ -192,14 +206,22 @@ impl Revlog {
         self.revs.get(&node.0).copied()
     }
 
-    /// Where the chunk of a revision stands in the data file, in bytes.
+    /// Whether the chunks stand in the index, each behind its entry.
+    pub fn is_inline(&self) -> bool
+        ensures { result ≡ self.now.inline }
+    {
+        self.inline
+    }
+
+    /// Where the chunk of a revision stands, in bytes: in the data file, or in the index of an inline revlog.
     pub fn text_span(&self, rev: u32) -> Span
         requires { rev < length self.now.entries }
-        ensures { option_map span_of (slice_get self.now.entries rev) ≡ Some result }
+        ensures { option_map (span_in self.now.inline rev) (slice_get self.now.entries rev) ≡ Some result }
     {
         let entry = self.entry(rev);
+        let entries = if self.inline { rev as u64 + 1 } else { 0 };
         Span {
-            from: entry.offset,
+            from: entry.offset + 64 * entries,
             len: entry.stored as u64,
         }
     }

@@ -1,4 +1,4 @@
-use Rattle.hgs_index.proofs.InlineLemmas.{apart-held, held-apart, inline-unique}
+use Rattle.hgs_index.proofs.InlineLemmas.{apart-held, held-apart, held-plain, inline-unique}
 use Rattle.hgs_index.proofs.laws.inline_taken_apart.Goals as goal
 
 pub returns-clause-apart : goal.returns-clause-apart
@@ -9,3 +9,6 @@ returns-clause-back c = apart-held
 
 pub returns-clause-one : goal.returns-clause-one
 returns-clause-one c = inline-unique
+
+pub returns-clause-separate : goal.returns-clause-separate
+returns-clause-separate c = held-plain
