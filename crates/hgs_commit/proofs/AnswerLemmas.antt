@@ -8,9 +8,9 @@ use Rattle.hgs_files.specs.declared.op.Op.{Op}
 use Rattle.hgs_files.specs.Tree.{Tree, after_all}
 use Rattle.hgs_index.specs.declared.kinds.Span.{Span}
 use Rattle.hgs_index.specs.FileText.{body_of, unpacked}
-use Rattle.hgs_reader.specs.Answer.{IsRefusal, is_of_outside}
-use Rattle.hgs_reader.specs.View.{revlog_refusal}
-use Rattle.hgs_reader.specs.declared.answer.ReadAnswer.{ReadAnswer}
+use Rattle.hgs_load.specs.Answer.{IsRefusal, is_of_outside}
+use Rattle.hgs_load.specs.View.{revlog_refusal}
+use Rattle.hgs_load.specs.declared.answer.ReadAnswer.{ReadAnswer}
 use Rattle.hgs_revlog.specs.Fault.{is_memory}
 use Rattle.hgs_revlog.specs.declared.fault.RevFault.{RevFault}
 use Rattle.hgs_revlog.specs.declared.fault.RevFault.TheVariants.{Entry, Compressed, Delta, Flagged, Short, Length, Hash, Parent, Collision, Limit, Memory, Offset, Twice, Tail, Missing}

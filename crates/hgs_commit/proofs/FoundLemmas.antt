@@ -11,8 +11,8 @@ use Rattle.hgs_loading.proofs.FoundLemmas.{either}
 use Rattle.hgs_model.specs.History.{first_of}
 use Rattle.hgs_model.specs.declared.files.NewFile.{NewFile}
 use Rattle.hgs_path.specs.declared.name.Ext.{Ext}
-use Rattle.hgs_reader.specs.Answer.{is_of_outside}
-use Rattle.hgs_reader.specs.declared.answer.ReadAnswer.{ReadAnswer}
+use Rattle.hgs_load.specs.Answer.{is_of_outside}
+use Rattle.hgs_load.specs.declared.answer.ReadAnswer.{ReadAnswer}
 use Rattle.hgs_commit.specs.Files.{OfFile, changed_in, file_in, file_on, file_with, filelog_in, kept_file, kept_in, parents_by, place_in, row_with}
 use Rattle.hgs_commit.specs.Obstacles.{Met, Obstacle, noted, noting}
 use Rattle.hgs_commit.specs.Texts.{OfGrowth, OfLog, OfText, growth_with, new_text_in, new_text_of, obstacles_with, revised_in, standing_of}

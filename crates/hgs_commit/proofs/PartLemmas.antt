@@ -5,7 +5,7 @@ use Rattle.std.proofs.lemmas.List.Folds.{list_all-append}
 use Rattle.std.proofs.lemmas.List.{length-append}
 use Rattle.hgs_bytes.specs.Bytes.{begins_with}
 use Rattle.hgs_files.specs.Tree.{same_path}
-use Rattle.hgs_reader.specs.View.{changelog_index}
+use Rattle.hgs_load.specs.View.{changelog_index}
 use Rattle.hgs_steps.specs.Steps.{CanBeAssembled}
 use Rattle.hgs_transaction.specs.declared.parts.Appending.{Appending}
 use Rattle.hgs_transaction.specs.declared.parts.Change.{Change}

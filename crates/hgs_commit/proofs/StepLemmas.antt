@@ -7,8 +7,8 @@ use Rattle.hgs_index.specs.Revision.{Parents}
 use Rattle.hgs_loading.proofs.FoundLemmas.{either}
 use Rattle.hgs_loading.specs.Found.{and_then}
 use Rattle.hgs_model.specs.declared.command.NewChange.{NewChange}
-use Rattle.hgs_reader.specs.Answer.{is_of_outside}
-use Rattle.hgs_reader.specs.declared.answer.ReadAnswer.{ReadAnswer}
+use Rattle.hgs_load.specs.Answer.{is_of_outside}
+use Rattle.hgs_load.specs.declared.answer.ReadAnswer.{ReadAnswer}
 use Rattle.hgs_steps.specs.Fault.{is_memory}
 use Rattle.hgs_steps.specs.Parents.{named_all, parents_answer}
 use Rattle.hgs_steps.specs.declared.fault.PlanFault.{PlanFault}

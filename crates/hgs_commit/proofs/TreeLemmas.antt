@@ -5,7 +5,7 @@ use Rattle.hgs_loading.specs.Found.{and_then}
 use Rattle.hgs_model.specs.declared.files.NewFile.{NewFile}
 use Rattle.hgs_path.specs.Fncache.{with_both}
 use Rattle.hgs_path.specs.declared.name.Ext.{Ext}
-use Rattle.hgs_reader.specs.declared.answer.ReadAnswer.{ReadAnswer}
+use Rattle.hgs_load.specs.declared.answer.ReadAnswer.{ReadAnswer}
 use Rattle.hgs_commit.specs.Files.{OfFile, file_in, new_path}
 use Rattle.hgs_commit.specs.Obstacles.{ClashBehind, Met, Obstacle, noted, noted_one, noting, with_all}
 use Rattle.hgs_commit.specs.Tree.{ClashIn, OfFiles, OfTree, adding, files_in, new_lines, new_paths, passed_at, rest_at, row_at, with_file, with_files, with_first}

@@ -23,8 +23,8 @@ use Rattle.hgs_model.specs.declared.files.NewFile.{NewFile}
 use Rattle.hgs_path.specs.Fncache.{listing}
 use Rattle.hgs_path.specs.declared.name.Ext.{Ext}
 use Rattle.hgs_reader.specs.Contents.{manifest_data, manifest_index, most_files, rows_answer}
-use Rattle.hgs_reader.specs.View.{changelog_data}
-use Rattle.hgs_reader.specs.declared.answer.ReadAnswer.{ReadAnswer}
+use Rattle.hgs_load.specs.View.{changelog_data}
+use Rattle.hgs_load.specs.declared.answer.ReadAnswer.{ReadAnswer}
 use Rattle.hgs_revlog.specs.Log.{place_of}
 use Rattle.hgs_steps.specs.declared.loaded.Loaded.{Loaded}
 use Rattle.hgs_commit.specs.Commit.{ClashOn, OfTrees, grown_in, manifests_of, parent_files, trees_in}

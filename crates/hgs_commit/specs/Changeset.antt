@@ -5,9 +5,9 @@ use Rattle.hgs_index.specs.ChangeText.{Change, change_text}
 use Rattle.hgs_index.specs.Manifest.{Row, manifest_text}
 use Rattle.hgs_index.specs.Revision.{Parents}
 use Rattle.hgs_model.specs.declared.command.NewChange.{NewChange}
-use Rattle.hgs_reader.specs.declared.answer.ReadAnswer.{ReadAnswer}
+use Rattle.hgs_load.specs.declared.answer.ReadAnswer.{ReadAnswer}
 use Rattle.hgs_reader.specs.Contents.{manifest_index, manifest_data}
-use Rattle.hgs_reader.specs.View.{changelog_index, changelog_data}
+use Rattle.hgs_load.specs.View.{changelog_index, changelog_data}
 use Rattle.hgs_revlog.specs.Log.{Log}
 use Rattle.hgs_commit.specs.Obstacles.{Obstacle}
 use Rattle.hgs_commit.specs.Texts.{OfLog, OfText, new_text_in}

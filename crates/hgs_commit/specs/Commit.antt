@@ -19,11 +19,11 @@ use Rattle.hgs_model.specs.declared.command.Refusal.TheVariants.{NothingChanged}
 use Rattle.hgs_model.specs.declared.phase.Phase.{Phase}
 use Rattle.hgs_model.specs.declared.phase.Phase.TheVariants.{Public}
 use Rattle.hgs_path.specs.Fncache.{listing}
-use Rattle.hgs_reader.specs.Answer.{is_of_outside}
+use Rattle.hgs_load.specs.Answer.{is_of_outside}
 use Rattle.hgs_reader.specs.Contents.{manifest_data}
-use Rattle.hgs_reader.specs.Marks.{most_bookmarks}
-use Rattle.hgs_reader.specs.View.{changelog_data}
-use Rattle.hgs_reader.specs.declared.answer.ReadAnswer.{ReadAnswer}
+use Rattle.hgs_load.specs.Marks.{most_bookmarks}
+use Rattle.hgs_load.specs.View.{changelog_data}
+use Rattle.hgs_load.specs.declared.answer.ReadAnswer.{ReadAnswer}
 use Rattle.hgs_revlog.specs.Load.{entry_behind}
 use Rattle.hgs_revlog.specs.declared.fault.RevFault.{RevFault}
 use Rattle.hgs_steps.specs.Fault.{is_memory}

@@ -1,7 +1,7 @@
 -- Why no commit is planned.
 use Rattle.std.specs.Prelude.{◌≡◌, ℕ, Result, Err}
 use Rattle.hgs_files.specs.Reads.{Rose}
-use Rattle.hgs_reader.specs.declared.answer.ReadAnswer.TheVariants.{Fault}
+use Rattle.hgs_load.specs.declared.answer.ReadAnswer.TheVariants.{Fault}
 use Rattle.hgs_commit.specs.declared.fault.CommitFault.{CommitFault}
 use Rattle.hgs_commit.specs.declared.fault.CommitFault.TheVariants.{Unread}
 

@@ -16,8 +16,8 @@ use Rattle.hgs_model.specs.declared.files.NewFile.{NewFile}
 use Rattle.hgs_path.specs.declared.name.Ext.{Ext}
 use Rattle.hgs_path.specs.declared.name.Ext.TheVariants.{I, D}
 use Rattle.hgs_path.specs.StoreName.{store_name}
-use Rattle.hgs_reader.specs.declared.answer.ReadAnswer.{ReadAnswer}
-use Rattle.hgs_reader.specs.View.{revlog_refusal}
+use Rattle.hgs_load.specs.declared.answer.ReadAnswer.{ReadAnswer}
+use Rattle.hgs_load.specs.View.{revlog_refusal}
 use Rattle.hgs_revlog.specs.declared.fault.RevFault.TheVariants as faults
 use Rattle.hgs_revlog.specs.Loaded.{parents_in}
 use Rattle.hgs_revlog.specs.Log.{Log, nodes_of, place_of}

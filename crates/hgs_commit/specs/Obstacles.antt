@@ -5,7 +5,7 @@ use Rattle.hgs_index.specs.declared.kinds.Which.{Which}
 use Rattle.hgs_model.specs.History.{first_of}
 use Rattle.hgs_path.specs.Fncache.{IsClash, with_both}
 use Rattle.hgs_path.specs.declared.name.Ext.{Ext}
-use Rattle.hgs_reader.specs.declared.answer.ReadAnswer.{ReadAnswer}
+use Rattle.hgs_load.specs.declared.answer.ReadAnswer.{ReadAnswer}
 use Rattle.hgs_commit.specs.declared.hindrance.Collided.{Collided}
 use Rattle.hgs_commit.specs.declared.hindrance.Hindrances.{Hindrances}
 

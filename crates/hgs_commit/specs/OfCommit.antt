@@ -1,7 +1,7 @@
 -- The shape of a commit's parts.
 use Rattle.std.specs.Prelude.{◌≡◌, ◌*◌, ◌≤◌, List, [], ◌∷◌, ◌++◌, true, length, Option, Some, None, IfSome}
 use Rattle.std.specs.List.{list_all}
-use Rattle.hgs_reader.specs.View.{changelog_index}
+use Rattle.hgs_load.specs.View.{changelog_index}
 use Rattle.hgs_revlog.specs.Log.{Log}
 use Rattle.hgs_transaction.specs.declared.parts.Change.{Change}
 use Rattle.hgs_transaction.specs.declared.parts.Change.TheVariants.{Append, Replace}

@@ -2,7 +2,7 @@
 use Rattle.std.specs.Prelude.{◌≡◌, ◌*◌, ℕ, List, true, false, is_some, length, Option, Some, None, IsOk}
 use Rattle.hgs_revlog.specs.Load.{entry_behind}
 use Rattle.hgs_revlog.specs.Log.{Log}
-use Rattle.hgs_reader.specs.View.{changelog_index}
+use Rattle.hgs_load.specs.View.{changelog_index}
 use Rattle.hgs_commit.specs.declared.appended.Growth.{Growth}
 use Rattle.hgs_commit.specs.declared.new_text.NewText.{NewText}
 use Rattle.hgs_commit.specs.declared.hindrance.Hindrances.{Hindrances}

@@ -8,9 +8,9 @@ use Rattle.hgs_index.specs.Node.{null_node}
 use Rattle.hgs_index.specs.Revision.{Revision}
 use Rattle.hgs_loading.specs.Found.{and_then}
 use Rattle.hgs_loading.specs.Logs.{chunk_of_rev}
-use Rattle.hgs_reader.specs.declared.answer.ReadAnswer.{ReadAnswer}
+use Rattle.hgs_load.specs.declared.answer.ReadAnswer.{ReadAnswer}
 use Rattle.hgs_reader.specs.declared.find.RevlogPaths.{RevlogPaths}
-use Rattle.hgs_reader.specs.View.{revlog_refusal}
+use Rattle.hgs_load.specs.View.{revlog_refusal}
 use Rattle.hgs_revlog.specs.Add.{added, next_entry}
 use Rattle.hgs_revlog.specs.declared.fault.RevFault.{RevFault}
 use Rattle.hgs_revlog.specs.Log.{Log, place_of, stored_sum}

@@ -9,7 +9,7 @@ use Rattle.hgs_model.specs.declared.files.NewFile.{NewFile}
 use Rattle.hgs_path.specs.declared.name.Ext.{Ext}
 use Rattle.hgs_path.specs.declared.name.Ext.TheVariants.{I, D}
 use Rattle.hgs_path.specs.StoreName.{listed_name}
-use Rattle.hgs_reader.specs.declared.answer.ReadAnswer.{ReadAnswer}
+use Rattle.hgs_load.specs.declared.answer.ReadAnswer.{ReadAnswer}
 use Rattle.hgs_transaction.specs.declared.parts.Change.{Change}
 use Rattle.hgs_commit.specs.Files.{OfFile, file_in, new_path}
 use Rattle.hgs_commit.specs.Obstacles.{ClashBehind, Met, Obstacle, noted}

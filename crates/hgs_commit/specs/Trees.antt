@@ -8,7 +8,7 @@ use Rattle.hgs_manifest.specs.Held.{found_in}
 use Rattle.hgs_model.specs.History.{in_order}
 use Rattle.hgs_model.specs.declared.files.NewFile.{NewFile}
 use Rattle.hgs_path.specs.declared.name.Ext.{Ext}
-use Rattle.hgs_reader.specs.declared.answer.ReadAnswer.{ReadAnswer}
+use Rattle.hgs_load.specs.declared.answer.ReadAnswer.{ReadAnswer}
 use Rattle.hgs_transaction.specs.declared.parts.Change.{Change}
 use Rattle.hgs_commit.specs.Files.{OfFile, file_in}
 use Rattle.hgs_commit.specs.Texts.{changes_of}

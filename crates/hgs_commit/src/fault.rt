@@ -1,5 +1,5 @@
 //! Why no commit is planned.
-use hgs_reader::answer::ReadAnswer;
+use hgs_load::answer::ReadAnswer;
 use hgs_steps::fault::PlanFault;
 use std::alloc::{AllocError, AllocFailed};
 

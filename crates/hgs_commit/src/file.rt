@@ -2,14 +2,14 @@
 ghost use Rattle.std.specs.Prelude.{◌≡◌, ◌<◌, ◌^◌, ◌∷◌, ◌++◌, [], true, length, is_ok, IfOk, IfSome, OnOk, ◌≤◌, false, Ok};
 ghost use Rattle.hgs_index.specs.Manifest.{Row};
 ghost use Rattle.hgs_manifest.specs.Held.{with_last};
-ghost use Rattle.hgs_reader.specs.Answer.{HasFaultCause};
+ghost use Rattle.hgs_load.specs.Answer.{HasFaultCause};
 ghost use Rattle.hgs_revlog.specs.Loaded.{AreEntries, parents_in};
 ghost use Rattle.std.specs.Option.{option_map};
 ghost use Rattle.hgs_bytes.specs.Answer.{Gives};
 ghost use Rattle.hgs_index.specs.Revision.{ParentsBefore};
 ghost use Rattle.hgs_loading.specs.Found.{Finds, and_then};
 ghost use Rattle.hgs_model.specs.History.{first_of};
-ghost use Rattle.hgs_reader.specs.Answer.{is_of_outside, NeverFaults};
+ghost use Rattle.hgs_load.specs.Answer.{is_of_outside, NeverFaults};
 ghost use Rattle.hgs_path.specs.Fncache.{listing, IsClash};
 ghost use Rattle.hgs_commit.specs.Files.{can_follow, changed_in, file_in, file_on, kept_file, new_path, node_in, parents_by, place_in, standing_at, view_file, view_filelog};
 ghost use Rattle.hgs_commit.specs.NewTree.{tree_of};
@@ -32,11 +32,11 @@ use hgs_files::files::Reads;
 use hgs_files::path::StorePath;
 use hgs_index::kinds::Flag;
 use hgs_index::node::Node;
+use hgs_load::answer::ReadAnswer;
 use hgs_loading::logs::test_data;
 use hgs_loading::whole::size_of;
 use hgs_model::files::NewFile;
 use hgs_path::fncache::Fncache;
-use hgs_reader::answer::ReadAnswer;
 use std::alloc::{AllocError, Global};
 
 // Notes a file with bytes that stands where a new filelog would be.

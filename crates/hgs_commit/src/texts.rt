@@ -1,7 +1,7 @@
 //! What the text of a new revision becomes, with what is appended of it.
 ghost use Rattle.std.specs.Prelude.{◌≡◌, ◌<◌, ◌^◌, true, false, is_some, length, IfOk, IfSome};
 ghost use Rattle.hgs_loading.specs.Found.{Finds};
-ghost use Rattle.hgs_reader.specs.Answer.{HasFaultCause};
+ghost use Rattle.hgs_load.specs.Answer.{HasFaultCause};
 ghost use Rattle.hgs_revlog.specs.Loaded.{AreEntries};
 ghost use Rattle.hgs_commit.specs.Appended.{is_beside_path};
 ghost use Rattle.hgs_commit.specs.Hindered.{is_met};
@@ -16,7 +16,7 @@ use crate::growth::Became;
 use crate::hindrance::Hindrances;
 use crate::new_text::NewText;
 use hgs_files::files::Reads;
-use hgs_reader::answer::ReadAnswer;
+use hgs_load::answer::ReadAnswer;
 use hgs_reader::find::RevlogPaths;
 use hgs_revlog::revlog::Revlog;
 use std::alloc::Global;

@@ -6,12 +6,12 @@ use Rattle.std.specs.Prelude.{Some}
 use Rattle.hgs_files.specs.declared.op.Op.{Op}
 use Rattle.hgs_index.specs.Manifest.{Row}
 use Rattle.hgs_model.specs.Repo.{Changeset, TreeFile}
-use Rattle.hgs_reader.specs.declared.answer.ReadAnswer.{ReadAnswer}
-use Rattle.hgs_reader.specs.declared.answer.ReadAnswer.TheVariants.{UnknownPath}
-use Rattle.hgs_reader.specs.Asks.{AddsAnswer, AddsGiven, Asks}
+use Rattle.hgs_load.specs.declared.answer.ReadAnswer.{ReadAnswer}
+use Rattle.hgs_load.specs.declared.answer.ReadAnswer.TheVariants.{UnknownPath}
+use Rattle.hgs_load.specs.Asks.{AddsAnswer, AddsGiven, Asks}
 use Rattle.hgs_reader.specs.Contents.{cat_asks, files_asks, files_text}
 use Rattle.hgs_reader.specs.Line.{line_asks, line_text}
-use Rattle.hgs_reader.specs.View.{View}
+use Rattle.hgs_load.specs.View.{View}
 use Rattle.hgs_views.specs.Answered.{IsAnswered, IsFileAnswered, OnlyAnswers}
 use Rattle.hgs_views.specs.Course.{Course}
 use Rattle.hgs_headline.specs.AddsCommitted.{Adds, AddsCommitted, IsRowOf}

@@ -10,12 +10,12 @@ use Rattle.hgs_index.specs.Manifest.{Row}
 use Rattle.hgs_model.specs.Held.{IsPlacedIn}
 use Rattle.hgs_model.specs.History.{changeset_nodes, history}
 use Rattle.hgs_model.specs.Repo.{Changeset, TreeFile, tree_paths}
-use Rattle.hgs_reader.specs.declared.answer.ReadAnswer.{ReadAnswer}
-use Rattle.hgs_reader.specs.declared.answer.ReadAnswer.TheVariants.{UnknownPath}
-use Rattle.hgs_reader.specs.Asks.{AddsAnswer, AddsGiven, Asks}
+use Rattle.hgs_load.specs.declared.answer.ReadAnswer.{ReadAnswer}
+use Rattle.hgs_load.specs.declared.answer.ReadAnswer.TheVariants.{UnknownPath}
+use Rattle.hgs_load.specs.Asks.{AddsAnswer, AddsGiven, Asks}
 use Rattle.hgs_reader.specs.Contents.{cat_asks, files_asks, files_text}
 use Rattle.hgs_reader.specs.Line.{line_asks, line_text}
-use Rattle.hgs_reader.specs.View.{View}
+use Rattle.hgs_load.specs.View.{View}
 use Rattle.hgs_stands.specs.Committed.{Tells}
 
 -- A call that was answered between these two lists adds this text or is refused so, unless it met a fault of the files or

@@ -3,7 +3,8 @@ ghost use Rattle.std.specs.Prelude.{◌≡◌, ◌++◌, IfOk, codes, true};
 ghost use Rattle.hgs_files.specs.Path.{is_store_path};
 ghost use Rattle.hgs_journal.specs.Names.{backup_name, new_name, place};
 
-use hgs_files::path::{NameFault, StorePath, is_path};
+use hgs_files::path;
+use hgs_files::path::{StorePath, is_path};
 use std::alloc::{AllocError, Global};
 
 /// The bytes of a name's path: the name itself where it is plain, else the name in the store.
@@ -48,9 +49,5 @@ pub fn path_of(alloc: Global, plain: bool, name: &[u8]) -> Result<StorePath, All
     requires { is_store_path (place plain name.now) ≡ true }
     ensures { IfOk result (λ path. path ≡ place plain name.now) }
 {
-    match StorePath::new(alloc, &place(alloc, plain, name)?) {
-        Ok(path) => Ok(path),
-        Err(NameFault::Memory) => Err(AllocError),
-        Err(NameFault::Shape) => unreachable!(),
-    }
+    path::path_of(alloc, &place(alloc, plain, name)?)
 }

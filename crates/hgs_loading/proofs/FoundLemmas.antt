@@ -6,9 +6,9 @@ use Rattle.hgs_bytes.specs.Answer.{Gives}
 use Rattle.hgs_files.specs.declared.op.Op.{Op}
 use Rattle.hgs_files.specs.Reads.{Grows}
 use Rattle.hgs_files.specs.Tree.{Tree, after_all}
-use Rattle.hgs_reader.specs.declared.answer.ReadAnswer.{ReadAnswer}
-use Rattle.hgs_reader.specs.Answer.{is_of_outside}
-use Rattle.hgs_reader.specs.Asks.{IsPart, part_of}
+use Rattle.hgs_load.specs.declared.answer.ReadAnswer.{ReadAnswer}
+use Rattle.hgs_load.specs.Answer.{is_of_outside}
+use Rattle.hgs_load.specs.Asks.{IsPart, part_of}
 use Rattle.hgs_loading.specs.Found.{Finds}
 
 pub either : (b : Bool) (P Q : Type 0) → (P → Q) → MatchBool b ⊤ P → MatchBool b ⊤ Q

@@ -5,9 +5,9 @@ use Rattle.std.proofs.Math.Seq.{take-add}
 use Rattle.std.proofs.lemmas.List.{take_all, length-take, length-drop}
 use Rattle.hgs_files.specs.declared.op.Op.{Op}
 use Rattle.hgs_files.specs.Tree.{Tree, after_all, bytes_at}
-use Rattle.hgs_reader.specs.declared.answer.ReadAnswer.{ReadAnswer}
-use Rattle.hgs_reader.specs.Asks.{IsPart, part_of}
-use Rattle.hgs_reader.specs.View.{piece_length}
+use Rattle.hgs_load.specs.declared.answer.ReadAnswer.{ReadAnswer}
+use Rattle.hgs_load.specs.Asks.{IsPart, part_of}
+use Rattle.hgs_load.specs.View.{piece_length}
 use Rattle.hgs_loading.specs.Logs.{most_index, index_in}
 use Rattle.hgs_loading.proofs.FoundLemmas.{told-read}
 use Rattle.hgs_loading.proofs.PartLemmas.{part-bytes}

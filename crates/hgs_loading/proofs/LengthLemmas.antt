@@ -9,7 +9,7 @@ use Rattle.hgs_revlog.specs.declared.fault.RevFault.TheVariants.{Tail}
 use Rattle.hgs_revlog.specs.declared.fault.Tail.TheVariants.{Refuse}
 use Rattle.hgs_revlog.specs.Load.{after, entry_behind, load_from, loaded}
 use Rattle.hgs_revlog.specs.Log.{Log, with_entry}
-use Rattle.hgs_reader.specs.View.{log_answer}
+use Rattle.hgs_load.specs.View.{log_answer}
 use Rattle.hgs_loading.specs.Logs.{most_index, index_in, log_in}
 
 ok_is : (x y : Log) → (let a : Result Log RevFault = Ok x in a) ≡ Ok y → x ≡ y

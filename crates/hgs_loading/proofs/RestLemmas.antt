@@ -10,9 +10,9 @@ use Rattle.hgs_index.specs.declared.entry.Entry.{Entry}
 use Rattle.hgs_revlog.specs.Log.{Log}
 use Rattle.hgs_index.specs.declared.kinds.Span.{Span}
 use Rattle.hgs_revlog.specs.Text.{span_of, text_of}
-use Rattle.hgs_reader.specs.declared.answer.ReadAnswer.{ReadAnswer}
-use Rattle.hgs_reader.specs.Answer.{is_of_outside}
-use Rattle.hgs_reader.specs.Asks.{Asks, answer, read, at_rest, part_of, MayAnswer, MayAnswerWhereTold, Answers}
+use Rattle.hgs_load.specs.declared.answer.ReadAnswer.{ReadAnswer}
+use Rattle.hgs_load.specs.Answer.{is_of_outside}
+use Rattle.hgs_load.specs.Asks.{Asks, answer, read, at_rest, part_of, MayAnswer, MayAnswerWhereTold, Answers}
 use Rattle.hgs_reader.specs.Find.{text_answer, text_at_asks}
 use Rattle.hgs_loading.specs.Found.{Finds}
 use Rattle.hgs_reader.specs.Line.{chunk_asks}

@@ -4,11 +4,11 @@ use Rattle.std.specs.Option.{option_map}
 use Rattle.hgs_bytes.specs.Answer.{Gives}
 use Rattle.hgs_files.specs.declared.op.Op.{Op}
 use Rattle.hgs_files.specs.Tree.{Tree, after_all}
-use Rattle.hgs_reader.specs.declared.answer.ReadAnswer.{ReadAnswer}
-use Rattle.hgs_reader.specs.Answer.{is_of_outside}
-use Rattle.hgs_reader.specs.Open.{most_requires, requires_path}
-use Rattle.hgs_reader.specs.Requirements.{requires_answer}
-use Rattle.hgs_reader.specs.Whole.{within}
+use Rattle.hgs_load.specs.declared.answer.ReadAnswer.{ReadAnswer}
+use Rattle.hgs_load.specs.Answer.{is_of_outside}
+use Rattle.hgs_load.specs.Open.{most_requires, requires_path}
+use Rattle.hgs_load.specs.Requirements.{requires_answer}
+use Rattle.hgs_load.specs.Whole.{within}
 
 -- Where nobody else writes and the list of operations is told, a call answered what this gives of the tree, or it met a fault of the files or found no memory. `view` is what contracts see of the value.
 abbrev pub Finds : {V B : Type 0} → (V → B) → Bool → Option (List Op) → Tree → (Tree → Result B ReadAnswer) → Result V ReadAnswer → Type 0

@@ -8,9 +8,9 @@ use Rattle.hgs_revlog.specs.Held.{chunk_in}
 use Rattle.hgs_revlog.specs.Load.{loaded}
 use Rattle.hgs_revlog.specs.Log.{Log, stored_sum}
 use Rattle.hgs_revlog.specs.Text.{text_of}
-use Rattle.hgs_reader.specs.declared.answer.ReadAnswer.{ReadAnswer}
+use Rattle.hgs_load.specs.declared.answer.ReadAnswer.{ReadAnswer}
 use Rattle.hgs_reader.specs.Find.{text_answer}
-use Rattle.hgs_reader.specs.View.{most_pieces, piece_length, revlog_refusal, log_answer}
+use Rattle.hgs_load.specs.View.{most_pieces, piece_length, revlog_refusal, log_answer}
 use Rattle.hgs_loading.specs.Found.{and_then}
 
 -- as much of an index is read; it holds more entries than a revlog may have

@@ -8,10 +8,10 @@ use Rattle.hgs_index.specs.Node.{null_node}
 use Rattle.hgs_index.specs.declared.entry.Entry.{Entry}
 use Rattle.hgs_revlog.specs.declared.fault.RevFault.TheVariants as faults
 use Rattle.hgs_revlog.specs.Log.{place_of}
-use Rattle.hgs_reader.specs.declared.answer.ReadAnswer.{ReadAnswer}
+use Rattle.hgs_load.specs.declared.answer.ReadAnswer.{ReadAnswer}
 use Rattle.hgs_reader.specs.Contents.{manifest_index, rows_answer}
 use Rattle.hgs_reader.specs.Line.{change_of_text}
-use Rattle.hgs_reader.specs.View.{changelog_index, revlog_refusal}
+use Rattle.hgs_load.specs.View.{changelog_index, revlog_refusal}
 use Rattle.hgs_loading.specs.declared.parent.ParentManifest.{ParentManifest}
 use Rattle.hgs_loading.specs.Found.{and_then}
 use Rattle.hgs_loading.specs.Logs.{text_in}

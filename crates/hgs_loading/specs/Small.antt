@@ -11,11 +11,11 @@ use Rattle.hgs_path.specs.declared.fncache.FncacheFault.TheVariants as fncache_f
 use Rattle.hgs_path.specs.declared.name.Ext.{Ext}
 use Rattle.hgs_phases.specs.declared.roots.Root.{Root}
 use Rattle.hgs_plan.specs.declared.damage.Part.TheVariants as parts
-use Rattle.hgs_reader.specs.declared.answer.ReadAnswer.{ReadAnswer}
-use Rattle.hgs_reader.specs.declared.answer.ReadAnswer.TheVariants.{Memory}
-use Rattle.hgs_reader.specs.Marks.{bookmarks_path, dirstate_path, roots_path, mark_refusal, roots_answer}
-use Rattle.hgs_reader.specs.Open.{most_bookmarks_text, most_dirstate, most_roots}
-use Rattle.hgs_reader.specs.View.{damaged}
+use Rattle.hgs_load.specs.declared.answer.ReadAnswer.{ReadAnswer}
+use Rattle.hgs_load.specs.declared.answer.ReadAnswer.TheVariants.{Memory}
+use Rattle.hgs_load.specs.Marks.{bookmarks_path, dirstate_path, roots_path, mark_refusal, roots_answer}
+use Rattle.hgs_load.specs.Open.{most_bookmarks_text, most_dirstate, most_roots}
+use Rattle.hgs_load.specs.View.{damaged}
 use Rattle.hgs_loading.specs.declared.small.BookmarksFile.{BookmarksFile}
 use Rattle.hgs_loading.specs.declared.small.DirstateFile.{DirstateFile}
 use Rattle.hgs_loading.specs.declared.small.RootsFile.{RootsFile}

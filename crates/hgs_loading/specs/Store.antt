@@ -4,10 +4,10 @@ use Rattle.hgs_files.specs.Tree.{Tree}
 use Rattle.hgs_model.specs.declared.phase.Phase.{Phase}
 use Rattle.hgs_phases.specs.Phases.{phases_by}
 use Rattle.hgs_revlog.specs.Log.{Log}
-use Rattle.hgs_reader.specs.declared.answer.ReadAnswer.{ReadAnswer}
+use Rattle.hgs_load.specs.declared.answer.ReadAnswer.{ReadAnswer}
 use Rattle.hgs_reader.specs.Contents.{manifest_index, manifest_data}
-use Rattle.hgs_reader.specs.Marks.{Working, working_of, working_answer}
-use Rattle.hgs_reader.specs.View.{changelog_index, changelog_data}
+use Rattle.hgs_load.specs.Marks.{Working, working_of, working_answer}
+use Rattle.hgs_load.specs.View.{changelog_index, changelog_data}
 use Rattle.hgs_loading.specs.declared.store.LoadedStore.{LoadedStore}
 use Rattle.hgs_loading.specs.declared.store.Logs.{Logs}
 use Rattle.hgs_loading.specs.Found.{and_then}

@@ -4,25 +4,24 @@ ghost use Rattle.hgs_bytes.specs.Answer.{Gives};
 ghost use Rattle.hgs_files.specs.Reads.{Grows};
 ghost use Rattle.hgs_marks.specs.Held.{view_dirstate};
 ghost use Rattle.hgs_path.specs.Fncache.{listing};
-ghost use Rattle.hgs_reader.specs.Answer.{is_of_outside, is_fault, IsRefusal, HasFaultCause, NeverFaults};
-ghost use Rattle.hgs_reader.specs.Marks.{bookmarks_path, dirstate_path, roots_path, roots_answer};
+ghost use Rattle.hgs_load.specs.Answer.{is_of_outside, is_fault, IsRefusal, HasFaultCause, NeverFaults};
+ghost use Rattle.hgs_load.specs.Marks.{bookmarks_path, dirstate_path, roots_path, roots_answer};
 ghost use Rattle.hgs_loading.specs.Found.{Finds};
 ghost use Rattle.hgs_loading.specs.Small.{fncache_path, marks_said, dirstate_said, fncache_refusal, fncache_said, bookmarks_in, dirstate_in, roots_in, fncache_in, small_in, view_bookmarks, view_of_dirstate, view_roots, view_fncache, view_small};
 
 use crate::whole::read_whole;
 use hgs_bytes::bytes::Bytes;
 use hgs_files::files::Reads;
-use hgs_files::path::StorePath;
+use hgs_files::path::{StorePath, path_of};
+use hgs_load::answer::ReadAnswer;
+use hgs_load::ask::bytes_of;
+use hgs_load::marks::{of_marks, phase_roots_of};
+use hgs_load::refusal::damage;
 use hgs_marks::bookmarks::Bookmarks;
 use hgs_marks::dirstate::Dirstate;
 use hgs_path::fncache::{Fncache, FncacheFault};
 use hgs_phases::roots::Roots;
 use hgs_plan::damage::Part;
-use hgs_reader::answer::ReadAnswer;
-use hgs_reader::ask::bytes_of;
-use hgs_reader::marks::{of_marks, phase_roots_of};
-use hgs_reader::paths::path_of;
-use hgs_reader::refusal::damage;
 use std::alloc::Global;
 
 /// The numbers of bytes above which a file is refused.

@@ -3,8 +3,8 @@ ghost use Rattle.std.specs.Prelude.{◌≡◌, ◌<◌, false, true, length, IfO
 ghost use Rattle.hgs_bytes.specs.Answer.{Gives};
 ghost use Rattle.hgs_files.specs.Reads.{Grows};
 ghost use Rattle.hgs_revlog.specs.Loaded.{AreEntries};
-ghost use Rattle.hgs_reader.specs.Answer.{is_of_outside, HasFaultCause, NeverFaults};
-ghost use Rattle.hgs_reader.specs.View.{changelog_index, changelog_data};
+ghost use Rattle.hgs_load.specs.Answer.{is_of_outside, HasFaultCause, NeverFaults};
+ghost use Rattle.hgs_load.specs.View.{changelog_index, changelog_data};
 ghost use Rattle.hgs_loading.specs.Found.{Finds};
 ghost use Rattle.hgs_loading.specs.Small.{view_small};
 ghost use Rattle.hgs_loading.specs.Store.{loaded_with, logs_in, loaded_in, view_logs, view_store};
@@ -12,12 +12,12 @@ ghost use Rattle.hgs_loading.specs.Store.{loaded_with, logs_in, loaded_in, view_
 use crate::logs::load_whole;
 use crate::small::{SmallFiles, read_small};
 use hgs_files::files::Reads;
+use hgs_files::path::path_of;
+use hgs_load::answer::ReadAnswer;
+use hgs_load::marks::{WorkingNodes, WorkingParents, working_parents_of};
 use hgs_phases::phases::Phases;
-use hgs_reader::answer::ReadAnswer;
 use hgs_reader::contents::manifest_paths;
 use hgs_reader::find::RevlogPaths;
-use hgs_reader::marks::{WorkingNodes, WorkingParents, working_parents_of};
-use hgs_reader::paths::path_of;
 use hgs_revlog::revlog::Revlog;
 use std::alloc::{AllocError, Global};
 

@@ -3,14 +3,14 @@ ghost use Rattle.std.specs.Prelude.{◌≡◌, ◌<◌, ◌≤◌, true, length,
 ghost use Rattle.hgs_files.specs.Reads.{Grows};
 ghost use Rattle.hgs_revlog.specs.Load.{most_text};
 ghost use Rattle.hgs_revlog.specs.Loaded.{HaveSmallTexts};
-ghost use Rattle.hgs_reader.specs.Answer.{HasFaultCause};
+ghost use Rattle.hgs_load.specs.Answer.{HasFaultCause};
 ghost use Rattle.hgs_loading.specs.Found.{Finds};
 ghost use Rattle.hgs_loading.specs.Logs.{chunk_of_rev, text_in};
 
 use hgs_bytes::bytes::Bytes;
 use hgs_files::files::Reads;
-use hgs_reader::answer::ReadAnswer;
-use hgs_reader::ask::read_part;
+use hgs_load::answer::ReadAnswer;
+use hgs_load::ask::read_part;
 use hgs_reader::find;
 use hgs_reader::find::{RevlogPaths, StoredText};
 use hgs_revlog::revlog::Revlog;

@@ -2,17 +2,16 @@
 ghost use Rattle.std.specs.Prelude.{◌≡◌, ◌<◌, ◌^◌, true};
 ghost use Rattle.std.specs.Option.{option_map};
 ghost use Rattle.hgs_files.specs.Reads.{Grows};
-ghost use Rattle.hgs_reader.specs.Answer.{HasFaultCause};
+ghost use Rattle.hgs_load.specs.Answer.{HasFaultCause};
 ghost use Rattle.hgs_loading.specs.Found.{Finds, required_in, size_in, whole_in};
 
 use hgs_bytes::bytes::Bytes;
 use hgs_files::files::Reads;
-use hgs_files::path::StorePath;
+use hgs_files::path::{StorePath, path_of};
 use hgs_index::kinds::Which;
-use hgs_reader::answer::{ReadAnswer, of_files};
-use hgs_reader::ask::{bytes_of, read_part};
-use hgs_reader::paths::path_of;
-use hgs_reader::requirements::test_requirements;
+use hgs_load::answer::{ReadAnswer, of_files};
+use hgs_load::ask::{bytes_of, read_part};
+use hgs_load::requirements::test_requirements;
 use std::alloc::Global;
 
 /// The number of bytes above which `requires` is refused.

@@ -9,7 +9,8 @@ use crate::parts::{ends, last_part};
 use crate::spell::{Form, is_dot_or_space, is_escaped, spelled_name};
 use hex::encode_to_slice;
 use hgs_bytes::parts::{front, split_at_byte};
-use hgs_files::path::{NameFault, StorePath};
+use hgs_files::path;
+use hgs_files::path::StorePath;
 use sha1::Sha1;
 use std::alloc::{AllocError, Global};
 
@@ -181,11 +182,7 @@ fn path_of(alloc: Global, name: &[u8], ext: Ext) -> Result<StorePath, AllocError
 {
     let mut out = Vec::from_slice(alloc, b"store/")?;
     out.extend_from_slice(&encoded_name(alloc, name, ext)?)?;
-    match StorePath::new(alloc, &out) {
-        Ok(path) => Ok(path),
-        Err(NameFault::Memory) => Err(AllocError),
-        Err(NameFault::Shape) => unreachable!(),
-    }
+    path::path_of(alloc, &out)
 }
 
 /// The name of a filelog's file, behind `store/`: its plain form, and where that has more than 120 bytes its hashed form.

@@ -2,7 +2,7 @@
 use Rattle.std.proofs.Common.{◌≡◌, true, false, refl}
 use Rattle.std.specs.Prelude.{Result, Ok, Err}
 use Rattle.hgs_loading.specs.Found.{and_then}
-use Rattle.hgs_reader.specs.declared.answer.ReadAnswer.{ReadAnswer}
+use Rattle.hgs_load.specs.declared.answer.ReadAnswer.{ReadAnswer}
 use Rattle.hgs_planned.specs.Commits.{IsLimit}
 
 pub never : {A : Type 0} → true ≡ false → A

@@ -16,7 +16,7 @@ use Rattle.hgs_model.specs.declared.command.NewChange.{NewChange}
 use Rattle.hgs_model.specs.declared.command.Refusal.{Refusal}
 use Rattle.hgs_model.proofs.HistoryLemmas.{history-push, length-changelog}
 use Rattle.hgs_ops.specs.Unhindered.{IsReady}
-use Rattle.hgs_reader.specs.declared.answer.ReadAnswer.{ReadAnswer}
+use Rattle.hgs_load.specs.declared.answer.ReadAnswer.{ReadAnswer}
 use Rattle.hgs_revlog.specs.Add.{next_entry}
 use Rattle.hgs_revlog.specs.Load.{most_revisions}
 use Rattle.hgs_stands.specs.Places.{changelog_data, manifest_data}

@@ -17,7 +17,7 @@ use Rattle.hgs_manifest.specs.Held.{found_in}
 use Rattle.hgs_model.specs.History.{History, Placed, file_parents, file_parents_of, kept_of, node_at, placed_at, placed_file, row_of, text_at}
 use Rattle.hgs_model.proofs.CountLemmas.{IsSound}
 use Rattle.hgs_model.proofs.ListLemmas.{found-has}
-use Rattle.hgs_reader.specs.declared.answer.ReadAnswer.{ReadAnswer}
+use Rattle.hgs_load.specs.declared.answer.ReadAnswer.{ReadAnswer}
 use Rattle.hgs_revlog.specs.declared.fault.RevFault.{RevFault}
 use Rattle.hgs_revlog.specs.declared.fault.RevFault.TheVariants as faults
 use Rattle.hgs_revlog.specs.Held.{chunk_in}

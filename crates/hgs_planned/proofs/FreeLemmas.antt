@@ -31,8 +31,8 @@ use Rattle.hgs_path.specs.declared.name.Ext.{Ext}
 use Rattle.hgs_path.specs.declared.name.Ext.TheVariants.{I, D}
 use Rattle.hgs_path.specs.Fncache.{listing}
 use Rattle.hgs_path.specs.StoreName.{store_name}
-use Rattle.hgs_reader.specs.Marks.{most_bookmarks}
-use Rattle.hgs_reader.specs.declared.answer.ReadAnswer.{ReadAnswer}
+use Rattle.hgs_load.specs.Marks.{most_bookmarks}
+use Rattle.hgs_load.specs.declared.answer.ReadAnswer.{ReadAnswer}
 use Rattle.hgs_revlog.specs.Log.{Log}
 use Rattle.hgs_stands.specs.Stands.{Stands, mark_of}
 use Rattle.hgs_steps.specs.Planned.{IsLoadedOf, passes_limit}

@@ -21,7 +21,7 @@ use Rattle.hgs_path.specs.declared.name.Ext.{Ext}
 use Rattle.hgs_path.specs.declared.name.Ext.TheVariants.{I, D}
 use Rattle.hgs_path.specs.Fncache.{listing, lists}
 use Rattle.hgs_path.specs.StoreName.{store_name}
-use Rattle.hgs_reader.specs.declared.answer.ReadAnswer.{ReadAnswer}
+use Rattle.hgs_load.specs.declared.answer.ReadAnswer.{ReadAnswer}
 use Rattle.hgs_revlog.specs.Load.{most_data}
 use Rattle.hgs_revlog.specs.Log.{Log}
 use Rattle.hgs_stands.specs.Stands.{Stands}

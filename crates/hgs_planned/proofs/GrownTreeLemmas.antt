@@ -23,7 +23,7 @@ use Rattle.hgs_ops.proofs.FileGrowth.{head-others}
 use Rattle.hgs_ops.proofs.GrowLemmas.{drop-front}
 use Rattle.hgs_ops.proofs.Touch.{same-sym}
 use Rattle.hgs_path.specs.Fncache.{listing}
-use Rattle.hgs_reader.specs.declared.answer.ReadAnswer.{ReadAnswer}
+use Rattle.hgs_load.specs.declared.answer.ReadAnswer.{ReadAnswer}
 use Rattle.hgs_stands.specs.Stands.{Stands}
 use Rattle.hgs_steps.specs.Planned.{IsLoadedOf}
 use Rattle.hgs_steps.specs.declared.loaded.Loaded.{Loaded}

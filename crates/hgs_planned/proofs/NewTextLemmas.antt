@@ -23,7 +23,7 @@ use Rattle.hgs_model.specs.History.{node_at, text_at}
 use Rattle.hgs_model.proofs.ListLemmas.{and-left, and-right, some-same}
 use Rattle.hgs_model.proofs.ListedLemmas.{length-nodes}
 use Rattle.hgs_ops.specs.Unhindered.{AreNewRevisions}
-use Rattle.hgs_reader.specs.declared.answer.ReadAnswer.{ReadAnswer}
+use Rattle.hgs_load.specs.declared.answer.ReadAnswer.{ReadAnswer}
 use Rattle.hgs_revlog.specs.declared.add.Added.{Added}
 use Rattle.hgs_revlog.specs.declared.add.Added.TheVariants.{New, Old}
 use Rattle.hgs_revlog.specs.declared.fault.RevFault.{RevFault}

@@ -20,11 +20,11 @@ use Rattle.hgs_model.specs.Repo.{Changeset, Repo}
 use Rattle.hgs_model.proofs.CountLemmas.{number-below}
 use Rattle.hgs_model.proofs.ListedLemmas.{front-below, length-nodes, node_at-front, number-text, text_at-front}
 use Rattle.hgs_model.proofs.RowLemmas.{rows-good}
-use Rattle.hgs_reader.specs.declared.answer.ReadAnswer.{ReadAnswer}
-use Rattle.hgs_reader.specs.declared.answer.ReadAnswer.TheVariants.{Limit}
+use Rattle.hgs_load.specs.declared.answer.ReadAnswer.{ReadAnswer}
+use Rattle.hgs_load.specs.declared.answer.ReadAnswer.TheVariants.{Limit}
 use Rattle.hgs_reader.specs.Contents.{manifest_data, most_files, rows_answer}
 use Rattle.hgs_reader.specs.Line.{change_of_text}
-use Rattle.hgs_reader.specs.View.{changelog_data}
+use Rattle.hgs_load.specs.View.{changelog_data}
 use Rattle.hgs_revlog.specs.Log.{place_of}
 use Rattle.hgs_stands.specs.Stands.{Stands}
 use Rattle.hgs_steps.specs.declared.loaded.Loaded.{Loaded}

@@ -10,7 +10,7 @@ use Rattle.hgs_index.specs.Node.{null_node}
 use Rattle.hgs_index.specs.Revision.{Revision}
 use Rattle.hgs_loading.specs.Found.{and_then}
 use Rattle.hgs_loading.specs.Logs.{chunk_of_rev}
-use Rattle.hgs_reader.specs.declared.answer.ReadAnswer.{ReadAnswer}
+use Rattle.hgs_load.specs.declared.answer.ReadAnswer.{ReadAnswer}
 use Rattle.hgs_revlog.specs.Add.{added, next_entry}
 use Rattle.hgs_revlog.specs.Load.{after, entry_behind}
 use Rattle.hgs_revlog.specs.Log.{Log, place_of, with_entry}

@@ -36,7 +36,7 @@ use Rattle.hgs_commit.specs.Obstacles.{ClashBehind, Obstacle}
 use Rattle.hgs_commit.specs.Texts.{OfLog}
 use Rattle.hgs_commit.specs.Tree.{new_paths as new_among_files}
 use Rattle.hgs_commit.specs.Trees.{OfGrown}
-use Rattle.hgs_reader.specs.declared.answer.ReadAnswer.{ReadAnswer}
+use Rattle.hgs_load.specs.declared.answer.ReadAnswer.{ReadAnswer}
 use Rattle.hgs_planned.specs.Below.{Below}
 use Rattle.hgs_planned.specs.Growth.{IsGrownFileOf, IsWhole}
 use Rattle.hgs_planned.specs.Logs.{IsLogOf}

@@ -17,7 +17,7 @@ use Rattle.hgs_model.specs.declared.command.NewChange.{NewChange}
 use Rattle.hgs_model.specs.declared.phase.Phase.{Phase}
 use Rattle.hgs_model.specs.declared.phase.Phase.TheVariants.{Public, Draft, Secret}
 use Rattle.hgs_ops.specs.Replaced.{new_bookmarks, new_dirstate, new_roots, only_if, roots_change}
-use Rattle.hgs_reader.specs.Marks.{most_bookmarks}
+use Rattle.hgs_load.specs.Marks.{most_bookmarks}
 use Rattle.hgs_stands.specs.Stands.{Stands, mark_of}
 use Rattle.hgs_transaction.specs.declared.parts.Replacing.{Replacing}
 use Rattle.hgs_steps.specs.declared.fault.PlanFault.{PlanFault}

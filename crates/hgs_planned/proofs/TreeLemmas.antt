@@ -24,7 +24,7 @@ use Rattle.std.proofs.lemmas.List.{length-map}
 use Rattle.hgs_commit.specs.Changeset.{of_changelog, of_manifest}
 use Rattle.hgs_planned.specs.Logs.{IsLogOf}
 use Rattle.hgs_path.specs.Fncache.{listing}
-use Rattle.hgs_reader.specs.declared.answer.ReadAnswer.{ReadAnswer}
+use Rattle.hgs_load.specs.declared.answer.ReadAnswer.{ReadAnswer}
 use Rattle.hgs_stands.specs.Stands.{Stands}
 use Rattle.hgs_steps.specs.Planned.{IsLoadedOf}
 use Rattle.hgs_steps.specs.declared.loaded.Loaded.{Loaded}

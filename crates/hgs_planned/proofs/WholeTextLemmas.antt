@@ -16,7 +16,7 @@ use Rattle.hgs_model.proofs.CountLemmas.{length-placed}
 use Rattle.hgs_model.proofs.HeldLemmas.{count}
 use Rattle.hgs_model.proofs.ListedLemmas.{length-nodes}
 use Rattle.hgs_ops.specs.Unhindered.{AreNewRevisions}
-use Rattle.hgs_reader.specs.declared.answer.ReadAnswer.{ReadAnswer}
+use Rattle.hgs_load.specs.declared.answer.ReadAnswer.{ReadAnswer}
 use Rattle.hgs_revlog.specs.Log.{stored_sum}
 use Rattle.hgs_stands.specs.Stands.{Stands}
 use Rattle.hgs_steps.specs.declared.loaded.Loaded.{Loaded}

@@ -13,7 +13,7 @@ use Rattle.hgs_path.specs.declared.name.Ext.TheVariants.{D}
 use Rattle.hgs_path.specs.StoreName.{store_name}
 use Rattle.hgs_index.specs.declared.kinds.Which.{Which}
 use Rattle.hgs_reader.specs.Contents.{most_files}
-use Rattle.hgs_reader.specs.declared.answer.ReadAnswer.{ReadAnswer}
+use Rattle.hgs_load.specs.declared.answer.ReadAnswer.{ReadAnswer}
 use Rattle.hgs_revlog.specs.Held.{AreWithinLimits}
 use Rattle.hgs_steps.specs.Parents.{named_all, parents_answer}
 use Rattle.hgs_steps.specs.Planned.{IsStepOf}

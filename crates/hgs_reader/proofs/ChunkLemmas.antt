@@ -8,12 +8,12 @@ use Rattle.hgs_files.specs.Reads.{Grows}
 use Rattle.hgs_index.specs.declared.entry.Entry.{Entry}
 use Rattle.hgs_index.specs.declared.kinds.Span.{Span}
 use Rattle.hgs_revlog.specs.Text.{span_of}
-use Rattle.hgs_reader.specs.declared.answer.ReadAnswer.{ReadAnswer}
+use Rattle.hgs_load.specs.declared.answer.ReadAnswer.{ReadAnswer}
 use Rattle.hgs_bytes.specs.Answer.{Gives}
-use Rattle.hgs_reader.specs.Answer.{is_of_outside}
-use Rattle.hgs_reader.specs.Asks.{Asks, answer, MayAnswerWhereTold, Answers, IsPart}
+use Rattle.hgs_load.specs.Answer.{is_of_outside}
+use Rattle.hgs_load.specs.Asks.{Asks, answer, MayAnswerWhereTold, Answers, IsPart}
 use Rattle.hgs_reader.specs.Line.{chunk_asks}
-use Rattle.hgs_reader.proofs.AskLemmas.{continues-start, continues-read, continues-answer, either}
+use Rattle.hgs_load.proofs.AskLemmas.{continues-start, continues-read, continues-answer, either}
 
 some_is : {A : Type 0} (x y : A) → Some x ≡ Some y → x ≡ y
 some_is x y e = cc

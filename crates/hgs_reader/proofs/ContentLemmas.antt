@@ -7,8 +7,8 @@ use Rattle.hgs_files.specs.declared.op.Op.{Op}
 use Rattle.hgs_files.specs.Tree.{Tree}
 use Rattle.hgs_index.specs.Manifest.{Row, read_manifest}
 use Rattle.hgs_index.specs.Node.{null_node}
-use Rattle.hgs_reader.specs.declared.answer.ReadAnswer.{ReadAnswer}
-use Rattle.hgs_reader.specs.Asks.{Asks, answer, then_asks, Answers}
+use Rattle.hgs_load.specs.declared.answer.ReadAnswer.{ReadAnswer}
+use Rattle.hgs_load.specs.Asks.{Asks, answer, then_asks, Answers}
 use Rattle.hgs_reader.specs.Contents.{manifest_index, manifest_data, rows_answer, rows_asks, file_line, files_text}
 use Rattle.hgs_reader.specs.Find.{text_asks}
 

@@ -2,7 +2,6 @@
 use Rattle.std.proofs.Common.{◌≡◌, ℕ, zero, suc, ◌+◌, ◌-◌, ◌*◌, ◌/◌, ◌<◌, ◌≤◌, min, Bool, true, false, cond, ◌||◌, List, [], ◌∷◌, ◌++◌, take, drop, length, Option, Some, None, Result, Ok, Err, refl, sym, ◌∙◌, ap, arith}
 use Rattle.std.specs.Prelude.{◌&&◌, ◌==◌, not, nat_lt, nat_le, unwrap_or, slice_get}
 use Rattle.std.specs.Int.{from_be_bytes, w16}
-use Rattle.std.specs.Option.{option_map}
 use Rattle.std.proofs.lemmas.Bool.Decides.{nat_tests}
 use Rattle.std.proofs.lemmas.List.{drop-drop, drop-take, length-append, length-drop, length-take, take-append-drop}
 use Rattle.std.proofs.Math.Seq.{take-add}
@@ -26,13 +25,14 @@ use Rattle.hgs_revlog.specs.Text.{text_of}
 use Rattle.hgs_revlog.proofs.ReadLemmas.{with_text_ok}
 use Rattle.hgs_revlog.proofs.TailHeldLemmas.{front-until}
 use Rattle.hgs_revlog.proofs.TailLemmas.{refuse-until, until-refuse}
-use Rattle.hgs_reader.specs.declared.answer.ReadAnswer.{ReadAnswer}
-use Rattle.hgs_reader.specs.Asks.{Asks, answer, read, part_of, at_rest, then_asks}
+use Rattle.hgs_load.specs.declared.answer.ReadAnswer.{ReadAnswer}
+use Rattle.hgs_load.specs.Asks.{Asks, answer, part_of, at_rest}
 use Rattle.hgs_reader.specs.Find.{has_node, is_last_of, bytes_until, log_until, text_answer, text_at_asks, text_asks}
 use Rattle.hgs_reader.specs.Line.{chunk_asks}
-use Rattle.hgs_reader.specs.View.{piece_length, most_pieces, log_answer}
+use Rattle.hgs_load.specs.View.{piece_length, most_pieces, log_answer}
 use Rattle.hgs_reader.proofs.FindLemmas.{front_node, take_less}
-use Rattle.hgs_reader.proofs.OpenedLemmas.{rest_then}
+use Rattle.hgs_load.proofs.OpenedLemmas.{rest_then}
+use Rattle.hgs_load.proofs.PartLemmas.{part_is}
 
 -- ---- the entries before and behind one another
 
@@ -172,19 +172,6 @@ ending node (suc n) log out bytes h = by (ending node n) (entry_behind log.entri
             )
 
 -- ---- an index is read far enough
-
-take_none : (n : ℕ) → take n [] ≡ (let l : List ℕ = [] in l)
-take_none zero = refl
-take_none (suc n) = refl
-
-drop_none : (n : ℕ) → drop n [] ≡ (let l : List ℕ = [] in l)
-drop_none zero = refl
-drop_none (suc n) = refl
-
--- what a read gives of a file
-pub part_is : (file : Option (List ℕ)) (from most : ℕ) → unwrap_or (option_map (λ bytes. take most (drop from bytes)) file) [] ≡ take most (drop from (unwrap_or file []))
-part_is None from most = sym (ap (take most) (drop_none from) ∙ take_none most)
-part_is (Some bytes) from most = refl
 
 below_is : (a b : ℕ) → nat_lt a b ≡ true → a < b
 below_is a b h = grind (arith, nat_tests, h)

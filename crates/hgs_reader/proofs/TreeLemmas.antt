@@ -15,16 +15,16 @@ use Rattle.hgs_manifest.specs.Held.{found_in}
 use Rattle.hgs_path.specs.Check.{checked}
 use Rattle.hgs_path.specs.StoreName.{store_name}
 use Rattle.hgs_path.specs.declared.name.Ext.TheVariants.{I, D}
-use Rattle.hgs_reader.specs.declared.answer.ReadAnswer.{ReadAnswer}
-use Rattle.hgs_reader.specs.declared.answer.ReadAnswer.TheVariants.{Limit, UnknownPath}
-use Rattle.hgs_reader.specs.Asks.{Asks, answer, at_rest, then_asks}
+use Rattle.hgs_load.specs.declared.answer.ReadAnswer.{ReadAnswer}
+use Rattle.hgs_load.specs.declared.answer.ReadAnswer.TheVariants.{Limit, UnknownPath}
+use Rattle.hgs_load.specs.Asks.{Asks, answer, at_rest, then_asks}
 use Rattle.hgs_reader.specs.Contents.{manifest_index, manifest_data, most_files, most_file_text, rows_answer, rows_asks, tree_asks, files_text, files_asks, tracked_node, file_node, body_answer, body_asks, cat_asks}
 use Rattle.hgs_reader.specs.Find.{text_asks}
 use Rattle.hgs_reader.specs.Held.{HasText}
 use Rattle.hgs_reader.specs.Line.{change_asks}
-use Rattle.hgs_reader.specs.View.{View}
+use Rattle.hgs_load.specs.View.{View}
 use Rattle.hgs_reader.proofs.HeldLemmas.{held-text}
-use Rattle.hgs_reader.proofs.OpenedLemmas.{rest_then}
+use Rattle.hgs_load.proofs.OpenedLemmas.{rest_then}
 
 pub text-held : (t : Tree) (index chunks node text : List ℕ) → HasText t index chunks node text → at_rest t (text_asks index chunks node) ≡ Ok text
 text-held t index chunks node text h =

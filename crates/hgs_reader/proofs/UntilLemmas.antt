@@ -4,11 +4,11 @@ use Rattle.std.specs.Prelude.{unwrap_or}
 use Rattle.hgs_files.specs.declared.op.Op.{Op}
 use Rattle.hgs_files.specs.Tree.{Tree}
 use Rattle.hgs_files.specs.Reads.{Grows}
-use Rattle.hgs_reader.specs.declared.answer.ReadAnswer.{ReadAnswer}
-use Rattle.hgs_reader.specs.Asks.{Asks, answer, IsPart, Continues, MayAnswerWhereTold}
+use Rattle.hgs_load.specs.declared.answer.ReadAnswer.{ReadAnswer}
+use Rattle.hgs_load.specs.Asks.{Asks, answer, IsPart, Continues, MayAnswerWhereTold}
 use Rattle.hgs_reader.specs.Find.{is_last_of, bytes_until}
-use Rattle.hgs_reader.specs.View.{piece_length}
-use Rattle.hgs_reader.proofs.AskLemmas.{continues-read, continues-answer}
+use Rattle.hgs_load.specs.View.{piece_length}
+use Rattle.hgs_load.proofs.AskLemmas.{continues-read, continues-answer}
 
 -- what is asked once so much was read, the last piece being this one
 abbrev asks_behind : List ℕ → List ℕ → ℕ → List ℕ → List ℕ → Asks (Result (List ℕ) ReadAnswer)

@@ -16,12 +16,12 @@ use Rattle.hgs_path.specs.StoreName.{store_name}
 use Rattle.hgs_path.specs.declared.check.PathFault.{PathFault}
 use Rattle.hgs_path.specs.declared.name.Ext.TheVariants.{I, D}
 use Rattle.hgs_plan.specs.declared.damage.Part.TheVariants as parts
-use Rattle.hgs_reader.specs.declared.answer.ReadAnswer.{ReadAnswer}
-use Rattle.hgs_reader.specs.declared.answer.ReadAnswer.TheVariants.{Limit, UnknownPath, Memory}
-use Rattle.hgs_reader.specs.Asks.{Asks, answer, then_asks}
+use Rattle.hgs_load.specs.declared.answer.ReadAnswer.{ReadAnswer}
+use Rattle.hgs_load.specs.declared.answer.ReadAnswer.TheVariants.{Limit, UnknownPath, Memory}
+use Rattle.hgs_load.specs.Asks.{Asks, answer, then_asks}
 use Rattle.hgs_reader.specs.Find.{text_asks}
 use Rattle.hgs_reader.specs.Line.{change_asks}
-use Rattle.hgs_reader.specs.View.{View, damaged}
+use Rattle.hgs_load.specs.View.{View, damaged}
 
 abbrev pub manifest_index : List ℕ
 manifest_index = codes "store/00manifest.i"

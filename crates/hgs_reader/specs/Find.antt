@@ -1,18 +1,16 @@
 -- The text of a revision that is known by its node.
-use Rattle.std.specs.Prelude.{ℕ, zero, suc, ◌/◌, List, [], ◌++◌, length, take, drop, nat_lt, ◌≤◌, Bool, false, ◌||◌, Option, Some, None, Result, Ok, Err, slice_get, unwrap_or, if◌then◌else◌}
-use Rattle.std.specs.List.{AllByRecursion}
+use Rattle.std.specs.Prelude.{ℕ, zero, suc, ◌/◌, List, [], ◌++◌, length, take, drop, nat_lt, Bool, false, ◌||◌, Option, Some, None, Result, Ok, Err, slice_get, unwrap_or, if◌then◌else◌}
 use Rattle.hgs_bytes.specs.Bytes.{same}
-use Rattle.hgs_index.specs.declared.entry.Entry.{Entry}
 use Rattle.hgs_revlog.specs.declared.fault.RevFault.{RevFault}
 use Rattle.hgs_revlog.specs.declared.fault.RevFault.TheVariants.{Missing}
 use Rattle.hgs_revlog.specs.declared.fault.Tail.TheVariants.{Until}
-use Rattle.hgs_revlog.specs.Load.{most_text, loaded}
+use Rattle.hgs_revlog.specs.Load.{loaded}
 use Rattle.hgs_revlog.specs.Log.{Log, place_of}
 use Rattle.hgs_revlog.specs.Text.{text_of}
-use Rattle.hgs_reader.specs.declared.answer.ReadAnswer.{ReadAnswer}
-use Rattle.hgs_reader.specs.Asks.{Asks, answer, read, then_asks}
+use Rattle.hgs_load.specs.declared.answer.ReadAnswer.{ReadAnswer}
+use Rattle.hgs_load.specs.Asks.{Asks, answer, read, then_asks}
 use Rattle.hgs_reader.specs.Line.{chunk_asks}
-use Rattle.hgs_reader.specs.View.{piece_length, most_pieces, revlog_refusal, log_answer}
+use Rattle.hgs_load.specs.View.{piece_length, most_pieces, revlog_refusal, log_answer}
 
 -- whether one of so many entries has this node
 abbrev pub has_node : List ℕ → ℕ → List ℕ → Bool

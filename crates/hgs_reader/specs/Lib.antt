@@ -1,16 +1,7 @@
-pub mod Answer
-pub mod Asks
 pub mod Contents
 pub mod Find
 pub mod Heads
 pub mod Held
 pub mod Line
-pub mod Load
-pub mod Marks
 pub mod Names
-pub mod Open
-pub mod Refresh
-pub mod Requirements
 pub mod Shown
-pub mod View
-pub mod Whole

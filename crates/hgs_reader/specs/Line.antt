@@ -10,10 +10,10 @@ use Rattle.hgs_index.specs.Hex.{hex}
 use Rattle.hgs_plan.specs.declared.damage.Part.TheVariants as parts
 use Rattle.hgs_revlog.specs.declared.fault.RevFault.{RevFault}
 use Rattle.hgs_revlog.specs.Text.{text_of}
-use Rattle.hgs_reader.specs.declared.answer.ReadAnswer.{ReadAnswer}
-use Rattle.hgs_reader.specs.declared.answer.ReadAnswer.TheVariants.{Memory}
-use Rattle.hgs_reader.specs.Asks.{Asks, answer, read}
-use Rattle.hgs_reader.specs.View.{View, changelog_index, changelog_data, damaged, revlog_refusal}
+use Rattle.hgs_load.specs.declared.answer.ReadAnswer.{ReadAnswer}
+use Rattle.hgs_load.specs.declared.answer.ReadAnswer.TheVariants.{Memory}
+use Rattle.hgs_load.specs.Asks.{Asks, answer, read}
+use Rattle.hgs_load.specs.View.{View, changelog_index, changelog_data, damaged, revlog_refusal}
 
 -- a tab before the next field
 abbrev pub field : List ℕ → List ℕ

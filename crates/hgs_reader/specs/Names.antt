@@ -4,7 +4,7 @@ use Rattle.hgs_index.specs.declared.entry.Entry.{Entry}
 use Rattle.hgs_marks.specs.Bookmarks.{Mark, node_of}
 use Rattle.hgs_model.specs.Names.{named_by}
 use Rattle.hgs_revlog.specs.Log.{nodes_of, place_of}
-use Rattle.hgs_reader.specs.View.{View}
+use Rattle.hgs_load.specs.View.{View}
 
 abbrev pub place_of_some : List Entry → Option (List ℕ) → Option ℕ
 place_of_some entries None = None

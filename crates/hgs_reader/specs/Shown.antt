@@ -5,7 +5,7 @@ use Rattle.hgs_index.specs.declared.entry.Entry.{Entry}
 use Rattle.hgs_marks.specs.Bookmarks.{Mark}
 use Rattle.hgs_revlog.specs.Log.{place_of}
 use Rattle.hgs_reader.specs.Heads.{head_line}
-use Rattle.hgs_reader.specs.View.{View}
+use Rattle.hgs_load.specs.View.{View}
 
 -- the name, the revision and the node, with tabs between
 abbrev pub mark_line : Mark → ℕ → List ℕ

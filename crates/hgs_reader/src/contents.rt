@@ -1,29 +1,28 @@
 //! The files of a changeset, and the body of one.
 ghost use Rattle.std.specs.Prelude.{◌≡◌, ◌≤◌, ◌++◌, ◌∷◌, [], true, length, OnOk, OnErr, IfOk};
 ghost use Rattle.hgs_bytes.specs.Answer.{Gives};
-ghost use Rattle.hgs_bytes.specs.Bytes.{same, IsPrefixOf};
+ghost use Rattle.hgs_bytes.specs.Bytes.{IsPrefixOf};
 ghost use Rattle.hgs_files.specs.Reads.{Grows};
 ghost use Rattle.hgs_index.specs.Manifest.{read_manifest};
-ghost use Rattle.hgs_index.specs.Node.{null_node};
 ghost use Rattle.hgs_manifest.specs.Held.{view_row};
 ghost use Rattle.hgs_path.specs.StoreName.{store_name};
 ghost use Rattle.hgs_path.specs.declared.name.Ext.TheVariants.{I, D};
 ghost use Rattle.hgs_revlog.specs.Load.{most_text};
-ghost use Rattle.hgs_reader.specs.Answer.{is_of_outside, HasFaultCause, NeverFaults};
-ghost use Rattle.hgs_reader.specs.Asks.{answer, then_asks, Answers, AddsAnswer, AddsGiven};
+ghost use Rattle.hgs_load.specs.Answer.{is_of_outside, HasFaultCause, NeverFaults};
+ghost use Rattle.hgs_load.specs.Asks.{answer, then_asks, Answers, AddsAnswer, AddsGiven};
 ghost use Rattle.hgs_reader.specs.Contents.{manifest_index, manifest_data, rows_answer, rows_asks, flag_word, file_line, files_text, file_node, body_answer, body_asks};
 
-use crate::answer::ReadAnswer;
 use crate::find::{RevlogPaths, text_of_node};
-use crate::paths::path_of;
 use crate::refusal::of_manifest;
-use hgs_bytes::parts::{equal, past};
+use hgs_bytes::parts::past;
 use hgs_filelog::file_text::unpack;
 use hgs_files::files::Reads;
-use hgs_files::path::StorePath;
+use hgs_files::path::{StorePath, path_of};
 use hgs_index::kinds::{Flag, Which};
 use hgs_index::node::Node;
 use hgs_index::texts::hex_of;
+use hgs_load::answer::ReadAnswer;
+use hgs_load::marks::is_null;
 use hgs_manifest::manifest::Manifest;
 use hgs_manifest::place::Row;
 use hgs_path::check::check;
@@ -71,13 +70,6 @@ pub fn manifest_from(alloc: Global, index: &StorePath, text: &[u8]) -> Result<Ma
         return Err(ReadAnswer::Limit(Which::Tree));
     }
     Ok(manifest)
-}
-
-/// Whether this node stands for no revision.
-pub fn is_null(node: &Node) -> bool
-    ensures { result ≡ same node.now.0 null_node }
-{
-    equal(&node.0, &[0; 20])
 }
 
 /// Reads the manifest with this node; the null node is that of no files.

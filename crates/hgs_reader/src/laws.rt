@@ -22,17 +22,17 @@ ghost use Rattle.hgs_revlog.specs.declared.fault.Tail.TheVariants.{Until};
 ghost use Rattle.hgs_revlog.specs.Load.{loaded, most_revisions};
 ghost use Rattle.hgs_revlog.specs.Log.{Log};
 ghost use Rattle.hgs_revlog.specs.Text.{text_of};
-ghost use Rattle.hgs_reader.specs.declared.answer.ReadAnswer.TheVariants.{UnknownPath};
-ghost use Rattle.hgs_reader.specs.Asks.{at_rest};
+ghost use Rattle.hgs_load.specs.declared.answer.ReadAnswer.TheVariants.{UnknownPath};
+ghost use Rattle.hgs_load.specs.Asks.{at_rest};
 ghost use Rattle.hgs_reader.specs.Contents.{manifest_index, manifest_data, most_files, most_file_text, tree_asks, files_text, files_asks, cat_asks};
 ghost use Rattle.hgs_reader.specs.Find.{has_node, text_asks};
 ghost use Rattle.hgs_reader.specs.Held.{HasText};
 ghost use Rattle.hgs_reader.specs.Line.{change_asks};
-ghost use Rattle.hgs_reader.specs.Marks.{Nodes, Working, bookmarks_answer, bookmarks_path, dirstate_answer, dirstate_path, roots_answer, roots_path, working_answer};
-ghost use Rattle.hgs_reader.specs.Open.{bookmarks_asks, dirstate_asks, log_asks, log_of, most_bookmarks_text, most_dirstate, most_requires, most_roots, open_asks, requires_asks, requires_path, roots_asks};
-ghost use Rattle.hgs_reader.specs.Refresh.{first_changed, refresh_asks};
-ghost use Rattle.hgs_reader.specs.Requirements.{requires_answer};
-ghost use Rattle.hgs_reader.specs.View.{View, changelog_data, changelog_index};
+ghost use Rattle.hgs_load.specs.Marks.{Nodes, Working, bookmarks_answer, bookmarks_path, dirstate_answer, dirstate_path, roots_answer, roots_path, working_answer};
+ghost use Rattle.hgs_load.specs.Open.{bookmarks_asks, dirstate_asks, log_asks, log_of, most_bookmarks_text, most_dirstate, most_requires, most_roots, open_asks, requires_asks, requires_path, roots_asks};
+ghost use Rattle.hgs_load.specs.Refresh.{first_changed, refresh_asks};
+ghost use Rattle.hgs_load.specs.Requirements.{requires_answer};
+ghost use Rattle.hgs_load.specs.View.{View, changelog_data, changelog_index};
 
 /// Where a revlog has a text with a node, that is what is found, whatever a writer has appended behind it.
 pub fn text_of_node_held()
@@ -58,26 +58,6 @@ pub fn body_of_file_held()
 /// No row has the path, which may be any: it is unknown.
 pub fn paths_without_row()
     ensures { (t : Tree) (view : View) (rev : ℕ) (rows : List Row) (path : List ℕ) → at_rest t (tree_asks view rev) ≡ Ok rows → found_in path rows ≡ None → at_rest t (cat_asks view rev path) ≡ Err UnknownPath }
-{}
-
-/// A file within its limit is read whole, and an index of no more entries than a revlog may have is read piece by piece to
-/// its end.
-pub fn files_are_read_whole()
-    ensures requires_file { (t : Tree) → length (bytes_at t requires_path) ≤ most_requires → at_rest t requires_asks ≡ requires_answer (t requires_path) }
-    ensures bookmarks { (t : Tree) → length (bytes_at t bookmarks_path) ≤ most_bookmarks_text → at_rest t bookmarks_asks ≡ bookmarks_answer (t bookmarks_path) }
-    ensures dirstate { (t : Tree) → length (bytes_at t dirstate_path) ≤ most_dirstate → at_rest t dirstate_asks ≡ dirstate_answer (t dirstate_path) }
-    ensures roots { (t : Tree) → length (bytes_at t roots_path) ≤ most_roots → at_rest t roots_asks ≡ roots_answer (t roots_path) }
-    ensures index { (t : Tree) → length (bytes_at t changelog_index) / 64 ≤ most_revisions → at_rest t log_asks ≡ log_of (bytes_at t changelog_index) }
-{}
-
-/// What is read of the files gives the view of a load, and where no old entry changed, that of a refresh; the changelog of a
-/// view is what was read of the index.
-pub fn parts_make_views()
-    ensures opened { (t : Tree) (marks : List Mark) (nodes : Nodes) (log : Log) (roots : List Root) (working : Working) → at_rest t requires_asks ≡ Ok tt → at_rest t bookmarks_asks ≡ Ok marks → at_rest t dirstate_asks ≡ Ok nodes → at_rest t log_asks ≡ Ok log → at_rest t roots_asks ≡ Ok roots →
-        working_answer log.entries nodes ≡ Ok working → at_rest t open_asks ≡ Ok (record { changelog = log; bookmarks = marks; working = working; phases = phases_by roots log.entries }) }
-    ensures refreshed { (t : Tree) (old : View) (marks : List Mark) (nodes : Nodes) (log : Log) (roots : List Root) (working : Working) → at_rest t bookmarks_asks ≡ Ok marks → at_rest t dirstate_asks ≡ Ok nodes → at_rest t log_asks ≡ Ok log → at_rest t roots_asks ≡ Ok roots →
-        working_answer log.entries nodes ≡ Ok working → first_changed 0 old.changelog.entries log.entries ≡ None → at_rest t (refresh_asks old) ≡ Ok (record { changelog = log; bookmarks = marks; working = working; phases = phases_by roots log.entries }) }
-    ensures log { (t : Tree) (view : View) → at_rest t open_asks ≡ Ok view → at_rest t log_asks ≡ Ok view.changelog }
 {}
 
 /// A changeset is what is read of the text in its chunk; where the texts of a view's changelog are read as revisions, each is

@@ -1,26 +1,21 @@
 //! A session: what was loaded of a repository, and the questions that it answers.
 
-use crate::answer::ReadAnswer;
-use crate::ask::{bytes_of, read_part};
 use crate::contents::{add_file, add_files, manifest_of};
 use crate::heads::heads_of;
 use crate::line::line_of;
-use crate::load::LoadMachine;
-use crate::marks::WorkingParents;
 use crate::names::revision_named;
-use crate::paths::ChangelogPaths;
-use crate::refresh::entries_of;
-use crate::refusal::{of_change, of_revlog};
+use crate::refusal::of_change;
 use crate::shown::{mark_lines, parent_lines};
-use crate::step::load_with;
 use hgs_changelog::text::ChangeText;
 use hgs_files::files::Reads;
-use hgs_index::entry::Entry;
+use hgs_load::answer::ReadAnswer;
+use hgs_load::ask::{bytes_of, read_part};
+use hgs_load::loaded::Loaded;
+use hgs_load::paths::ChangelogPaths;
+use hgs_load::refusal::of_revlog;
+use hgs_load::step::{load, load_again};
 use hgs_manifest::manifest::Manifest;
-use hgs_marks::bookmarks::Bookmarks;
 use hgs_model::phase::Phase;
-use hgs_phases::phases::Phases;
-use hgs_revlog::revlog::Revlog;
 use std::alloc::{AllocError, Global};
 use std::marker::Model;
 
@@ -29,22 +24,15 @@ use std::marker::Model;
 pub struct Session {
     alloc: Global,
     paths: ChangelogPaths,
-    changelog: Revlog,
-    bookmarks: Bookmarks,
-    working: WorkingParents,
-    phases: Phases,
+    loaded: Loaded,
 }
 
 impl Model for Session {
-    ghost use Rattle.std.specs.Prelude.{◌≡◌, ◌<◌, length, IfSome};
-    ghost use Rattle.hgs_reader.specs.Marks.{working_of};
-    ghost use Rattle.hgs_reader.specs.View.{View};
+    ghost use Rattle.hgs_load.specs.View.{View};
 
     ghost Value = { View };
 
-    ghost view = { λ s. record { changelog = s.changelog; bookmarks = s.bookmarks; working = working_of s.working; phases = s.phases } };
-
-    ghost invariant = { λ s. IfSome s.working.first (λ rev. rev < length s.changelog.entries) × IfSome s.working.second (λ rev. rev < length s.changelog.entries) × (length s.phases ≡ length s.changelog.entries) };
+    ghost view = { λ s. s.loaded };
 }
 
 impl Session {
@@ -52,40 +40,34 @@ impl Session {
     ghost use Rattle.hgs_bytes.specs.Answer.{Gives};
     ghost use Rattle.hgs_files.specs.Reads.{Grows};
     ghost use Rattle.hgs_changelog.specs.View.{view_change};
-    ghost use Rattle.hgs_reader.specs.Answer.{is_of_outside, HasFaultCause, NeverFaults};
-    ghost use Rattle.hgs_reader.specs.Asks.{Answers, AddsAnswer};
+    ghost use Rattle.hgs_load.specs.Answer.{is_of_outside, HasFaultCause, NeverFaults};
+    ghost use Rattle.hgs_load.specs.Asks.{Answers, AddsAnswer};
     ghost use Rattle.hgs_reader.specs.Contents.{tree_asks, files_asks, cat_asks};
     ghost use Rattle.hgs_reader.specs.Heads.{heads_text};
     ghost use Rattle.hgs_reader.specs.Line.{change_at, change_asks, line_at, line_asks};
-    ghost use Rattle.hgs_reader.specs.Load.{Refreshes};
-    ghost use Rattle.hgs_reader.specs.Marks.{working_of};
-    ghost use Rattle.hgs_reader.specs.Refresh.{refresh_asks};
+    ghost use Rattle.hgs_load.specs.Load.{Refreshes};
+    ghost use Rattle.hgs_load.specs.Marks.{working_of};
+    ghost use Rattle.hgs_load.specs.Refresh.{refresh_asks};
     ghost use Rattle.hgs_reader.specs.Names.{named};
-    ghost use Rattle.hgs_reader.specs.Open.{open_asks};
+    ghost use Rattle.hgs_load.specs.Open.{open_asks};
     ghost use Rattle.hgs_reader.specs.Shown.{marks_text, parents_text};
 
-    /// The session that holds what was loaded.
-    pub fn of(
-        alloc: Global,
-        paths: ChangelogPaths,
-        changelog: Revlog,
-        bookmarks: Bookmarks,
-        working: WorkingParents,
-        phases: Phases,
-    ) -> Session
-        requires first { IfSome working.first (λ rev. rev < length changelog.entries) }
-        requires second { IfSome working.second (λ rev. rev < length changelog.entries) }
-        requires phases { length phases ≡ length changelog.entries }
-        ensures { result ≡ record { changelog = changelog; bookmarks = bookmarks; working = working_of working; phases = phases } }
+    /// The session over what was loaded.
+    pub fn of(alloc: Global, loaded: Loaded) -> Result<Session, AllocError>
+        ensures { IfOk result (λ session. session ≡ loaded) }
     {
-        Session {
+        Ok(Session {
             alloc,
-            paths,
-            changelog,
-            bookmarks,
-            working,
-            phases,
-        }
+            paths: ChangelogPaths::new(alloc)?,
+            loaded,
+        })
+    }
+
+    /// What was loaded.
+    pub fn loaded(&self) -> &Loaded
+        ensures { result.now ≡ self.now }
+    {
+        &self.loaded
     }
 
     /// Loads the repository that the files hold, which others may change meanwhile.
@@ -96,27 +78,15 @@ impl Session {
         ensures still { R.alone ≡ true → R.seen files.new ≡ R.seen files.old }
         ensures cause { HasFaultCause (R.faults files.old) (R.faults files.new) (R.denied files.old) (R.denied files.new) result }
     {
-        let machine = LoadMachine::open(alloc)?;
-        load_with(alloc, files, machine)
-    }
-
-    /// A copy of the entries of the history.
-    pub(crate) fn entries(&self) -> Result<Vec<Entry>, AllocError>
-        ensures { IfOk result (λ entries. entries.items ≡ self.now.changelog.entries) }
-    {
-        entries_of(self.alloc, &self.changelog)
-    }
-
-    // Loads again what may have changed.
-    fn reloaded<R: Reads>(&self, files: &mut R) -> Result<Session, ReadAnswer>
-        ensures answer { Answers (λ session. session) (R.seen files.old) (R.start files.old) (R.seen files.new) (refresh_asks self.now) result }
-        ensures seen { Grows (R.seen files.old) (R.seen files.new) }
-        ensures same_start { R.start files.new ≡ R.start files.old }
-        ensures still { R.alone ≡ true → R.seen files.new ≡ R.seen files.old }
-        ensures cause { HasFaultCause (R.faults files.old) (R.faults files.new) (R.denied files.old) (R.denied files.new) result }
-    {
-        let machine = LoadMachine::refresh(self.alloc, self)?;
-        load_with(self.alloc, files, machine)
+        let paths = ChangelogPaths::new(alloc)?;
+        match load(alloc, files) {
+            Ok(loaded) => Ok(Session {
+                alloc,
+                paths,
+                loaded,
+            }),
+            Err(refusal) => Err(refusal),
+        }
     }
 
     /// Loads again what may have changed, which is all but `requires`. A refusal changes nothing; it is damage of the
@@ -128,9 +98,9 @@ impl Session {
         ensures still { R.alone ≡ true → R.seen files.new ≡ R.seen files.old }
         ensures cause { HasFaultCause (R.faults files.old) (R.faults files.new) (R.denied files.old) (R.denied files.new) result }
     {
-        match self.reloaded(files) {
-            Ok(session) => {
-                *self = session;
+        match load_again(self.alloc, files, &self.loaded) {
+            Ok(loaded) => {
+                self.loaded = loaded;
                 Ok(())
             }
             Err(refusal) => Err(refusal),
@@ -141,7 +111,7 @@ impl Session {
     pub fn len(&self) -> u32
         ensures { result ≡ length self.now.changelog.entries }
     {
-        self.changelog.len()
+        self.loaded.changelog().len()
     }
 
     /// The revision that a name names: `.` the first working parent, `tip` the last changeset, a decimal number without
@@ -151,7 +121,12 @@ impl Session {
         ensures named { result ≡ named self.now name.now }
         ensures below { IfSome result (λ rev. rev < length self.now.changelog.entries) }
     {
-        revision_named(&self.changelog, &self.bookmarks, self.working.first, name)
+        revision_named(
+            self.loaded.changelog(),
+            self.loaded.bookmarks(),
+            self.loaded.working().first,
+            name,
+        )
     }
 
     // The changeset of a revision whose chunk was read.
@@ -161,7 +136,7 @@ impl Session {
         ensures change { Gives is_of_outside view_change result (change_at self.now rev chunk.now) }
         ensures inner { NeverFaults result }
     {
-        let text = match self.changelog.text(rev, chunk) {
+        let text = match self.loaded.changelog().text(rev, chunk) {
             Ok(text) => text,
             Err(fault) => return Err(of_revlog(self.alloc, self.paths.index(), fault)),
         };
@@ -182,7 +157,7 @@ impl Session {
             Ok(change) => change,
             Err(refusal) => return Err(refusal),
         };
-        match line_of(self.alloc, rev, self.changelog.entry(rev), &change) {
+        match line_of(self.alloc, rev, self.loaded.changelog().entry(rev), &change) {
             Ok(line) => Ok(line),
             Err(_) => Err(ReadAnswer::Memory),
         }
@@ -203,7 +178,7 @@ impl Session {
         ensures still { R.alone ≡ true → R.seen files.new ≡ R.seen files.old }
         ensures cause { HasFaultCause (R.faults files.old) (R.faults files.new) (R.denied files.old) (R.denied files.new) result }
     {
-        let span = self.changelog.text_span(rev);
+        let span = self.loaded.changelog().text_span(rev);
         let part = read_part(self.alloc, files, self.paths.chunks(), span.from, span.len)?;
         let line = match self.line_from(rev, bytes_of(&part)) {
             Ok(line) => line,
@@ -222,7 +197,7 @@ impl Session {
         ensures still { R.alone ≡ true → R.seen files.new ≡ R.seen files.old }
         ensures cause { HasFaultCause (R.faults files.old) (R.faults files.new) (R.denied files.old) (R.denied files.new) result }
     {
-        let span = self.changelog.text_span(rev);
+        let span = self.loaded.changelog().text_span(rev);
         let part = read_part(self.alloc, files, self.paths.chunks(), span.from, span.len)?;
         self.change_from(rev, bytes_of(&part))
     }
@@ -300,7 +275,7 @@ impl Session {
         ensures ok { OnOk result (into.new.items ≡ into.old.items ++ heads_text self.now) }
         ensures err { OnErr result (into.new.items ≡ into.old.items) }
     {
-        let lines = heads_of(self.alloc, &self.changelog)?;
+        let lines = heads_of(self.alloc, self.loaded.changelog())?;
         into.extend_from_slice(&lines)?;
         Ok(())
     }
@@ -311,7 +286,7 @@ impl Session {
         ensures ok { OnOk result (into.new.items ≡ into.old.items ++ marks_text self.now) }
         ensures err { OnErr result (into.new.items ≡ into.old.items) }
     {
-        let lines = mark_lines(self.alloc, &self.changelog, &self.bookmarks)?;
+        let lines = mark_lines(self.alloc, self.loaded.changelog(), self.loaded.bookmarks())?;
         into.extend_from_slice(&lines)?;
         Ok(())
     }
@@ -322,7 +297,7 @@ impl Session {
         ensures ok { OnOk result (into.new.items ≡ into.old.items ++ parents_text self.now) }
         ensures err { OnErr result (into.new.items ≡ into.old.items) }
     {
-        let lines = parent_lines(self.alloc, &self.changelog, &self.working)?;
+        let lines = parent_lines(self.alloc, self.loaded.changelog(), &self.loaded.working())?;
         into.extend_from_slice(&lines)?;
         Ok(())
     }
@@ -332,6 +307,6 @@ impl Session {
         requires { rev < length self.now.changelog.entries }
         ensures { slice_get self.now.phases rev ≡ Some result }
     {
-        self.phases.get(rev)
+        self.loaded.phases().get(rev)
     }
 }

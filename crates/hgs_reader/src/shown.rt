@@ -5,9 +5,9 @@ ghost use Rattle.hgs_revlog.specs.Log.{place_of};
 ghost use Rattle.hgs_reader.specs.Heads.{head_line};
 ghost use Rattle.hgs_reader.specs.Shown.{mark_line, shown_mark, marks_shown, parent_shown};
 
-use crate::marks::WorkingParents;
 use hgs_index::entry::Entry;
 use hgs_index::texts::hex_of;
+use hgs_load::marks::WorkingParents;
 use hgs_marks::bookmarks::{Bookmarks, Mark};
 use hgs_plan::print::push_number;
 use hgs_revlog::revlog::Revlog;

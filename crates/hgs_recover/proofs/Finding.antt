@@ -10,9 +10,9 @@ use Rattle.hgs_files.specs.Tree.{Tree, after_all}
 use Rattle.hgs_journal.specs.declared.backups.BackupLine.{BackupLine}
 use Rattle.hgs_journal.specs.declared.journal.JournalLine.{JournalLine}
 use Rattle.hgs_loading.specs.Found.{and_then}
-use Rattle.hgs_reader.specs.declared.answer.ReadAnswer.{ReadAnswer}
-use Rattle.hgs_reader.specs.Answer.{is_of_outside}
-use Rattle.hgs_reader.specs.Asks.{IsPart, part_of}
+use Rattle.hgs_load.specs.declared.answer.ReadAnswer.{ReadAnswer}
+use Rattle.hgs_load.specs.Answer.{is_of_outside}
+use Rattle.hgs_load.specs.Asks.{IsPart, part_of}
 use Rattle.hgs_journal.specs.Names.{backups_path, journal_path}
 use Rattle.hgs_recover.specs.Found.{all_kept_in, backups_in, backups_said, found_in, found_of, lengths_in, standing_in, undo_in}
 

@@ -14,7 +14,7 @@ use Rattle.hgs_journal.specs.Names.{backups_path, in_store, journal_path, place}
 use Rattle.hgs_journal.specs.Read.{read_backups, read_journal}
 use Rattle.hgs_journal.specs.Undo.{undo_list}
 use Rattle.hgs_loading.specs.Found.{and_then}
-use Rattle.hgs_reader.specs.declared.answer.ReadAnswer.{ReadAnswer}
+use Rattle.hgs_load.specs.declared.answer.ReadAnswer.{ReadAnswer}
 use Rattle.hgs_ops.specs.Operations.{strays}
 use Rattle.hgs_recover.specs.Found.{all_kept_in, backups_in, backups_said, found_in, found_of, journal_said, kept_at, kept_in, length_in, lengths_in, short_refusal, standing, text_refusal, undo_in}
 use Rattle.hgs_recover.proofs.Below.{Below}

@@ -12,9 +12,9 @@ use Rattle.hgs_journal.specs.Read.{read_backups, read_journal}
 use Rattle.hgs_journal.specs.Undo.{undo_list}
 use Rattle.hgs_loading.specs.Found.{and_then}
 use Rattle.hgs_plan.specs.declared.damage.Part.TheVariants as parts
-use Rattle.hgs_reader.specs.declared.answer.ReadAnswer.{ReadAnswer}
-use Rattle.hgs_reader.specs.declared.answer.ReadAnswer.TheVariants.{Memory}
-use Rattle.hgs_reader.specs.View.{damaged}
+use Rattle.hgs_load.specs.declared.answer.ReadAnswer.{ReadAnswer}
+use Rattle.hgs_load.specs.declared.answer.ReadAnswer.TheVariants.{Memory}
+use Rattle.hgs_load.specs.View.{damaged}
 use Rattle.hgs_recover.specs.declared.answer.RecoverAnswer.{RecoverAnswer}
 use Rattle.hgs_recover.specs.declared.answer.RecoverAnswer.TheVariants.{Restored, NothingToDo}
 use Rattle.hgs_recover.specs.Answer.{outcome_of_read}

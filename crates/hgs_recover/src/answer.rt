@@ -2,9 +2,9 @@
 ghost use Rattle.std.specs.Prelude.{◌≡◌, ◌++◌, OnOk, OnErr, IfOk};
 ghost use Rattle.hgs_recover.specs.Answer.{outcome_of_read, recovered_text, said_text, status_of};
 
+use hgs_load::answer::ReadAnswer;
 use hgs_plan::damage::Damage;
 use hgs_plan::print::push_damage;
-use hgs_reader::answer::ReadAnswer;
 use std::alloc::{AllocError, Global};
 
 /// What recovering comes to.

@@ -6,7 +6,7 @@ ghost use Rattle.hgs_bytes.specs.Answer.{Gives};
 ghost use Rattle.hgs_journal.specs.Names.{backups_path, journal_path};
 ghost use Rattle.hgs_journal.specs.Texts.{HasPath, IsBackupLine};
 ghost use Rattle.hgs_loading.specs.Found.{Finds};
-ghost use Rattle.hgs_reader.specs.Answer.{HasFaultCause, IsRefusal, NeverFaults, is_fault, is_of_outside};
+ghost use Rattle.hgs_load.specs.Answer.{HasFaultCause, IsRefusal, NeverFaults, is_fault, is_of_outside};
 ghost use Rattle.hgs_recover.specs.Found.{absent_refusal, all_kept_in, backups_in, backups_said, found_in, journal_said, kept_in, length_in, lengths_in, short_refusal, standing_in, text_refusal, undo_in};
 ghost use Rattle.hgs_recover.specs.Undoing.{IsUndoList};
 
@@ -19,11 +19,11 @@ use hgs_journal::fault::JournalFault;
 use hgs_journal::journal::{Journal, JournalLine};
 use hgs_journal::names::path_of;
 use hgs_journal::undo::undo_plan;
+use hgs_load::answer::ReadAnswer;
+use hgs_load::ask::{bytes_of, read_part};
+use hgs_load::refusal::damage;
 use hgs_loading::whole::size_of;
 use hgs_plan::damage::Part;
-use hgs_reader::answer::ReadAnswer;
-use hgs_reader::ask::{bytes_of, read_part};
-use hgs_reader::refusal::damage;
 use std::alloc::Global;
 
 // What a fault of the text of the file with this path is.

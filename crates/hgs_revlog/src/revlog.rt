@@ -185,6 +185,13 @@ impl Revlog {
     }
 
     /// How many revisions there are.
+    /// The entries of its revisions.
+    pub fn entries(&self) -> &[Entry]
+        ensures { result.now ≡ self.now.entries }
+    {
+        &self.entries
+    }
+
     pub fn len(&self) -> u32
         ensures { result ≡ length self.now.entries }
     {

@@ -23,16 +23,16 @@ use Rattle.hgs_model.specs.Repo.{Repo, Changeset, Bookmark, TreeFile, all_parent
 use Rattle.hgs_phases.specs.Phases.{history_of}
 use Rattle.hgs_revlog.specs.Held.{Agrees}
 use Rattle.hgs_revlog.specs.Log.{nodes_of, place_of}
-use Rattle.hgs_reader.specs.declared.answer.ReadAnswer.{ReadAnswer}
-use Rattle.hgs_reader.specs.declared.answer.ReadAnswer.TheVariants.{UnknownPath}
-use Rattle.hgs_reader.specs.Asks.{at_rest, part_of}
+use Rattle.hgs_load.specs.declared.answer.ReadAnswer.{ReadAnswer}
+use Rattle.hgs_load.specs.declared.answer.ReadAnswer.TheVariants.{UnknownPath}
+use Rattle.hgs_load.specs.Asks.{at_rest, part_of}
 use Rattle.hgs_reader.specs.Contents.{cat_asks, files_asks}
 use Rattle.hgs_reader.specs.Heads as reader_heads
 use Rattle.hgs_reader.specs.Line.{change_asks, change_at, chunk_asks, first_line, field, line_asks, line_at, line_of_change, line_of_entry, line_text, parent_text}
 use Rattle.hgs_reader.specs.Names.{named}
-use Rattle.hgs_reader.specs.Open.{open_asks}
+use Rattle.hgs_load.specs.Open.{open_asks}
 use Rattle.hgs_reader.specs.Shown as reader_shown
-use Rattle.hgs_reader.specs.View.{View, changelog_data, changelog_index}
+use Rattle.hgs_load.specs.View.{View, changelog_data, changelog_index}
 use Rattle.hgs_stands.specs.Stands.{Stands, mark_of}
 use Rattle.hgs_model.specs.Names.{named as model_named}
 use Rattle.hgs_shown.specs.Answers.{IsReadable, tree_text, node_in, log_line, changeset_line, is_number, is_one_of, has_child, head_lines, heads_text, working_line, parents_text, bookmark_line, bookmarks_text, phase_word, body_answer, body_at}

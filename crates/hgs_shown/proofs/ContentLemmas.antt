@@ -22,13 +22,13 @@ use Rattle.hgs_path.specs.declared.name.Ext.TheVariants.{I, D}
 use Rattle.hgs_path.specs.Check.{checked}
 use Rattle.hgs_path.specs.StoreName.{store_name}
 use Rattle.hgs_revlog.specs.Held.{AreWithinLimits}
-use Rattle.hgs_reader.specs.declared.answer.ReadAnswer.{ReadAnswer}
-use Rattle.hgs_reader.specs.declared.answer.ReadAnswer.TheVariants.{UnknownPath}
-use Rattle.hgs_reader.specs.Asks.{answer, at_rest, then_asks}
+use Rattle.hgs_load.specs.declared.answer.ReadAnswer.{ReadAnswer}
+use Rattle.hgs_load.specs.declared.answer.ReadAnswer.TheVariants.{UnknownPath}
+use Rattle.hgs_load.specs.Asks.{answer, at_rest, then_asks}
 use Rattle.hgs_reader.specs.Contents.{most_file_text, tree_asks, cat_asks, tracked_node, file_node, files_asks, files_text, body_asks}
 use Rattle.hgs_reader.specs.Line.{chunk_asks, change_asks, change_at, change_of_chunk, change_of_text}
-use Rattle.hgs_reader.specs.Open.{open_asks}
-use Rattle.hgs_reader.specs.View.{View}
+use Rattle.hgs_load.specs.Open.{open_asks}
+use Rattle.hgs_load.specs.View.{View}
 use Rattle.hgs_stands.specs.Places.{changelog_data, manifest_index, manifest_data}
 use Rattle.hgs_stands.specs.Stands.{Stands}
 use Rattle.hgs_stands.specs.Shows.{BeginsAt, BeginsChangesets, Shows}

@@ -13,7 +13,7 @@ use Rattle.hgs_model.specs.Names.{number_named, node_named, last_of, bookmark_na
 use Rattle.hgs_model.specs.Repo.{Repo, Bookmark}
 use Rattle.hgs_revlog.specs.Log.{nodes_of, place_of}
 use Rattle.hgs_reader.specs.Names.{place_of_some, named}
-use Rattle.hgs_reader.specs.View.{View}
+use Rattle.hgs_load.specs.View.{View}
 use Rattle.hgs_stands.specs.Places.{changelog_index, changelog_data}
 use Rattle.hgs_stands.specs.Stands.{Stands, mark_of}
 use Rattle.hgs_shown.specs.Shown.{IsViewOf, IsViewOver, shown_repo}

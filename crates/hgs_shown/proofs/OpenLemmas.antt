@@ -15,14 +15,14 @@ use Rattle.hgs_model.specs.Repo.{Repo, Changeset}
 use Rattle.hgs_phases.specs.Phases.{history_of, phases_by}
 use Rattle.hgs_revlog.specs.Held.{Agrees, AreWithinLimits, read_all}
 use Rattle.hgs_revlog.specs.Log.{Log, nodes_of}
-use Rattle.hgs_reader.specs.declared.answer.ReadAnswer.TheVariants.{Limit}
-use Rattle.hgs_reader.specs.declared.answer.ReadAnswer.{ReadAnswer}
-use Rattle.hgs_reader.specs.Asks.{at_rest}
-use Rattle.hgs_reader.specs.Marks.{most_bookmarks, marks_answer, nodes_answer, roots_of, parent_answer, both_parents, working_answer}
-use Rattle.hgs_reader.specs.Open.{requires_path, most_requires, requires_asks, bookmarks_asks, dirstate_asks, log_asks, roots_asks, open_asks}
-use Rattle.hgs_reader.specs.Refresh.{first_changed, refresh_asks}
-use Rattle.hgs_reader.specs.Requirements.{requires_answer, requirement_answer, first_lacking, known_requirements, needed_requirements, words_of}
-use Rattle.hgs_reader.specs.View.{View, changelog_index, changelog_data, log_answer}
+use Rattle.hgs_load.specs.declared.answer.ReadAnswer.TheVariants.{Limit}
+use Rattle.hgs_load.specs.declared.answer.ReadAnswer.{ReadAnswer}
+use Rattle.hgs_load.specs.Asks.{at_rest}
+use Rattle.hgs_load.specs.Marks.{most_bookmarks, marks_answer, nodes_answer, roots_of, parent_answer, both_parents, working_answer}
+use Rattle.hgs_load.specs.Open.{requires_path, most_requires, requires_asks, bookmarks_asks, dirstate_asks, log_asks, roots_asks, open_asks}
+use Rattle.hgs_load.specs.Refresh.{first_changed, refresh_asks}
+use Rattle.hgs_load.specs.Requirements.{requires_answer, requirement_answer, first_lacking, known_requirements, needed_requirements, words_of}
+use Rattle.hgs_load.specs.View.{View, changelog_index, changelog_data, log_answer}
 use Rattle.hgs_stands.specs.Requires.{IsInProfile}
 use Rattle.hgs_stands.specs.Stands.{Stands, mark_of}
 use Rattle.hgs_stands.specs.Shows.{BeginsAt, Shows}

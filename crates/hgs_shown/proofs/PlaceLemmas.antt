@@ -7,7 +7,7 @@ use Rattle.hgs_index.specs.Node.{null_node}
 use Rattle.hgs_index.specs.Revision.{parent_node}
 use Rattle.hgs_index.specs.Revlog.{all_different}
 use Rattle.hgs_revlog.specs.Log.{nodes_of, place_of}
-use Rattle.hgs_reader.specs.Marks.{parent_answer, known_parent}
+use Rattle.hgs_load.specs.Marks.{parent_answer, known_parent}
 use Rattle.hgs_shown.proofs.Basics.{same-refl}
 use Rattle.hgs_shown.specs.Below.{Below}
 

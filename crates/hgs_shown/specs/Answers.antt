@@ -10,8 +10,8 @@ use Rattle.hgs_index.specs.Node.{null_node}
 use Rattle.hgs_index.specs.Revision.{Parents}
 use Rattle.hgs_model.specs.History.{changeset_nodes, history, rows_of}
 use Rattle.hgs_model.specs.Repo.{Repo, Changeset, Bookmark, TreeFile, all_parents, tree_at}
-use Rattle.hgs_reader.specs.declared.answer.ReadAnswer.{ReadAnswer}
-use Rattle.hgs_reader.specs.declared.answer.ReadAnswer.TheVariants.{UnknownPath}
+use Rattle.hgs_load.specs.declared.answer.ReadAnswer.{ReadAnswer}
+use Rattle.hgs_load.specs.declared.answer.ReadAnswer.TheVariants.{UnknownPath}
 use Rattle.hgs_reader.specs.Contents.{files_text}
 use Rattle.hgs_reader.specs.Line.{field, first_line, parent_text}
 use Rattle.hgs_shown.specs.Limits.{OpensWithin, ReadsWithin}

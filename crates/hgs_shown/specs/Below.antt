@@ -31,16 +31,16 @@ use Rattle.hgs_revlog.specs.Held.{Agrees, AreWithinLimits, chunk_in, read_all}
 use Rattle.hgs_revlog.specs.Load.{loaded, most_revisions}
 use Rattle.hgs_revlog.specs.Log.{Log, nodes_of, place_of}
 use Rattle.hgs_revlog.specs.Text.{text_of}
-use Rattle.hgs_reader.specs.declared.answer.ReadAnswer.TheVariants.{UnknownPath}
-use Rattle.hgs_reader.specs.Asks.{at_rest}
+use Rattle.hgs_load.specs.declared.answer.ReadAnswer.TheVariants.{UnknownPath}
+use Rattle.hgs_load.specs.Asks.{at_rest}
 use Rattle.hgs_reader.specs.Contents.{most_files, most_file_text, tree_asks, files_text, files_asks, cat_asks}
 use Rattle.hgs_reader.specs.Held.{HasText}
 use Rattle.hgs_reader.specs.Line.{change_asks}
-use Rattle.hgs_reader.specs.Marks.{Nodes, Working, bookmarks_answer, dirstate_answer, roots_answer, working_answer}
-use Rattle.hgs_reader.specs.Open.{requires_path, most_requires, most_bookmarks_text, most_dirstate, most_roots, requires_asks, bookmarks_asks, dirstate_asks, log_asks, log_of, roots_asks, open_asks}
-use Rattle.hgs_reader.specs.Refresh.{first_changed, refresh_asks}
-use Rattle.hgs_reader.specs.Requirements.{requires_answer}
-use Rattle.hgs_reader.specs.View.{View}
+use Rattle.hgs_load.specs.Marks.{Nodes, Working, bookmarks_answer, dirstate_answer, roots_answer, working_answer}
+use Rattle.hgs_load.specs.Open.{requires_path, most_requires, most_bookmarks_text, most_dirstate, most_roots, requires_asks, bookmarks_asks, dirstate_asks, log_asks, log_of, roots_asks, open_asks}
+use Rattle.hgs_load.specs.Refresh.{first_changed, refresh_asks}
+use Rattle.hgs_load.specs.Requirements.{requires_answer}
+use Rattle.hgs_load.specs.View.{View}
 use Rattle.hgs_stands.specs.Places.{bookmarks_path, dirstate_path, roots_path, changelog_index, changelog_data, manifest_index, manifest_data}
 use Rattle.hgs_stands.specs.Shows.{Shows}
 use Rattle.hgs_stands.specs.Stands.{Stands, changeset_entries}

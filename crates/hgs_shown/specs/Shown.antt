@@ -10,12 +10,12 @@ use Rattle.hgs_model.specs.History.{history, changeset_nodes}
 use Rattle.hgs_model.specs.Phase.{phase_number}
 use Rattle.hgs_model.specs.Repo.{Repo, Changeset, TreeFile, tree_paths}
 use Rattle.hgs_revlog.specs.Held.{Agrees}
-use Rattle.hgs_reader.specs.declared.answer.ReadAnswer.TheVariants.{UnknownPath}
-use Rattle.hgs_reader.specs.Asks.{at_rest}
+use Rattle.hgs_load.specs.declared.answer.ReadAnswer.TheVariants.{UnknownPath}
+use Rattle.hgs_load.specs.Asks.{at_rest}
 use Rattle.hgs_reader.specs.Contents.{tree_asks, files_asks, files_text, cat_asks}
 use Rattle.hgs_reader.specs.Line.{change_asks}
-use Rattle.hgs_reader.specs.Marks.{Nodes}
-use Rattle.hgs_reader.specs.View.{View}
+use Rattle.hgs_load.specs.Marks.{Nodes}
+use Rattle.hgs_load.specs.View.{View}
 use Rattle.hgs_stands.specs.Committed.{Tells}
 use Rattle.hgs_stands.specs.Places.{changelog_index, changelog_data}
 use Rattle.hgs_stands.specs.Shows.{BeginsAt}

@@ -5,14 +5,14 @@ ghost use Rattle.hgs_model.specs.Names.{named as model_named};
 ghost use Rattle.hgs_model.specs.Phase.{phase_name};
 ghost use Rattle.hgs_model.specs.Repo.{Changeset, Repo};
 ghost use Rattle.hgs_model.specs.declared.phase.Phase.{Phase};
-ghost use Rattle.hgs_reader.specs.Asks.{at_rest};
+ghost use Rattle.hgs_load.specs.Asks.{at_rest};
 ghost use Rattle.hgs_reader.specs.Contents.{cat_asks, files_asks};
 ghost use Rattle.hgs_reader.specs.Heads as reader_heads;
 ghost use Rattle.hgs_reader.specs.Line.{line_asks};
 ghost use Rattle.hgs_reader.specs.Names.{named};
-ghost use Rattle.hgs_reader.specs.Open.{open_asks};
+ghost use Rattle.hgs_load.specs.Open.{open_asks};
 ghost use Rattle.hgs_reader.specs.Shown as reader_shown;
-ghost use Rattle.hgs_reader.specs.View.{View};
+ghost use Rattle.hgs_load.specs.View.{View};
 ghost use Rattle.hgs_shown.specs.Answers.{IsReadable, body_answer, body_at, bookmarks_text, heads_text, log_line, parents_text, phase_word, tree_text};
 
 use crate::laws::laws_below;

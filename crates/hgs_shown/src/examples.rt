@@ -2,9 +2,9 @@
 //! one example; none does anything but to call laws that it rests on.
 ghost use Rattle.std.specs.Prelude.{◌≡◌, ℕ, Ok, Some, slice_get};
 ghost use Rattle.hgs_model.specs.Repo.{Changeset};
-ghost use Rattle.hgs_reader.specs.Asks.{at_rest};
-ghost use Rattle.hgs_reader.specs.Open.{open_asks};
-ghost use Rattle.hgs_reader.specs.View.{View};
+ghost use Rattle.hgs_load.specs.Asks.{at_rest};
+ghost use Rattle.hgs_load.specs.Open.{open_asks};
+ghost use Rattle.hgs_load.specs.View.{View};
 ghost use Rattle.hgs_shown.specs.Limits.{OpensWithin, ReadsWithin};
 ghost use Rattle.hgs_shown.specs.Shown.{IsShown, IsViewOf, IsViewOver};
 ghost use Rattle.hgs_stands.specs.Samples.{third_begun_files, two_drafts, two_drafts_files};

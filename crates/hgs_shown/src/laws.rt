@@ -15,18 +15,18 @@ ghost use Rattle.hgs_model.specs.History.{EachChangeset, changeset_nodes, no_his
 ghost use Rattle.hgs_model.specs.Repo.{Repo, Changeset, TreeFile, tree_paths};
 ghost use Rattle.hgs_path.specs.Check.{checked};
 ghost use Rattle.hgs_phases.specs.Phases.{history_of};
-ghost use Rattle.hgs_reader.specs.Asks.{at_rest};
+ghost use Rattle.hgs_load.specs.Asks.{at_rest};
 ghost use Rattle.hgs_reader.specs.Held.{HasText};
 ghost use Rattle.hgs_reader.specs.Line.{change_asks};
-ghost use Rattle.hgs_reader.specs.Marks.{working_answer};
+ghost use Rattle.hgs_load.specs.Marks.{working_answer};
 ghost use Rattle.hgs_revlog.specs.Held.{Agrees, AreWithinLimits, chunk_in};
 ghost use Rattle.hgs_revlog.specs.Log.{nodes_of};
 ghost use Rattle.hgs_revlog.specs.Text.{text_of};
 ghost use Rattle.hgs_model.specs.Names.{named as model_named};
 ghost use Rattle.hgs_reader.specs.Names.{named};
-ghost use Rattle.hgs_reader.specs.Refresh.{first_changed, refresh_asks};
-ghost use Rattle.hgs_reader.specs.Open.{most_requires, requires_path, requires_asks, bookmarks_asks, dirstate_asks, roots_asks, open_asks};
-ghost use Rattle.hgs_reader.specs.View.{View};
+ghost use Rattle.hgs_load.specs.Refresh.{first_changed, refresh_asks};
+ghost use Rattle.hgs_load.specs.Open.{most_requires, requires_path, requires_asks, bookmarks_asks, dirstate_asks, roots_asks, open_asks};
+ghost use Rattle.hgs_load.specs.View.{View};
 ghost use Rattle.hgs_shown.specs.Below.{Below};
 ghost use Rattle.hgs_shown.specs.Found.{HasPathOf, IsFound};
 ghost use Rattle.hgs_shown.specs.Limits.{OpensWithin, ReadsWithin, IsSmallTree};
@@ -42,6 +42,7 @@ use hgs_index::laws::{
     held_index_length, lists_begin, nodes_are_counted, nodes_have_places, nodes_written_then_read,
 };
 use hgs_index::texts::change_prints_then_reads;
+use hgs_load::laws::{files_are_read_whole, parts_make_views};
 use hgs_model::history_laws::{
     changesets_are_held, histories_go_on, nodes_name_revisions, revisions_stay,
     used_paths_have_revisions,
@@ -49,8 +50,7 @@ use hgs_model::history_laws::{
 use hgs_model::laws::changelog_is_whole;
 use hgs_path::laws::tracked_without_fault;
 use hgs_reader::laws::{
-    body_of_file_held, changesets_are_read, files_are_read_whole, files_of_manifest_held,
-    parts_make_views, paths_without_row,
+    body_of_file_held, changesets_are_read, files_of_manifest_held, paths_without_row,
 };
 use hgs_revlog::laws::{entries_of_revisions, held_bytes_load, ignored_rest, places_of_nodes};
 use hgs_stands::laws::{entries_of_changesets, standing_trees_show};

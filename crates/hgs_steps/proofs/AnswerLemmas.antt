@@ -20,7 +20,7 @@ use Rattle.hgs_model.specs.declared.phase.Phase.TheVariants.{Public}
 use Rattle.hgs_ops.specs.Replaced.{marks_with, phase_numbered, roots_of, roots_with}
 use Rattle.hgs_phases.specs.Moves.{advanced, retracted}
 use Rattle.hgs_phases.specs.Phases.{history_of}
-use Rattle.hgs_reader.specs.Marks.{most_bookmarks}
+use Rattle.hgs_load.specs.Marks.{most_bookmarks}
 use Rattle.hgs_reader.specs.Names.{mark_named, named}
 use Rattle.hgs_revlog.specs.Log.{nodes_of}
 use Rattle.hgs_stands.specs.Stands.{Stands, changeset_entries, mark_of as node_mark}

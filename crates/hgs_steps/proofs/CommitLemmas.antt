@@ -22,7 +22,7 @@ use Rattle.hgs_model.specs.Step.{with_mark}
 use Rattle.hgs_model.specs.declared.phase.Phase.{Phase}
 use Rattle.hgs_ops.specs.Replaced.{dirstate_with, marks_with, new_bookmarks, new_dirstate, new_roots, roots_change, roots_of, roots_with}
 use Rattle.hgs_phases.specs.Phases.{history_of}
-use Rattle.hgs_reader.specs.Marks.{most_bookmarks}
+use Rattle.hgs_load.specs.Marks.{most_bookmarks}
 use Rattle.hgs_revlog.specs.Log.{nodes_of}
 use Rattle.hgs_stands.specs.Stands.{Stands, mark_of as node_mark}
 use Rattle.hgs_steps.specs.declared.loaded.Loaded.{Loaded}

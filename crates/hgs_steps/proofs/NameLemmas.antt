@@ -10,7 +10,7 @@ use Rattle.hgs_model.specs.Names.{last_of, named as model_named, node_named, num
 use Rattle.hgs_model.specs.Repo.{Repo}
 use Rattle.hgs_model.specs.Step.{◌>>=◌, named_all as model_named_all, or_unknown}
 use Rattle.hgs_model.specs.declared.command.Refusal.{Refusal}
-use Rattle.hgs_reader.specs.Marks.{Working}
+use Rattle.hgs_load.specs.Marks.{Working}
 use Rattle.hgs_reader.specs.Names.{named}
 use Rattle.hgs_stands.specs.Stands.{Stands}
 use Rattle.hgs_steps.specs.declared.loaded.Loaded.{Loaded}

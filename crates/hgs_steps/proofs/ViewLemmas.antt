@@ -14,7 +14,7 @@ use Rattle.hgs_model.specs.Repo.{Repo, all_parents}
 use Rattle.hgs_phases.specs.Phases.{history_of, phases_by}
 use Rattle.hgs_phases.specs.Roots.{read_roots}
 use Rattle.hgs_phases.specs.declared.roots.Root.{Root}
-use Rattle.hgs_reader.specs.Marks.{both_parents, known_parent, parent_answer, working_answer, working_of}
+use Rattle.hgs_load.specs.Marks.{both_parents, known_parent, parent_answer, working_answer, working_of}
 use Rattle.hgs_revlog.specs.Held.{Agrees}
 use Rattle.hgs_revlog.specs.Log.{nodes_of, place_of}
 use Rattle.hgs_stands.specs.Places.{bookmarks_path, changelog_data, changelog_index, dirstate_path, roots_path}

@@ -3,8 +3,8 @@ use Rattle.std.specs.Prelude.{ℕ, List, slice_index_or}
 use Rattle.hgs_index.specs.Node.{null_node}
 use Rattle.hgs_model.specs.declared.phase.Phase.TheVariants.{Public}
 use Rattle.hgs_model.specs.Phase.{phase_number}
-use Rattle.hgs_reader.specs.Marks.{working_of}
-use Rattle.hgs_reader.specs.View.{View}
+use Rattle.hgs_load.specs.Marks.{working_of}
+use Rattle.hgs_load.specs.View.{View}
 use Rattle.hgs_revlog.specs.Log.{nodes_of}
 use Rattle.hgs_steps.specs.declared.loaded.Loaded.{Loaded}
 

@@ -15,7 +15,7 @@ use Rattle.hgs_path.specs.Fncache.{files_of, listing}
 use Rattle.hgs_phases.specs.Phases.{history_of, phases_by}
 use Rattle.hgs_phases.specs.Roots.{read_roots}
 use Rattle.hgs_phases.specs.declared.roots.Root.{Root}
-use Rattle.hgs_reader.specs.Marks.{most_bookmarks, working_answer, working_of}
+use Rattle.hgs_load.specs.Marks.{most_bookmarks, working_answer, working_of}
 use Rattle.hgs_revlog.specs.Load.{loaded}
 use Rattle.hgs_revlog.specs.Log.{nodes_of}
 use Rattle.hgs_revlog.specs.declared.fault.Tail.TheVariants.{Refuse}

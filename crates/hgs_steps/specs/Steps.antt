@@ -16,7 +16,7 @@ use Rattle.hgs_phases.specs.Moves.{advanced, retracted}
 use Rattle.hgs_phases.specs.Phases.{history_of}
 use Rattle.hgs_phases.specs.Printed.{written_roots}
 use Rattle.hgs_phases.specs.Roots.{roots_text}
-use Rattle.hgs_reader.specs.Marks.{most_bookmarks}
+use Rattle.hgs_load.specs.Marks.{most_bookmarks}
 use Rattle.hgs_reader.specs.Names.{mark_named, named}
 use Rattle.hgs_transaction.specs.Parts.{is_in_store}
 use Rattle.hgs_transaction.specs.declared.parts.Change.TheVariants.{Replace}

@@ -3,10 +3,10 @@ ghost use Rattle.std.specs.Prelude.{◌≡◌, ◌<◌, length};
 ghost use Rattle.std.specs.Option.{ForSome};
 
 use hgs_bytes::bytes::Bytes;
+use hgs_load::marks::WorkingParents;
 use hgs_marks::bookmarks::Bookmarks;
 use hgs_path::fncache::Fncache;
 use hgs_phases::phases::Phases;
-use hgs_reader::marks::WorkingParents;
 use hgs_revlog::revlog::Revlog;
 
 /// The bytes of the files that transactions replace, as they stand; none where a file is absent.

@@ -5,9 +5,9 @@ use Rattle.std.proofs.lemmas.List.{take_all}
 use Rattle.hgs_files.specs.declared.streams.IoFault.{IoFault}
 use Rattle.hgs_files.specs.declared.streams.IoFault.TheVariants as io_faults
 use Rattle.hgs_files.specs.Streams.{IsWritten}
-use Rattle.hgs_reader.specs.declared.answer.ReadAnswer.{ReadAnswer}
-use Rattle.hgs_reader.specs.declared.answer.ReadAnswer.TheVariants.{Damaged, Fault, Limit, UnknownPath, NotARepository, Requirement, Memory}
-use Rattle.hgs_reader.specs.Answer.{status_of, refusal_line}
+use Rattle.hgs_load.specs.declared.answer.ReadAnswer.{ReadAnswer}
+use Rattle.hgs_load.specs.declared.answer.ReadAnswer.TheVariants.{Damaged, Fault, Limit, UnknownPath, NotARepository, Requirement, Memory}
+use Rattle.hgs_load.specs.Answer.{status_of, refusal_line}
 use Rattle.hgs_top.specs.declared.stopped.Stopped.{Stopped}
 use Rattle.hgs_top.specs.declared.stopped.Stopped.TheVariants.{Refused, Unwritten}
 use Rattle.hgs_top.specs.declared.stopped.Said.{Said}

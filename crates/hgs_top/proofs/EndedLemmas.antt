@@ -6,7 +6,7 @@ use Rattle.hgs_answers.specs.declared.outcome.Outcome.TheVariants as outcomes
 use Rattle.hgs_files.specs.Reads.{Rose}
 use Rattle.hgs_files.specs.declared.files.FileFault.TheVariants.{Failed, Memory as NoMemory}
 use Rattle.hgs_input.specs.declared.fault.InputFault.TheVariants as inputs
-use Rattle.hgs_reader.specs.declared.answer.ReadAnswer.TheVariants as reads
+use Rattle.hgs_load.specs.declared.answer.ReadAnswer.TheVariants as reads
 use Rattle.hgs_top.specs.declared.ended.Ended.{Ended}
 use Rattle.hgs_top.specs.declared.ended.Ended.TheVariants.{Made, Exists, NotMade, NoInput, NoRecord, Refused, Answered, Recovered}
 use Rattle.hgs_recover.specs.Answer.{status_of as recover_status}

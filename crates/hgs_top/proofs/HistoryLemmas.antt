@@ -27,12 +27,12 @@ use Rattle.hgs_revlog.proofs.HeldLemmas.{nodes_of-agrees}
 use Rattle.hgs_revlog.proofs.ReadLemmas.{with_text_ok, slice_get_seam}
 use Rattle.hgs_revlog.proofs.TailHeldLemmas.{held-ignored, ignored-held}
 use Rattle.hgs_revlog.proofs.TailLemmas.{ignore-refuse, load_length}
-use Rattle.hgs_reader.specs.declared.answer.ReadAnswer.{ReadAnswer}
-use Rattle.hgs_reader.specs.Asks.{Asks, answer, part_of, at_rest}
+use Rattle.hgs_load.specs.declared.answer.ReadAnswer.{ReadAnswer}
+use Rattle.hgs_load.specs.Asks.{Asks, answer, part_of, at_rest}
 use Rattle.hgs_reader.specs.Line.{field, parent_text, change_fields, line_asks, line_at, line_text, line_of_entry, line_of_change, chunk_asks, change_of_chunk, change_of_text}
-use Rattle.hgs_reader.specs.View.{View, changelog_index, changelog_data, pieces_then, piece_length, most_pieces, log_answer}
-use Rattle.hgs_reader.specs.Open.{open_asks, log_asks, log_of}
-use Rattle.hgs_reader.proofs.OpenedLemmas.{opened_log}
+use Rattle.hgs_load.specs.View.{View, changelog_index, changelog_data, pieces_then, piece_length, most_pieces, log_answer}
+use Rattle.hgs_load.specs.Open.{open_asks, log_asks, log_of}
+use Rattle.hgs_load.proofs.OpenedLemmas.{opened_log}
 use Rattle.hgs_top.proofs.OpenLemmas.{opening}
 use Rattle.hgs_top.specs.History.{Changeset, revisions_of, IsRead, HoldsHistory, line_among, lines_from, history_text, Opens}
 use Rattle.hgs_top.specs.Outcome.{Outcome, line_then, lines_down, lines_of_view, log_of_view, log_outcome}

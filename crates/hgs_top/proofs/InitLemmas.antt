@@ -10,7 +10,7 @@ use Rattle.hgs_files.specs.declared.files.FileFault.{FileFault}
 use Rattle.hgs_files.specs.declared.files.FileFault.TheVariants.{Failed, Memory}
 use Rattle.hgs_files.specs.declared.op.Op.{Op}
 use Rattle.hgs_files.specs.declared.op.Op.TheVariants.{Create, Rename}
-use Rattle.hgs_reader.specs.Open.{requires_path}
+use Rattle.hgs_load.specs.Open.{requires_path}
 use Rattle.hgs_top.specs.Orders.{LeavesInit, init_operations, new_requires, new_requires_path}
 
 abbrev pub written : Op

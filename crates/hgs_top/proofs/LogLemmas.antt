@@ -6,14 +6,14 @@ use Rattle.std.proofs.lemmas.List.{take_at}
 use Rattle.hgs_files.specs.declared.op.Op.{Op}
 use Rattle.hgs_files.specs.Streams.{IsWritten}
 use Rattle.hgs_files.specs.Tree.{Tree, after_all}
-use Rattle.hgs_reader.specs.declared.answer.ReadAnswer.{ReadAnswer}
-use Rattle.hgs_reader.specs.Answer.{is_of_outside}
-use Rattle.hgs_reader.specs.Asks.{at_rest, Answers, AddsAnswer}
+use Rattle.hgs_load.specs.declared.answer.ReadAnswer.{ReadAnswer}
+use Rattle.hgs_load.specs.Answer.{is_of_outside}
+use Rattle.hgs_load.specs.Asks.{at_rest, Answers, AddsAnswer}
 use Rattle.hgs_reader.specs.Line.{line_asks}
-use Rattle.hgs_reader.specs.View.{View}
-use Rattle.hgs_reader.specs.Open.{open_asks}
-use Rattle.hgs_reader.proofs.AskLemmas.{either}
-use Rattle.hgs_reader.proofs.RestLemmas.{answers_at_rest, refused_at_rest, adds_at_rest, adds_refused_at_rest}
+use Rattle.hgs_load.specs.View.{View}
+use Rattle.hgs_load.specs.Open.{open_asks}
+use Rattle.hgs_load.proofs.AskLemmas.{either}
+use Rattle.hgs_load.proofs.RestLemmas.{answers_at_rest, refused_at_rest, adds_at_rest, adds_refused_at_rest}
 use Rattle.hgs_top.specs.declared.stopped.Stopped.{Stopped}
 use Rattle.hgs_top.specs.declared.stopped.Stopped.TheVariants.{Refused, Unwritten}
 use Rattle.hgs_top.specs.Outcome.{Outcome, refused, line_then, lines_down, lines_of_view, log_of_view, log_outcome}

@@ -7,12 +7,12 @@ use Rattle.hgs_index.specs.declared.entry.Entry.{Entry}
 use Rattle.hgs_index.specs.Node.{null_node}
 use Rattle.hgs_phases.specs.Phases.{phases_by}
 use Rattle.hgs_revlog.specs.Log.{Log, nodes_of, place_of}
-use Rattle.hgs_reader.specs.Asks.{answer, at_rest, then_asks}
-use Rattle.hgs_reader.specs.Marks.{known_parent, parent_answer, both_parents, working_answer}
-use Rattle.hgs_reader.specs.Open.{requires_asks, bookmarks_asks, dirstate_asks, log_asks, roots_asks, view_with, view_of, open_asks}
-use Rattle.hgs_reader.specs.View.{View}
+use Rattle.hgs_load.specs.Asks.{answer, at_rest, then_asks}
+use Rattle.hgs_load.specs.Marks.{known_parent, parent_answer, both_parents, working_answer}
+use Rattle.hgs_load.specs.Open.{requires_asks, bookmarks_asks, dirstate_asks, log_asks, roots_asks, view_with, view_of, open_asks}
+use Rattle.hgs_load.specs.View.{View}
 use Rattle.hgs_revlog.proofs.TailHeldLemmas.{position_map}
-use Rattle.hgs_reader.proofs.OpenedLemmas.{rest_then}
+use Rattle.hgs_load.proofs.OpenedLemmas.{rest_then}
 use Rattle.hgs_top.specs.History.{IsKnown, Opens}
 
 -- ---- what opens

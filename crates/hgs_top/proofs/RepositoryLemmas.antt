@@ -8,15 +8,15 @@ use Rattle.hgs_model.specs.Phase.{phase_name}
 use Rattle.hgs_model.specs.Repo.{Changeset, Repo}
 use Rattle.hgs_model.specs.IsRepo.{IsRepo}
 use Rattle.hgs_model.specs.declared.phase.Phase.{Phase}
-use Rattle.hgs_reader.specs.declared.answer.ReadAnswer.{ReadAnswer}
-use Rattle.hgs_reader.specs.Asks.{at_rest}
+use Rattle.hgs_load.specs.declared.answer.ReadAnswer.{ReadAnswer}
+use Rattle.hgs_load.specs.Asks.{at_rest}
 use Rattle.hgs_reader.specs.Contents.{cat_asks, files_asks}
 use Rattle.hgs_reader.specs.Heads as reader_heads
 use Rattle.hgs_reader.specs.Line.{line_asks}
 use Rattle.hgs_reader.specs.Names.{named}
-use Rattle.hgs_reader.specs.Open.{open_asks}
+use Rattle.hgs_load.specs.Open.{open_asks}
 use Rattle.hgs_reader.specs.Shown as reader_shown
-use Rattle.hgs_reader.specs.View.{View}
+use Rattle.hgs_load.specs.View.{View}
 use Rattle.hgs_shown.specs.Answers.{IsReadable, body_answer, body_at, bookmarks_text, files_text_of, heads_text, log_line, log_lines, log_text, parents_text, phase_text, phase_word, tree_text}
 use Rattle.hgs_top.specs.declared.listing.Listing.TheVariants.{Heads, Bookmarks, Parents}
 use Rattle.hgs_top.specs.Outcome.{Outcome, Reply, Subject, told, its_files, its_file, its_phase, line_then, lines_down, log_of_view, log_outcome, listing_of_load, contents_of_load, contents_of_rev, contents_reply, phase_text as text_of_phase, text_outcome}

@@ -10,11 +10,11 @@ use Rattle.hgs_index.specs.Revision.{Revision, nodes}
 use Rattle.hgs_index.specs.Revlog.{BeginsWithRevisions}
 use Rattle.hgs_marks.specs.Bookmarks.{Mark}
 use Rattle.hgs_phases.specs.declared.roots.Root.{Root}
-use Rattle.hgs_reader.specs.Asks.{at_rest}
-use Rattle.hgs_reader.specs.Marks.{Nodes}
-use Rattle.hgs_reader.specs.Open.{requires_asks, bookmarks_asks, dirstate_asks, roots_asks}
+use Rattle.hgs_load.specs.Asks.{at_rest}
+use Rattle.hgs_load.specs.Marks.{Nodes}
+use Rattle.hgs_load.specs.Open.{requires_asks, bookmarks_asks, dirstate_asks, roots_asks}
 use Rattle.hgs_reader.specs.Line.{field, parent_text, change_fields}
-use Rattle.hgs_reader.specs.View.{changelog_index, changelog_data}
+use Rattle.hgs_load.specs.View.{changelog_index, changelog_data}
 
 -- a revision of the changelog, and what its text says
 pub record Changeset : Type 0 where

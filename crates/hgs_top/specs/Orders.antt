@@ -23,10 +23,10 @@ use Rattle.hgs_loading.specs.Found.{required_in}
 use Rattle.hgs_model.specs.declared.command.Command.{Command}
 use Rattle.hgs_model.specs.declared.command.Command.TheVariants as commands
 use Rattle.hgs_model.specs.declared.command.NewChange.{NewChange}
-use Rattle.hgs_reader.specs.Answer.{is_of_outside, read_fault, refusal_line, status_of}
-use Rattle.hgs_reader.specs.Open.{requires_path}
-use Rattle.hgs_reader.specs.declared.answer.ReadAnswer.{ReadAnswer}
-use Rattle.hgs_reader.specs.declared.answer.ReadAnswer.TheVariants.{Fault}
+use Rattle.hgs_load.specs.Answer.{is_of_outside, read_fault, refusal_line, status_of}
+use Rattle.hgs_load.specs.Open.{requires_path}
+use Rattle.hgs_load.specs.declared.answer.ReadAnswer.{ReadAnswer}
+use Rattle.hgs_load.specs.declared.answer.ReadAnswer.TheVariants.{Fault}
 use Rattle.hgs_machine.specs.Carry.{tree_now}
 use Rattle.hgs_recover.specs.Answer.{recovered_text, status_of as recover_status}
 use Rattle.hgs_recover.specs.Found.{answer_in}

@@ -1,17 +1,17 @@
 -- What a question writes, and whether it ends in a refusal.
 use Rattle.std.specs.Prelude.{ℕ, zero, suc, List, [], ◌∷◌, ◌++◌, length, slice_get, Option, Some, None, Result, Ok, Err}
 use Rattle.hgs_files.specs.Tree.{Tree}
-use Rattle.hgs_reader.specs.declared.answer.ReadAnswer.{ReadAnswer}
+use Rattle.hgs_load.specs.declared.answer.ReadAnswer.{ReadAnswer}
 use Rattle.hgs_model.specs.Phase.{phase_name}
 use Rattle.hgs_model.specs.declared.phase.Phase.{Phase}
-use Rattle.hgs_reader.specs.Asks.{Asks, answer, at_rest}
+use Rattle.hgs_load.specs.Asks.{Asks, answer, at_rest}
 use Rattle.hgs_reader.specs.Contents.{files_asks, cat_asks}
 use Rattle.hgs_reader.specs.Heads.{heads_text}
 use Rattle.hgs_reader.specs.Line.{line_asks}
 use Rattle.hgs_reader.specs.Names.{named}
 use Rattle.hgs_reader.specs.Shown.{marks_text, parents_text}
-use Rattle.hgs_reader.specs.View.{View}
-use Rattle.hgs_reader.specs.Open.{open_asks}
+use Rattle.hgs_load.specs.View.{View}
+use Rattle.hgs_load.specs.Open.{open_asks}
 use Rattle.hgs_top.specs.declared.contents.About.{About}
 use Rattle.hgs_top.specs.declared.contents.About.TheVariants.{Files, Body, AtPhase}
 use Rattle.hgs_top.specs.declared.listing.Listing.{Listing}

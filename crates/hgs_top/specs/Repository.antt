@@ -4,7 +4,7 @@ use Rattle.hgs_files.specs.declared.op.Op.{Op}
 use Rattle.hgs_files.specs.Tree.{Tree}
 use Rattle.hgs_model.specs.Names.{named}
 use Rattle.hgs_model.specs.Repo.{Repo}
-use Rattle.hgs_reader.specs.declared.answer.ReadAnswer.TheVariants.{UnknownPath}
+use Rattle.hgs_load.specs.declared.answer.ReadAnswer.TheVariants.{UnknownPath}
 use Rattle.hgs_shown.specs.Answers.{IsReadable, body_at, bookmarks_text, files_text_of, heads_text, log_text, parents_text, phase_text}
 use Rattle.hgs_top.specs.Outcome.{Reply, told, unknown_revision, refused}
 use Rattle.hgs_top.specs.Pages.{page_outcome}

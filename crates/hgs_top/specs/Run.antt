@@ -6,9 +6,9 @@ use Rattle.hgs_files.specs.declared.streams.IoFault.{IoFault}
 use Rattle.hgs_files.specs.declared.streams.IoFault.TheVariants as io_faults
 use Rattle.hgs_files.specs.Streams.{IsWritten}
 use Rattle.hgs_files.specs.Tree.{Tree, after_all}
-use Rattle.hgs_reader.specs.declared.answer.ReadAnswer.{ReadAnswer}
-use Rattle.hgs_reader.specs.declared.answer.ReadAnswer.TheVariants.{Fault, Memory}
-use Rattle.hgs_reader.specs.Answer.{status_of, refusal_line, is_of_outside}
+use Rattle.hgs_load.specs.declared.answer.ReadAnswer.{ReadAnswer}
+use Rattle.hgs_load.specs.declared.answer.ReadAnswer.TheVariants.{Fault, Memory}
+use Rattle.hgs_load.specs.Answer.{status_of, refusal_line, is_of_outside}
 use Rattle.hgs_top.specs.declared.stopped.Stopped.{Stopped}
 use Rattle.hgs_top.specs.declared.stopped.Stopped.TheVariants.{Refused, Unwritten}
 use Rattle.hgs_top.specs.declared.stopped.Said.{Said}

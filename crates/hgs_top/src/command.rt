@@ -4,8 +4,8 @@ ghost use Rattle.std.specs.Result.{result_map_both};
 ghost use Rattle.hgs_files.specs.Reads.{Rose};
 ghost use Rattle.hgs_files.specs.Streams.{IsWritten};
 ghost use Rattle.hgs_files.specs.declared.streams.IoFault.TheVariants.{Failed};
-ghost use Rattle.hgs_reader.specs.declared.answer.ReadAnswer.TheVariants.{Fault};
-ghost use Rattle.hgs_reader.specs.Answer.{refusal_line, status_of};
+ghost use Rattle.hgs_load.specs.declared.answer.ReadAnswer.TheVariants.{Fault};
+ghost use Rattle.hgs_load.specs.Answer.{refusal_line, status_of};
 ghost use Rattle.hgs_top.specs.Run.{IsOneOf, OfReply, IsReplied, Replied, SaysBadWord, Concludes, bad_word_line, EndsLine, status_of_sink};
 ghost use Rattle.hgs_top.specs.Words.{question_of};
 
@@ -17,8 +17,8 @@ use crate::stopped::{Said, Stopped};
 use crate::words::Command;
 use hgs_files::files::{Files, Reads};
 use hgs_files::streams::{IoFault, Sink};
+use hgs_load::answer::ReadAnswer;
 use hgs_plan::print::push_number;
-use hgs_reader::answer::ReadAnswer;
 use std::alloc::{AllocError, Global};
 
 // The line of want of memory, which takes none.

@@ -2,9 +2,9 @@
 ghost use Rattle.std.specs.Prelude.{◌≡◌, ◌≤◌, ◌<◌, ◌++◌, length, slice_get, OnOk, OnErr, Err, true};
 ghost use Rattle.hgs_files.specs.Reads.{Grows, Rose};
 ghost use Rattle.hgs_files.specs.declared.streams.IoFault.TheVariants.{Failed};
-ghost use Rattle.hgs_reader.specs.declared.answer.ReadAnswer.TheVariants.{Fault};
-ghost use Rattle.hgs_reader.specs.Answer.{HasFaultCause};
-ghost use Rattle.hgs_reader.specs.Asks.{AddsAnswer};
+ghost use Rattle.hgs_load.specs.declared.answer.ReadAnswer.TheVariants.{Fault};
+ghost use Rattle.hgs_load.specs.Answer.{HasFaultCause};
+ghost use Rattle.hgs_load.specs.Asks.{AddsAnswer};
 ghost use Rattle.hgs_top.specs.Outcome.{contents_asks, contents_reply, phase_text, subject_of};
 ghost use Rattle.hgs_top.specs.Run.{OfTree, IsReplied};
 
@@ -12,7 +12,7 @@ use crate::log::write_last;
 use crate::stopped::{Said, Stopped};
 use hgs_files::files::Reads;
 use hgs_files::streams::Sink;
-use hgs_reader::answer::ReadAnswer;
+use hgs_load::answer::ReadAnswer;
 use hgs_reader::session::Session;
 use std::alloc::{AllocError, Global};
 

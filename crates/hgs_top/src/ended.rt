@@ -5,9 +5,9 @@ ghost use Rattle.hgs_top.specs.Orders.{abort_line, ended_status, ended_text, rec
 use hgs_answers::answer::Answer;
 use hgs_files::files::FileFault;
 use hgs_input::fault::InputFault;
+use hgs_load::answer::{ReadAnswer, of_files};
 use hgs_model::command::Command;
 use hgs_plan::print::push_number;
-use hgs_reader::answer::{ReadAnswer, of_files};
 use hgs_recover::answer::Recovered;
 use std::alloc::{AllocError, Global};
 

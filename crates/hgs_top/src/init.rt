@@ -4,14 +4,13 @@ ghost use Rattle.hgs_files.specs.Files.{GoesOn};
 ghost use Rattle.hgs_files.specs.Reads.{Rose};
 ghost use Rattle.hgs_files.specs.declared.files.FileFault.TheVariants.{Failed};
 ghost use Rattle.hgs_files.specs.declared.op.Op.{Op};
-ghost use Rattle.hgs_reader.specs.Open.{requires_path};
+ghost use Rattle.hgs_load.specs.Open.{requires_path};
 ghost use Rattle.hgs_top.specs.Orders.{ComesTo, HasCause, LeavesInit, new_requires_path};
 ghost use Rattle.hgs_top.specs.Words.{do_init};
 
 use crate::ended::Ended;
 use hgs_files::files::{FileFault, Files};
-use hgs_files::path::StorePath;
-use hgs_reader::paths::path_of;
+use hgs_files::path::{StorePath, path_of};
 use std::alloc::{AllocError, Global};
 
 /// The words of a new repository, one on each line.

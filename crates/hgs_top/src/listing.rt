@@ -2,7 +2,7 @@
 ghost use Rattle.std.specs.Prelude.{◌≡◌, ◌≤◌, ◌++◌, Err, true, OnOk, OnErr};
 ghost use Rattle.hgs_files.specs.Reads.{Grows, Rose};
 ghost use Rattle.hgs_files.specs.declared.streams.IoFault.TheVariants.{Failed};
-ghost use Rattle.hgs_reader.specs.declared.answer.ReadAnswer.TheVariants.{Fault};
+ghost use Rattle.hgs_load.specs.declared.answer.ReadAnswer.TheVariants.{Fault};
 ghost use Rattle.hgs_top.specs.Outcome.{listing_outcome, listing_text};
 ghost use Rattle.hgs_top.specs.Run.{OfTree, IsTold};
 
@@ -10,7 +10,7 @@ use crate::log::write_last;
 use crate::stopped::Stopped;
 use hgs_files::files::Reads;
 use hgs_files::streams::Sink;
-use hgs_reader::answer::ReadAnswer;
+use hgs_load::answer::ReadAnswer;
 use hgs_reader::session::Session;
 use std::alloc::{AllocError, Global};
 

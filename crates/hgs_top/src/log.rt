@@ -3,7 +3,7 @@ ghost use Rattle.std.specs.Prelude.{◌≡◌, ◌≤◌, Err, true, List, ℕ, 
 ghost use Rattle.hgs_files.specs.Streams.{IsWritten};
 ghost use Rattle.hgs_files.specs.Reads.{Grows, Rose};
 ghost use Rattle.hgs_files.specs.declared.streams.IoFault.TheVariants.{Failed};
-ghost use Rattle.hgs_reader.specs.declared.answer.ReadAnswer.TheVariants.{Fault};
+ghost use Rattle.hgs_load.specs.declared.answer.ReadAnswer.TheVariants.{Fault};
 ghost use Rattle.hgs_top.specs.Outcome.{log_outcome, lines_of_view};
 ghost use Rattle.hgs_top.specs.Run.{OfTree, IsTold, IsCut, IsGathered, IsUnwritten, StopsAt};
 
@@ -11,7 +11,7 @@ use crate::output::write_all;
 use crate::stopped::Stopped;
 use hgs_files::files::Reads;
 use hgs_files::streams::{IoFault, Sink};
-use hgs_reader::answer::ReadAnswer;
+use hgs_load::answer::ReadAnswer;
 use hgs_reader::session::Session;
 use std::alloc::Global;
 

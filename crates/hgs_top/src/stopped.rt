@@ -1,6 +1,6 @@
 //! What a command came to.
 use hgs_files::streams::IoFault;
-use hgs_reader::answer::ReadAnswer;
+use hgs_load::answer::ReadAnswer;
 
 /// Why a command did not come to its end.
 #[derive(Debug, Drop)]

@@ -8,7 +8,7 @@ use Rattle.hgs_files.specs.Tree.{Tree, after_all, bytes_at}
 use Rattle.hgs_findings.specs.OnePath.{Word}
 use Rattle.hgs_judge.specs.declared.path.PathFindings.{PathFindings}
 use Rattle.hgs_judge.specs.Path.{IsJudged}
-use Rattle.hgs_reader.specs.Asks.{part_of}
+use Rattle.hgs_load.specs.Asks.{part_of}
 
 take-whole : (xs : List ℕ) (i : ℕ) → length xs ≤ i → take i xs ≡ xs
 take-whole [] zero h = refl

@@ -3,7 +3,7 @@ ghost use Rattle.std.specs.Prelude.{◌≡◌, ◌<◌, ◌^◌, length, IfOk, t
 ghost use Rattle.hgs_files.specs.Reads.{Grows};
 ghost use Rattle.hgs_path.specs.declared.name.Ext.TheVariants.{I, D};
 ghost use Rattle.hgs_path.specs.StoreName.{store_name};
-ghost use Rattle.hgs_reader.specs.Answer.{HasFaultCause, is_fault};
+ghost use Rattle.hgs_load.specs.Answer.{HasFaultCause, is_fault};
 ghost use Rattle.hgs_judge.specs.Words.{words_in};
 ghost use Rattle.hgs_verify.specs.Filelog.{IsJudgedIn, OfTree};
 
@@ -12,9 +12,9 @@ use hgs_files::files::Reads;
 use hgs_files::path::StorePath;
 use hgs_judge::path::{PathFindings, judge_path};
 use hgs_judge::words::Word;
+use hgs_load::answer::ReadAnswer;
+use hgs_load::ask::bytes_of;
 use hgs_path::name::{Ext, store_name};
-use hgs_reader::answer::ReadAnswer;
-use hgs_reader::ask::bytes_of;
 use hgs_revlog::fault::RevFault;
 use std::alloc::Global;
 

@@ -2,7 +2,7 @@
 ghost use Rattle.std.specs.Prelude.{◌≡◌, ◌++◌, ◌<◌, ◌^◌, length, IfOk, OnOk, true};
 ghost use Rattle.hgs_files.specs.Reads.{Grows};
 ghost use Rattle.hgs_files.specs.Tree.{Tree};
-ghost use Rattle.hgs_reader.specs.Answer.{HasFaultCause};
+ghost use Rattle.hgs_load.specs.Answer.{HasFaultCause};
 ghost use Rattle.hgs_judge.specs.Report.{findings_in, of_path};
 ghost use Rattle.hgs_judge.specs.Words.{words_in};
 ghost use Rattle.hgs_findings.specs.OnePath as findings;
@@ -19,7 +19,7 @@ use hgs_judge::path::PathFindings;
 use hgs_judge::report::{Finding, add_path};
 use hgs_judge::trees::words;
 use hgs_judge::words::Word;
-use hgs_reader::answer::ReadAnswer;
+use hgs_load::answer::ReadAnswer;
 use std::alloc::{AllocError, Global};
 
 /// Revisions and changesets have numbers below this.

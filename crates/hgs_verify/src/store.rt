@@ -1,7 +1,7 @@
 //! What is read of a store before its filelogs: the changelog, the manifest, and what their texts say.
 ghost use Rattle.std.specs.Prelude.{◌≡◌, [], unwrap_or, IfOk, true};
 ghost use Rattle.hgs_files.specs.Reads.{Grows};
-ghost use Rattle.hgs_reader.specs.Answer.{HasFaultCause};
+ghost use Rattle.hgs_load.specs.Answer.{HasFaultCause};
 ghost use Rattle.hgs_files.specs.Tree.{Tree};
 ghost use Rattle.hgs_judge.specs.Read.{AreRead};
 ghost use Rattle.hgs_stands.specs.Places.{changelog_data, changelog_index, manifest_data, manifest_index};
@@ -12,14 +12,13 @@ use crate::filelog::of_refusal;
 use crate::whole::read_file;
 use hgs_bytes::bytes::Bytes;
 use hgs_files::files::Reads;
-use hgs_files::path::StorePath;
+use hgs_files::path::{StorePath, path_of};
 use hgs_judge::changesets::{Changeset, read_changesets};
 use hgs_judge::reading::{Reading, read};
 use hgs_judge::trees::read_trees;
+use hgs_load::answer::ReadAnswer;
+use hgs_load::ask::bytes_of;
 use hgs_manifest::manifest::Manifest;
-use hgs_reader::answer::ReadAnswer;
-use hgs_reader::ask::bytes_of;
-use hgs_reader::paths::path_of;
 use hgs_revlog::fault::RevFault;
 use std::alloc::Global;
 

@@ -1,7 +1,7 @@
 //! The paths of a store, one after another.
 ghost use Rattle.std.specs.Prelude.{◌≡◌, OnOk, true};
 ghost use Rattle.hgs_files.specs.Reads.{Grows};
-ghost use Rattle.hgs_reader.specs.Answer.{HasFaultCause};
+ghost use Rattle.hgs_load.specs.Answer.{HasFaultCause};
 ghost use Rattle.hgs_judge.specs.Report.{findings_in};
 ghost use Rattle.hgs_verify.specs.Filelog.{OfTree};
 ghost use Rattle.hgs_verify.specs.Store.{IsStoreOf};
@@ -12,7 +12,7 @@ use crate::store::Store;
 use hgs_bytes::bytes::Bytes;
 use hgs_files::files::Reads;
 use hgs_judge::report::Finding;
-use hgs_reader::answer::ReadAnswer;
+use hgs_load::answer::ReadAnswer;
 use std::alloc::Global;
 use std::collections::BTreeSet;
 

@@ -2,13 +2,13 @@
 ghost use Rattle.std.specs.Prelude.{◌≡◌, IfOk, IfSome, true};
 ghost use Rattle.hgs_files.specs.Reads.{Grows};
 ghost use Rattle.hgs_files.specs.Tree.{after_all};
-ghost use Rattle.hgs_reader.specs.Answer.{HasFaultCause};
+ghost use Rattle.hgs_load.specs.Answer.{HasFaultCause};
 
 use hgs_bytes::bytes::Bytes;
 use hgs_files::files::Reads;
 use hgs_files::path::StorePath;
-use hgs_reader::answer::ReadAnswer;
-use hgs_reader::ask::{bytes_of, read_part};
+use hgs_load::answer::ReadAnswer;
+use hgs_load::ask::{bytes_of, read_part};
 use std::alloc::Global;
 
 /// More bytes than any memory has.

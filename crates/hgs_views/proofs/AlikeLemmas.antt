@@ -13,7 +13,7 @@ use Rattle.hgs_phases.specs.Phases.{history_of}
 use Rattle.hgs_revlog.specs.Log.{nodes_of, place_of}
 use Rattle.hgs_reader.specs.Heads.{is_parent, has_parent, head_line, line_unless, heads_from, heads_text}
 use Rattle.hgs_reader.specs.Shown.{shown_mark, marks_shown, marks_text, line_of_entry, parent_shown, parents_text}
-use Rattle.hgs_reader.specs.View.{View}
+use Rattle.hgs_load.specs.View.{View}
 use Rattle.hgs_stands.specs.Places.{changelog_index, changelog_data}
 use Rattle.hgs_shown.specs.Shown.{IsViewOf}
 use Rattle.hgs_views.proofs.Below.{NodesLaw, ParentsLaw, PlaceLaw}

@@ -31,14 +31,14 @@ use Rattle.hgs_revlog.specs.Held.{Agrees, AreWithinLimits, EndsFirstAt, chunk_in
 use Rattle.hgs_revlog.specs.Load.{loaded}
 use Rattle.hgs_revlog.specs.Log.{Log, nodes_of, place_of}
 use Rattle.hgs_revlog.specs.Text.{text_of}
-use Rattle.hgs_reader.specs.declared.answer.ReadAnswer.{ReadAnswer}
-use Rattle.hgs_reader.specs.Asks.{at_rest, MayAnswer}
+use Rattle.hgs_load.specs.declared.answer.ReadAnswer.{ReadAnswer}
+use Rattle.hgs_load.specs.Asks.{at_rest, MayAnswer}
 use Rattle.hgs_reader.specs.Find.{has_node, text_asks}
 use Rattle.hgs_reader.specs.Held.{HasText}
 use Rattle.hgs_reader.specs.Line.{change_asks}
-use Rattle.hgs_reader.specs.Marks.{working_answer}
-use Rattle.hgs_reader.specs.Open.{most_requires, requires_path, requires_asks, bookmarks_asks, dirstate_asks, roots_asks}
-use Rattle.hgs_reader.specs.View.{View}
+use Rattle.hgs_load.specs.Marks.{working_answer}
+use Rattle.hgs_load.specs.Open.{most_requires, requires_path, requires_asks, bookmarks_asks, dirstate_asks, roots_asks}
+use Rattle.hgs_load.specs.View.{View}
 use Rattle.hgs_stands.specs.Places.{changelog_data, own_files}
 use Rattle.hgs_stands.specs.Requires.{IsInProfile}
 use Rattle.hgs_stands.specs.Shows.{BeginsAt, Shows}

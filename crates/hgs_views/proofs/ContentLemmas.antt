@@ -30,13 +30,13 @@ use Rattle.hgs_revlog.specs.Held.{AreWithinLimits, chunk_in, read_all}
 use Rattle.hgs_revlog.specs.Load.{loaded, most_text}
 use Rattle.hgs_revlog.specs.Log.{Log}
 use Rattle.hgs_revlog.specs.Text.{text_of}
-use Rattle.hgs_reader.specs.declared.answer.ReadAnswer.{ReadAnswer}
-use Rattle.hgs_reader.specs.declared.answer.ReadAnswer.TheVariants.{Limit, UnknownPath}
-use Rattle.hgs_reader.specs.Asks.{Asks, answer, at_rest, then_asks, MayAnswer}
+use Rattle.hgs_load.specs.declared.answer.ReadAnswer.{ReadAnswer}
+use Rattle.hgs_load.specs.declared.answer.ReadAnswer.TheVariants.{Limit, UnknownPath}
+use Rattle.hgs_load.specs.Asks.{Asks, answer, at_rest, then_asks, MayAnswer}
 use Rattle.hgs_reader.specs.Contents.{most_files, most_file_text, rows_answer, rows_asks, tree_asks, files_text, files_asks, tracked_node, file_node, body_answer, body_asks, cat_asks}
 use Rattle.hgs_reader.specs.Find.{text_asks}
 use Rattle.hgs_reader.specs.Line.{chunk_asks, change_asks, change_at, change_of_chunk, change_of_text, line_asks, line_at, line_of_entry, line_of_change, line_text}
-use Rattle.hgs_reader.specs.View.{View}
+use Rattle.hgs_load.specs.View.{View}
 use Rattle.hgs_stands.specs.Places.{changelog_index, changelog_data, manifest_index, manifest_data}
 use Rattle.hgs_shown.specs.Limits.{IsSmallTree}
 use Rattle.hgs_shown.specs.Found.{HasPathOf, IsFound}

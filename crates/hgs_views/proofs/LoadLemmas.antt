@@ -16,12 +16,12 @@ use Rattle.hgs_revlog.specs.declared.fault.Tail.TheVariants.{Ignore, Refuse}
 use Rattle.hgs_revlog.specs.Held.{Agrees, AreWithinLimits, read_all}
 use Rattle.hgs_revlog.specs.Load.{loaded}
 use Rattle.hgs_revlog.specs.Log.{Log}
-use Rattle.hgs_reader.specs.declared.answer.ReadAnswer.{ReadAnswer}
-use Rattle.hgs_reader.specs.Asks.{Asks, answer, then_asks, MayAnswer}
-use Rattle.hgs_reader.specs.Marks.{Nodes, bookmarks_answer, dirstate_answer, roots_answer, working_answer}
-use Rattle.hgs_reader.specs.Open.{requires_path, most_requires, most_bookmarks_text, most_dirstate, most_roots, bookmarks_asks, dirstate_asks, log_asks, roots_asks, log_of, view_with, view_of, open_asks}
-use Rattle.hgs_reader.specs.Requirements.{requires_answer}
-use Rattle.hgs_reader.specs.View.{View, log_answer, most_pieces, piece_length}
+use Rattle.hgs_load.specs.declared.answer.ReadAnswer.{ReadAnswer}
+use Rattle.hgs_load.specs.Asks.{Asks, answer, then_asks, MayAnswer}
+use Rattle.hgs_load.specs.Marks.{Nodes, bookmarks_answer, dirstate_answer, roots_answer, working_answer}
+use Rattle.hgs_load.specs.Open.{requires_path, most_requires, most_bookmarks_text, most_dirstate, most_roots, bookmarks_asks, dirstate_asks, log_asks, roots_asks, log_of, view_with, view_of, open_asks}
+use Rattle.hgs_load.specs.Requirements.{requires_answer}
+use Rattle.hgs_load.specs.View.{View, log_answer, most_pieces, piece_length}
 use Rattle.hgs_stands.specs.Places.{bookmarks_path, dirstate_path, roots_path, changelog_index, changelog_data}
 use Rattle.hgs_stands.specs.Stands.{changeset_entries, mark_of}
 use Rattle.hgs_shown.specs.Shown.{working_nodes}

@@ -7,10 +7,10 @@ use Rattle.std.proofs.lemmas.List.{take-append-drop, take_all, length-take}
 use Rattle.hgs_bytes.specs.Bytes.{IsPrefixOf}
 use Rattle.hgs_files.specs.declared.op.Op.{Op}
 use Rattle.hgs_files.specs.Tree.{Tree, bytes_at, after_all}
-use Rattle.hgs_reader.specs.declared.answer.ReadAnswer.{ReadAnswer}
-use Rattle.hgs_reader.specs.Asks.{Asks, answer, part_of, at_rest, then_asks, MayAnswer}
-use Rattle.hgs_reader.specs.View.{pieces_then, piece_length, most_pieces}
-use Rattle.hgs_reader.specs.Whole.{within, whole_asks}
+use Rattle.hgs_load.specs.declared.answer.ReadAnswer.{ReadAnswer}
+use Rattle.hgs_load.specs.Asks.{Asks, answer, part_of, at_rest, then_asks, MayAnswer}
+use Rattle.hgs_load.specs.View.{pieces_then, piece_length, most_pieces}
+use Rattle.hgs_load.specs.Whole.{within, whole_asks}
 use Rattle.hgs_views.specs.Course.{IsBetween}
 use Rattle.hgs_views.specs.Moments.{WholeStays}
 use Rattle.hgs_views.proofs.Basics.{prefix-trans, part_is, may-front}

@@ -11,11 +11,11 @@ use Rattle.hgs_files.specs.Tree.{Tree, bytes_at, after_all}
 use Rattle.hgs_index.specs.declared.entry.Entry.{Entry}
 use Rattle.hgs_revlog.specs.Log.{Log}
 use Rattle.hgs_revlog.specs.Text.{text_of}
-use Rattle.hgs_reader.specs.declared.answer.ReadAnswer.{ReadAnswer}
-use Rattle.hgs_reader.specs.Asks.{Asks, answer, read, part_of, at_rest, then_asks, MayAnswer}
+use Rattle.hgs_load.specs.declared.answer.ReadAnswer.{ReadAnswer}
+use Rattle.hgs_load.specs.Asks.{Asks, answer, read, part_of, at_rest, then_asks, MayAnswer}
 use Rattle.hgs_reader.specs.Find.{has_node, is_last_of, bytes_until, text_at_asks, text_answer}
 use Rattle.hgs_reader.specs.Line.{chunk_asks}
-use Rattle.hgs_reader.specs.View.{piece_length}
+use Rattle.hgs_load.specs.View.{piece_length}
 use Rattle.hgs_views.specs.Course.{IsBetween}
 use Rattle.hgs_views.proofs.Below.{TextLaws}
 use Rattle.hgs_views.proofs.Basics.{prefix-refl, prefix-trans, part_is, may-front}

@@ -11,11 +11,11 @@ use Rattle.hgs_revlog.specs.declared.fault.RevFault.{RevFault}
 use Rattle.hgs_revlog.specs.declared.fault.Tail.TheVariants.{Ignore}
 use Rattle.hgs_revlog.specs.Load.{after, entry_behind, load_from, loaded}
 use Rattle.hgs_revlog.specs.Log.{Log, with_entry}
-use Rattle.hgs_reader.specs.declared.answer.ReadAnswer.{ReadAnswer}
-use Rattle.hgs_reader.specs.Asks.{MayAnswer}
-use Rattle.hgs_reader.specs.Open.{view_of}
-use Rattle.hgs_reader.specs.Refresh.{same_parent, same_lengths, same_links, same_entry, first_changed, unless_changed, view_after, refresh_asks}
-use Rattle.hgs_reader.specs.View.{View}
+use Rattle.hgs_load.specs.declared.answer.ReadAnswer.{ReadAnswer}
+use Rattle.hgs_load.specs.Asks.{MayAnswer}
+use Rattle.hgs_load.specs.Open.{view_of}
+use Rattle.hgs_load.specs.Refresh.{same_parent, same_lengths, same_links, same_entry, first_changed, unless_changed, view_after, refresh_asks}
+use Rattle.hgs_load.specs.View.{View}
 use Rattle.hgs_stands.specs.Places.{changelog_index, changelog_data}
 use Rattle.hgs_views.specs.Course.{Course, IsBetween, IsCourse, OpensAlong, tree_after}
 use Rattle.hgs_views.specs.Seen.{Numbers, NoneFell, AreReadBetween, IsLoadedBetween}

@@ -16,14 +16,14 @@ use Rattle.hgs_model.specs.Names.{named as model_named}
 use Rattle.hgs_model.specs.Repo.{Repo, Changeset, Bookmark, all_parents}
 use Rattle.hgs_revlog.specs.Held.{Agrees}
 use Rattle.hgs_revlog.specs.Log.{nodes_of}
-use Rattle.hgs_reader.specs.declared.answer.ReadAnswer.{ReadAnswer}
-use Rattle.hgs_reader.specs.Answer.{is_of_outside}
-use Rattle.hgs_reader.specs.Asks.{Asks, MayAnswer, Answers, AddsAnswer, AddsGiven}
-use Rattle.hgs_reader.specs.Load.{Refreshes}
+use Rattle.hgs_load.specs.declared.answer.ReadAnswer.{ReadAnswer}
+use Rattle.hgs_load.specs.Answer.{is_of_outside}
+use Rattle.hgs_load.specs.Asks.{Asks, MayAnswer, Answers, AddsAnswer, AddsGiven}
+use Rattle.hgs_load.specs.Load.{Refreshes}
 use Rattle.hgs_reader.specs.Names.{named}
-use Rattle.hgs_reader.specs.Open.{open_asks}
-use Rattle.hgs_reader.specs.Refresh.{refresh_asks}
-use Rattle.hgs_reader.specs.View.{View}
+use Rattle.hgs_load.specs.Open.{open_asks}
+use Rattle.hgs_load.specs.Refresh.{refresh_asks}
+use Rattle.hgs_load.specs.View.{View}
 use Rattle.hgs_stands.specs.Places.{changelog_index, changelog_data}
 use Rattle.hgs_stands.specs.Stands.{mark_of}
 use Rattle.hgs_shown.specs.Shown.{IsViewOf, IsViewOver, shown_repo}

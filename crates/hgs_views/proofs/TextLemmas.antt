@@ -11,11 +11,11 @@ use Rattle.hgs_revlog.specs.declared.fault.Tail.TheVariants.{Until}
 use Rattle.hgs_revlog.specs.Held.{AreWithinLimits}
 use Rattle.hgs_revlog.specs.Load.{loaded}
 use Rattle.hgs_revlog.specs.Log.{Log, place_of}
-use Rattle.hgs_reader.specs.declared.answer.ReadAnswer.{ReadAnswer}
-use Rattle.hgs_reader.specs.Asks.{Asks, answer, at_rest, MayAnswer}
+use Rattle.hgs_load.specs.declared.answer.ReadAnswer.{ReadAnswer}
+use Rattle.hgs_load.specs.Asks.{Asks, answer, at_rest, MayAnswer}
 use Rattle.hgs_reader.specs.Find.{has_node, bytes_until, log_until, text_at_asks, text_asks}
 use Rattle.hgs_reader.specs.Held.{HasText}
-use Rattle.hgs_reader.specs.View.{log_answer, most_pieces}
+use Rattle.hgs_load.specs.View.{log_answer, most_pieces}
 use Rattle.hgs_stands.specs.Stands.{HoldsAt}
 use Rattle.hgs_views.specs.Course.{IsBetween}
 use Rattle.hgs_views.specs.Moments.{StaysAt}

@@ -9,11 +9,11 @@ use Rattle.hgs_index.specs.Manifest.{Row}
 use Rattle.hgs_model.specs.Held.{IsPlacedIn}
 use Rattle.hgs_model.specs.History.{changeset_nodes, history}
 use Rattle.hgs_model.specs.Repo.{Changeset, TreeFile, tree_paths}
-use Rattle.hgs_reader.specs.declared.answer.ReadAnswer.TheVariants.{UnknownPath}
-use Rattle.hgs_reader.specs.Asks.{Asks, MayAnswer}
+use Rattle.hgs_load.specs.declared.answer.ReadAnswer.TheVariants.{UnknownPath}
+use Rattle.hgs_load.specs.Asks.{Asks, MayAnswer}
 use Rattle.hgs_reader.specs.Contents.{tree_asks, files_asks, files_text, cat_asks}
 use Rattle.hgs_reader.specs.Line.{change_asks, line_asks, line_text}
-use Rattle.hgs_reader.specs.View.{View}
+use Rattle.hgs_load.specs.View.{View}
 use Rattle.hgs_stands.specs.Committed.{Tells}
 use Rattle.hgs_views.specs.Course.{Course}
 

@@ -31,8 +31,8 @@ use Rattle.hgs_ops.specs.Stops.{IsBetween}
 use Rattle.hgs_ops.specs.Unhindered.{IsReady}
 use Rattle.hgs_planned.specs.Commits.{AnswersWith}
 use Rattle.hgs_pieces.specs.Made.{IsPieceOf}
-use Rattle.hgs_reader.specs.declared.answer.ReadAnswer.{ReadAnswer}
-use Rattle.hgs_reader.specs.declared.answer.ReadAnswer.TheVariants as reads
+use Rattle.hgs_load.specs.declared.answer.ReadAnswer.{ReadAnswer}
+use Rattle.hgs_load.specs.declared.answer.ReadAnswer.TheVariants as reads
 use Rattle.hgs_stands.specs.Open.{IsOpen}
 use Rattle.hgs_stands.specs.Stands.{Stands}
 use Rattle.hgs_steps.specs.Fault.{is_memory}

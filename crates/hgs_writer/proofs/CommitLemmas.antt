@@ -31,8 +31,8 @@ use Rattle.hgs_path.specs.StoreName.{store_name}
 use Rattle.hgs_planned.specs.Commits.{AnswersWith, CanBeRead}
 use Rattle.hgs_planned.specs.Free.{HasRoomFor, IsFree}
 use Rattle.hgs_planned.specs.Ready.{NeedsNoTest}
-use Rattle.hgs_reader.specs.Answer.{is_of_outside}
-use Rattle.hgs_reader.specs.declared.answer.ReadAnswer.{ReadAnswer}
+use Rattle.hgs_load.specs.Answer.{is_of_outside}
+use Rattle.hgs_load.specs.declared.answer.ReadAnswer.{ReadAnswer}
 use Rattle.hgs_revlog.specs.Held.{AreWithinLimits}
 use Rattle.hgs_revlog.specs.Load.{most_data}
 use Rattle.hgs_stands.specs.Places.{changelog_data, fncache_path, manifest_data}

@@ -9,10 +9,10 @@ use Rattle.hgs_loading.specs.Found.{and_then}
 use Rattle.hgs_loading.specs.Logs.{data_in, index_in, log_in, most_index, whole_log_in}
 use Rattle.hgs_loading.specs.Small.{small_in}
 use Rattle.hgs_loading.specs.Store.{Loaded, loaded_in, loaded_with, logs_in}
-use Rattle.hgs_reader.specs.declared.answer.ReadAnswer.{ReadAnswer}
+use Rattle.hgs_load.specs.declared.answer.ReadAnswer.{ReadAnswer}
 use Rattle.hgs_reader.specs.Contents.{manifest_data, manifest_index}
-use Rattle.hgs_reader.specs.Marks.{working_answer}
-use Rattle.hgs_reader.specs.View.{changelog_data, changelog_index, log_answer}
+use Rattle.hgs_load.specs.Marks.{working_answer}
+use Rattle.hgs_load.specs.View.{changelog_data, changelog_index, log_answer}
 use Rattle.hgs_phases.specs.Phases.{phases_by}
 use Rattle.hgs_revlog.specs.declared.fault.RevFault.{RevFault}
 use Rattle.hgs_revlog.specs.declared.fault.RevFault.TheVariants as faults

@@ -17,12 +17,12 @@ use Rattle.hgs_phases.specs.declared.fault.RootsFault.{RootsFault}
 use Rattle.hgs_phases.specs.declared.roots.Root.{Root}
 use Rattle.hgs_plan.specs.declared.damage.Part.TheVariants as parts
 use Rattle.hgs_reader.specs.Contents.{manifest_data, manifest_index}
-use Rattle.hgs_reader.specs.Marks.{bookmarks_path, dirstate_path, mark_refusal, roots_answer, roots_of, roots_path, working_answer, working_of}
-use Rattle.hgs_reader.specs.Open.{most_bookmarks_text, most_dirstate, most_roots}
-use Rattle.hgs_reader.specs.View.{changelog_data, changelog_index}
-use Rattle.hgs_reader.specs.Whole.{is_above}
-use Rattle.hgs_reader.specs.declared.answer.ReadAnswer.{ReadAnswer}
-use Rattle.hgs_reader.specs.declared.answer.ReadAnswer.TheVariants.{Limit}
+use Rattle.hgs_load.specs.Marks.{bookmarks_path, dirstate_path, mark_refusal, roots_answer, roots_of, roots_path, working_answer, working_of}
+use Rattle.hgs_load.specs.Open.{most_bookmarks_text, most_dirstate, most_roots}
+use Rattle.hgs_load.specs.View.{changelog_data, changelog_index}
+use Rattle.hgs_load.specs.Whole.{is_above}
+use Rattle.hgs_load.specs.declared.answer.ReadAnswer.{ReadAnswer}
+use Rattle.hgs_load.specs.declared.answer.ReadAnswer.TheVariants.{Limit}
 use Rattle.hgs_revlog.specs.Load.{loaded}
 use Rattle.hgs_revlog.specs.Log.{Log}
 use Rattle.hgs_revlog.specs.declared.fault.Tail.TheVariants.{Refuse}

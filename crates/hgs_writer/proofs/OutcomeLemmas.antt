@@ -26,13 +26,13 @@ use Rattle.hgs_model.specs.declared.command.NewChange.{NewChange}
 use Rattle.hgs_model.specs.declared.command.Refusal.{Refusal}
 use Rattle.hgs_model.specs.declared.command.Refusal.TheVariants as refusals
 use Rattle.hgs_ops.specs.Operations.{lock_path, wlock_path}
-use Rattle.hgs_reader.specs.declared.answer.ReadAnswer.{ReadAnswer}
-use Rattle.hgs_reader.specs.declared.answer.ReadAnswer.TheVariants as reads
-use Rattle.hgs_reader.specs.Answer.{is_of_outside}
+use Rattle.hgs_load.specs.declared.answer.ReadAnswer.{ReadAnswer}
+use Rattle.hgs_load.specs.declared.answer.ReadAnswer.TheVariants as reads
+use Rattle.hgs_load.specs.Answer.{is_of_outside}
 use Rattle.hgs_revlog.specs.Held.{AreWithinLimits}
 use Rattle.hgs_model.specs.History.{history}
 use Rattle.hgs_stands.specs.Places.{bookmarks_path, changelog_data, dirstate_path, fncache_path, manifest_data, roots_path}
-use Rattle.hgs_reader.specs.Open.{most_bookmarks_text, most_dirstate, most_roots}
+use Rattle.hgs_load.specs.Open.{most_bookmarks_text, most_dirstate, most_roots}
 use Rattle.hgs_loading.specs.Small.{most_fncache}
 use Rattle.hgs_stands.specs.Stands.{Stands}
 use Rattle.hgs_steps.specs.Fault.{is_memory}

@@ -12,7 +12,7 @@ use Rattle.hgs_journal.specs.Names.{backups_path, journal_path}
 use Rattle.hgs_journal.specs.Texts.{backups_text, journal_text}
 use Rattle.hgs_machine.specs.Sound.{AreOnce, AreSound, IsPublished}
 use Rattle.hgs_ops.specs.Replaced.{backup_put, new_put, new_rename}
-use Rattle.hgs_reader.specs.View.{changelog_index}
+use Rattle.hgs_load.specs.View.{changelog_index}
 use Rattle.hgs_revlog.specs.Log.{Log}
 use Rattle.hgs_transaction.specs.Assembled.{before_publishing, preparing, texts_put}
 use Rattle.hgs_transaction.specs.declared.parts.Change.{Change}

@@ -23,12 +23,12 @@ use Rattle.hgs_path.specs.Fncache.{as_files, files_of, lists}
 use Rattle.hgs_phases.specs.Phases.{phases_by}
 use Rattle.hgs_plan.specs.declared.damage.Part.TheVariants as parts
 use Rattle.hgs_reader.specs.Contents.{manifest_data, manifest_index}
-use Rattle.hgs_reader.specs.Marks.{bookmarks_path, dirstate_path, mark_refusal, roots_answer, roots_of, roots_path, working_answer}
-use Rattle.hgs_reader.specs.Open.{most_bookmarks_text, most_dirstate, most_roots}
-use Rattle.hgs_reader.specs.View.{changelog_data, changelog_index, log_answer, revlog_refusal}
-use Rattle.hgs_reader.specs.Whole.{is_above}
-use Rattle.hgs_reader.specs.declared.answer.ReadAnswer.{ReadAnswer}
-use Rattle.hgs_reader.specs.declared.answer.ReadAnswer.TheVariants.{Limit}
+use Rattle.hgs_load.specs.Marks.{bookmarks_path, dirstate_path, mark_refusal, roots_answer, roots_of, roots_path, working_answer}
+use Rattle.hgs_load.specs.Open.{most_bookmarks_text, most_dirstate, most_roots}
+use Rattle.hgs_load.specs.View.{changelog_data, changelog_index, log_answer, revlog_refusal}
+use Rattle.hgs_load.specs.Whole.{is_above}
+use Rattle.hgs_load.specs.declared.answer.ReadAnswer.{ReadAnswer}
+use Rattle.hgs_load.specs.declared.answer.ReadAnswer.TheVariants.{Limit}
 use Rattle.hgs_revlog.specs.Held.{Agrees, AreWithinLimits, read_all}
 use Rattle.hgs_revlog.specs.Load.{loaded, most_revisions}
 use Rattle.hgs_revlog.specs.Log.{Log, nodes_of, stored_sum}

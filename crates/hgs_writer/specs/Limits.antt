@@ -4,7 +4,7 @@ use Rattle.hgs_files.specs.Tree.{Tree, bytes_at}
 use Rattle.hgs_loading.specs.Small.{most_fncache}
 use Rattle.hgs_model.specs.History.{history}
 use Rattle.hgs_model.specs.Repo.{Repo}
-use Rattle.hgs_reader.specs.Open.{most_bookmarks_text, most_dirstate, most_roots}
+use Rattle.hgs_load.specs.Open.{most_bookmarks_text, most_dirstate, most_roots}
 use Rattle.hgs_revlog.specs.Held.{AreWithinLimits}
 use Rattle.hgs_stands.specs.Places.{bookmarks_path, changelog_data, dirstate_path, fncache_path, manifest_data, roots_path}
 

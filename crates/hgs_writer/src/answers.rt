@@ -6,11 +6,11 @@ use hgs_answers::answer::Answer;
 use hgs_answers::outcome::{Outcome, Published};
 use hgs_commit::fault::CommitFault;
 use hgs_index::node::Node;
+use hgs_load::answer::ReadAnswer;
 use hgs_machine::ended;
 use hgs_machine::ended::Short;
 use hgs_machine::locks::{LockRefusal, NotLocked};
 use hgs_model::command::Refusal;
-use hgs_reader::answer::ReadAnswer;
 use hgs_steps::fault::PlanFault;
 
 /// What a command came to whose files could not be read. A file that is missed and what a repository requires are looked

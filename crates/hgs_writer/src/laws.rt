@@ -20,7 +20,7 @@ ghost use Rattle.hgs_model.specs.declared.command.Command.{Command};
 ghost use Rattle.hgs_model.specs.declared.command.Refusal.{Refusal};
 ghost use Rattle.hgs_ops.specs.Unhindered.{IsReady};
 ghost use Rattle.hgs_pieces.specs.Made.{HasNoLocks, HasNoStrays};
-ghost use Rattle.hgs_reader.specs.View.{changelog_index};
+ghost use Rattle.hgs_load.specs.View.{changelog_index};
 ghost use Rattle.hgs_revlog.specs.Log.{Log};
 ghost use Rattle.hgs_revlog.specs.Loaded.{AreEntries};
 ghost use Rattle.hgs_stands.specs.Stands.{IsClean, Stands};

@@ -6,7 +6,7 @@ ghost use Rattle.hgs_machine.specs.Planned.{IsPlanned};
 ghost use Rattle.hgs_machine.specs.Sound.{AreSound};
 ghost use Rattle.hgs_index.specs.MarkName.{is_mark_name};
 ghost use Rattle.hgs_model.specs.Valid.{IsNewChange, IsValid};
-ghost use Rattle.hgs_reader.specs.View.{changelog_index};
+ghost use Rattle.hgs_load.specs.View.{changelog_index};
 ghost use Rattle.hgs_revlog.specs.Loaded.{AreEntries};
 ghost use Rattle.hgs_steps.specs.Steps.{CanBeAssembled, mark_of, move_of, planned as planned_of, unmark_of};
 ghost use Rattle.hgs_loading.specs.Store.{view_store};

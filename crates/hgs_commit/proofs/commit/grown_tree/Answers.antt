@@ -8,7 +8,7 @@ use Rattle.hgs_loading.specs.Parent.{Files, view_parent}
 use Rattle.hgs_model.specs.History.{manifest_parents_of}
 use Rattle.hgs_model.specs.declared.files.NewFile.{NewFile}
 use Rattle.hgs_path.specs.Fncache.{listing}
-use Rattle.hgs_reader.specs.Answer.{is_of_outside}
+use Rattle.hgs_load.specs.Answer.{is_of_outside}
 use Rattle.hgs_commit.specs.Commit.{ClashOn, grown_in, parent_files, trees_in, view_grown}
 use Rattle.hgs_commit.specs.NewTree.{tree_of}
 use Rattle.hgs_commit.specs.Obstacles.{Met, met_of, noting}

@@ -3,7 +3,7 @@ use Rattle.std.specs.Prelude.{⊤}
 use Rattle.std.specs.Bool.{MatchBool}
 use Rattle.hgs_files.specs.Tree.{Tree}
 use Rattle.hgs_index.specs.Revision.{Parents}
-use Rattle.hgs_reader.specs.Answer.{is_of_outside}
+use Rattle.hgs_load.specs.Answer.{is_of_outside}
 use Rattle.hgs_steps.specs.Fault.{is_memory}
 use Rattle.hgs_commit.specs.Commit.{ClashOn, OfTexts, StepsOn, grown_in, planned, texts_in, too_many_marks, trees_in, view_grown, view_texts}
 use Rattle.hgs_commit.specs.declared.fault.CommitFault.TheVariants.{Unread, Refused}

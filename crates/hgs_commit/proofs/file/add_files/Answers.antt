@@ -3,7 +3,7 @@ use Rattle.std.specs.Prelude.{⊤}
 use Rattle.std.specs.Bool.{MatchBool}
 use Rattle.std.specs.Option.{option_map}
 use Rattle.hgs_loading.proofs.FoundLemmas.{either}
-use Rattle.hgs_reader.specs.Answer.{is_of_outside}
+use Rattle.hgs_load.specs.Answer.{is_of_outside}
 use Rattle.hgs_index.specs.Manifest.{Row, last_path}
 use Rattle.hgs_model.specs.declared.files.NewFile.{NewFile}
 use Rattle.hgs_path.specs.Fncache.{listing}

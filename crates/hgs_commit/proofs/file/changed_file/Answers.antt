@@ -5,7 +5,7 @@ use Rattle.std.specs.Option.{option_map}
 use Rattle.hgs_index.specs.FileText.{plain_prefix}
 use Rattle.hgs_index.specs.Revision.{Revision}
 use Rattle.hgs_loading.specs.Found.{and_then}
-use Rattle.hgs_reader.specs.Answer.{is_of_outside}
+use Rattle.hgs_load.specs.Answer.{is_of_outside}
 use Rattle.hgs_commit.specs.Files.{OfFile, changed_in, place_in, view_filelog}
 use Rattle.hgs_commit.specs.Obstacles.{Met, met_of, noted, noting}
 use Rattle.hgs_commit.specs.Texts.{OfLog, revised_in, view_growth}

@@ -3,7 +3,7 @@ use Rattle.std.specs.Prelude.{⊤}
 use Rattle.std.specs.Bool.{MatchBool}
 use Rattle.std.specs.Option.{option_map}
 use Rattle.hgs_path.specs.Fncache.{listing}
-use Rattle.hgs_reader.specs.Answer.{is_of_outside}
+use Rattle.hgs_load.specs.Answer.{is_of_outside}
 use Rattle.hgs_commit.specs.Files.{file_in, filelog_in, view_filelog}
 use Rattle.hgs_commit.specs.Obstacles.{met_of, noting}
 use Rattle.hgs_commit.specs.Walk.{told_of_found}

@@ -2,7 +2,7 @@ use Rattle.std.proofs.Common.{◌≡◌, ◌≤◌, ◌+◌, ◌*◌, length, tr
 use Rattle.std.specs.Prelude.{IfSome}
 use Rattle.hgs_files.specs.Reads.{Grows}
 use Rattle.hgs_files.specs.Tree.{after_all}
-use Rattle.hgs_reader.specs.View.{piece_length}
+use Rattle.hgs_load.specs.View.{piece_length}
 use Rattle.hgs_loading.specs.Logs.{most_index}
 use Rattle.hgs_loading.proofs.IndexLemmas.{IsFront}
 use Rattle.hgs_loading.proofs.logs.read_index.Given as goal

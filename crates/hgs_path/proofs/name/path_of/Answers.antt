@@ -1,14 +1,12 @@
-use Rattle.std.proofs.Common.{◌≡◌, ◌∙◌, ap, ◌++◌, true, false, Err, arith}
+use Rattle.std.proofs.Common.{◌∙◌, ap, ◌++◌, arith}
 use Rattle.std.specs.Prelude.{codes}
 use Rattle.hgs_files.specs.Path.{is_store_path}
 use Rattle.hgs_path.proofs.ShapeLemmas.{encoded-path, small-of}
 use Rattle.hgs_path.proofs.name.path_of.Goals as goal
 
-pub unreachable-requires : goal.unreachable-requires
-unreachable-requires c =
+pub path_of-requires : goal.path_of-requires
+path_of-requires c =
     let small = small-of c.args.name.now (λ i. let h = c.type_inv.name i in omega (arith, h)) in
     let encoded = c.deref.ensures.value ∙ c.in_ok-encoded_name.ensures in
     let bytes = c.deref-2.ensures.value ∙ c.in_ok-extend_from_slice.ensures.items ∙ ap (λ l. l ++ c.deref.result.now) c.in_ok-out.ensures.items ∙ ap (λ l. codes "store/" ++ l) encoded in
-    let good : is_store_path c.deref-2.result.now ≡ true = ap is_store_path bytes ∙ encoded-path c.args.name.now c.args.ext small in
-    let bad : is_store_path c.deref-2.result.now ≡ false = c.new.ensures.shape.0 (c.in-Err-Shape.is ∙ ap Err c.in-Err-Shape.field-0-is) in
-    cc
+    ap is_store_path bytes ∙ encoded-path c.args.name.now c.args.ext small

@@ -1,10 +1,10 @@
 use Rattle.std.proofs.Common.{List, ℕ, Ok, Err, refl, subst}
 use Rattle.hgs_path.specs.StoreName.{store_name}
 use Rattle.hgs_path.specs.declared.name.Ext.TheVariants.{I, D}
-use Rattle.hgs_reader.specs.Asks.{answer, Answers, AddsGiven}
+use Rattle.hgs_load.specs.Asks.{answer, Answers, AddsGiven}
 use Rattle.hgs_reader.specs.Contents.{body_answer}
 use Rattle.hgs_reader.specs.Find.{text_asks}
-use Rattle.hgs_reader.proofs.AskLemmas.{adds-then, adds-refused, adds-given}
+use Rattle.hgs_load.proofs.AskLemmas.{adds-then, adds-refused, adds-given}
 use Rattle.hgs_reader.proofs.contents.add_body.Goals as goal
 
 pub returns-in-Ok-clause-answer : goal.returns-in-Ok-clause-answer

@@ -1,5 +1,5 @@
 use Rattle.hgs_reader.specs.Contents.{file_node, body_asks}
-use Rattle.hgs_reader.proofs.AskLemmas.{adds-behind}
+use Rattle.hgs_load.proofs.AskLemmas.{adds-behind}
 use Rattle.hgs_reader.proofs.contents.add_file.Goals as goal
 
 pub returns-in-Ok-clause-answer : goal.returns-in-Ok-clause-answer

@@ -1,11 +1,11 @@
 use Rattle.std.proofs.Common.{List, ℕ, Ok, Err, sym, ◌∙◌, subst}
 use Rattle.hgs_bytes.specs.Answer.{Gives}
 use Rattle.hgs_index.specs.Manifest.{Row, read_manifest}
-use Rattle.hgs_reader.specs.Answer.{is_of_outside}
-use Rattle.hgs_reader.specs.Asks.{answer, Answers}
+use Rattle.hgs_load.specs.Answer.{is_of_outside}
+use Rattle.hgs_load.specs.Asks.{answer, Answers}
 use Rattle.hgs_reader.specs.Contents.{manifest_index, manifest_data, rows_answer}
 use Rattle.hgs_reader.specs.Find.{text_asks}
-use Rattle.hgs_reader.proofs.AskLemmas.{answers-then, answers-refused, answers-given}
+use Rattle.hgs_load.proofs.AskLemmas.{answers-then, answers-refused, answers-given}
 use Rattle.hgs_reader.proofs.ContentLemmas.{named_rows}
 use Rattle.hgs_reader.proofs.contents.manifest_of.Goals as goal
 

@@ -4,11 +4,11 @@ use Rattle.hgs_bytes.specs.Answer.{Gives}
 use Rattle.hgs_revlog.specs.declared.fault.Tail.TheVariants.{Until}
 use Rattle.hgs_revlog.specs.Load.{loaded}
 use Rattle.hgs_revlog.specs.Log.{Log}
-use Rattle.hgs_reader.specs.Answer.{is_of_outside}
-use Rattle.hgs_reader.specs.Asks.{answer}
+use Rattle.hgs_load.specs.Answer.{is_of_outside}
+use Rattle.hgs_load.specs.Asks.{answer}
 use Rattle.hgs_reader.specs.Find.{bytes_until}
-use Rattle.hgs_reader.specs.View.{most_pieces, log_answer}
-use Rattle.hgs_reader.proofs.AskLemmas.{answers-then, answers-refused, answers-given}
+use Rattle.hgs_load.specs.View.{most_pieces, log_answer}
+use Rattle.hgs_load.proofs.AskLemmas.{answers-then, answers-refused, answers-given}
 use Rattle.hgs_reader.proofs.find.load_until.Goals as goal
 
 pub returns-in-Ok-clause-answer : goal.returns-in-Ok-clause-answer

@@ -1,8 +1,8 @@
 use Rattle.std.proofs.Common.{refl, slice_get, Err}
 use Rattle.hgs_revlog.specs.Text.{text_of}
-use Rattle.hgs_reader.specs.Answer.{is_of_outside}
+use Rattle.hgs_load.specs.Answer.{is_of_outside}
 use Rattle.hgs_reader.specs.Find.{text_answer}
-use Rattle.hgs_reader.proofs.AskLemmas.{either}
+use Rattle.hgs_load.proofs.AskLemmas.{either}
 use Rattle.hgs_reader.proofs.ChunkLemmas.{chunk_read}
 use Rattle.hgs_reader.proofs.find.read_text.Goals as goal
 

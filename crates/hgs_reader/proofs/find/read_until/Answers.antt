@@ -1,8 +1,8 @@
 use Rattle.std.proofs.Common.{refl, sym, ◌∙◌, subst, arith, List, ℕ, []}
-use Rattle.hgs_reader.specs.Asks.{Continues}
+use Rattle.hgs_load.specs.Asks.{Continues}
 use Rattle.hgs_reader.specs.Find.{bytes_until}
-use Rattle.hgs_reader.specs.View.{most_pieces}
-use Rattle.hgs_reader.proofs.AskLemmas.{continues-start, grows-refl, grows-trans}
+use Rattle.hgs_load.specs.View.{most_pieces}
+use Rattle.hgs_load.proofs.AskLemmas.{continues-start, grows-refl, grows-trans}
 use Rattle.hgs_reader.proofs.UntilLemmas.{goes_on, ends, none_left}
 use Rattle.hgs_reader.proofs.find.read_until.Goals as goal
 

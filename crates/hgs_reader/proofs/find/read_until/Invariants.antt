@@ -1,8 +1,8 @@
 use Rattle.std.proofs.Common.{◌≡◌, ◌≤◌, [], true}
 use Rattle.hgs_files.specs.Reads.{Grows}
-use Rattle.hgs_reader.specs.Asks.{Continues}
+use Rattle.hgs_load.specs.Asks.{Continues}
 use Rattle.hgs_reader.specs.Find.{bytes_until}
-use Rattle.hgs_reader.specs.View.{most_pieces}
+use Rattle.hgs_load.specs.View.{most_pieces}
 use Rattle.hgs_reader.proofs.find.read_until.Given as goal
 
 abbrev pub invariant-loop-left : goal.invariant-loop-left

@@ -1,7 +1,7 @@
 use Rattle.std.proofs.Common.{List, ℕ}
 use Rattle.hgs_revlog.specs.Log.{Log, place_of}
 use Rattle.hgs_reader.specs.Find.{log_until, text_at_asks}
-use Rattle.hgs_reader.proofs.AskLemmas.{answers-then, answers-refused}
+use Rattle.hgs_load.proofs.AskLemmas.{answers-then, answers-refused}
 use Rattle.hgs_reader.proofs.find.text_of_node.Goals as goal
 
 pub returns-in-Ok-clause-answer : goal.returns-in-Ok-clause-answer

@@ -1,4 +1,4 @@
-use Rattle.hgs_reader.specs.Answer.{refusal_line, status_of}
+use Rattle.hgs_load.specs.Answer.{refusal_line, status_of}
 use Rattle.hgs_top.proofs.ConcludeLemmas.{no_memory}
 use Rattle.hgs_top.proofs.command.refuse.Goals as goal
 

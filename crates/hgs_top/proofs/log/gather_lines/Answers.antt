@@ -1,6 +1,6 @@
 use Rattle.std.proofs.Common.{◌<◌, ◌-◌, length, arith, refl, sym, ◌∙◌, subst}
-use Rattle.hgs_reader.specs.View.{View}
-use Rattle.hgs_reader.proofs.AskLemmas.{grows-refl, grows-trans}
+use Rattle.hgs_load.specs.View.{View}
+use Rattle.hgs_load.proofs.AskLemmas.{grows-refl, grows-trans}
 use Rattle.hgs_top.proofs.LogLemmas.{at_first, refused_told, next_told, unwritten_told, of_all}
 use Rattle.hgs_top.proofs.log.gather_lines.Goals as goal
 

@@ -4,7 +4,7 @@ use Rattle.hgs_files.specs.Files.{GoesOn}
 use Rattle.hgs_files.specs.Tree.{Tree}
 use Rattle.hgs_files.specs.declared.op.Op.{Op}
 use Rattle.hgs_loading.specs.Found.{required_in}
-use Rattle.hgs_reader.specs.Answer.{is_of_outside}
+use Rattle.hgs_load.specs.Answer.{is_of_outside}
 use Rattle.hgs_machine.specs.Carry.{tree_now}
 use Rattle.hgs_top.specs.Orders.{lock_text}
 use Rattle.hgs_writer.specs.Written.{IsWritten}

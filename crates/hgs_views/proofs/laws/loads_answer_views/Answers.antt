@@ -1,4 +1,4 @@
-use Rattle.hgs_reader.specs.Open.{open_asks}
+use Rattle.hgs_load.specs.Open.{open_asks}
 use Rattle.hgs_views.proofs.Basics.{may-front, prefix-refl, front-limits}
 use Rattle.hgs_views.proofs.Below.{LoadLaws}
 use Rattle.hgs_views.proofs.LoadLemmas.{opened-along}

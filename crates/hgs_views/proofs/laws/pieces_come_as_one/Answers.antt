@@ -1,7 +1,7 @@
 use Rattle.std.proofs.Common.{[], refl}
 use Rattle.hgs_files.specs.Tree.{bytes_at, after_all}
-use Rattle.hgs_reader.specs.Asks.{then_asks}
-use Rattle.hgs_reader.specs.View.{pieces_then, most_pieces}
+use Rattle.hgs_load.specs.Asks.{then_asks}
+use Rattle.hgs_load.specs.View.{pieces_then, most_pieces}
 use Rattle.hgs_views.proofs.Basics.{may-front}
 use Rattle.hgs_views.proofs.CourseLemmas.{itself-between}
 use Rattle.hgs_views.proofs.MomentLemmas.{pieces-end}

@@ -1,8 +1,8 @@
 use Rattle.std.proofs.Common.{List, Ok, refl}
 use Rattle.hgs_index.specs.Manifest.{Row}
-use Rattle.hgs_reader.specs.Asks.{answer}
+use Rattle.hgs_load.specs.Asks.{answer}
 use Rattle.hgs_reader.specs.Contents.{tree_asks, files_text}
-use Rattle.hgs_reader.proofs.AskLemmas.{adds-then, adds-refused, adds-given}
+use Rattle.hgs_load.proofs.AskLemmas.{adds-then, adds-refused, adds-given}
 use Rattle.hgs_reader.proofs.session.Session.files.Goals as goal
 
 pub returns-in_ok-add_files-in-Ok-clause-answer : goal.returns-in_ok-add_files-in-Ok-clause-answer

@@ -1,0 +1,10 @@
+pub mod AskLemmas
+pub mod FeedLemmas
+pub mod MachineLemmas
+pub mod OpenedLemmas
+pub mod PartLemmas
+pub mod RefreshLemmas
+pub mod RestLemmas
+pub mod StepLemmas
+pub mod ViewLemmas
+pub mod WholeLemmas

@@ -1,0 +1,58 @@
+-- What a load asks once the first files were read.
+use Rattle.std.proofs.Common.{◌≡◌, ℕ, zero, suc, ◌<◌, Bool, true, false, List, Option, Some, None, Result, Err, refl, ap, arith}
+use Rattle.std.specs.Prelude.{is_some, ⊤}
+use Rattle.std.specs.Bool.{MatchBool}
+use Rattle.std.specs.Option.{ForNone, option_map}
+use Rattle.hgs_marks.specs.Bookmarks.{Mark}
+use Rattle.hgs_phases.specs.declared.roots.Root.{Root}
+use Rattle.hgs_revlog.specs.Log.{Log}
+use Rattle.hgs_load.specs.declared.answer.ReadAnswer.{ReadAnswer}
+use Rattle.hgs_load.specs.declared.marks.WorkingNodes.{WorkingNodes}
+use Rattle.hgs_load.specs.Answer.{is_of_outside}
+use Rattle.hgs_load.specs.Asks.{Asks, answer, then_asks}
+use Rattle.hgs_load.specs.Load.{left_to_ask, asks_unless, asks_from, HasEnded, AsksFor, rest_of}
+use Rattle.hgs_load.specs.Marks.{nodes_of, roots_answer}
+use Rattle.hgs_load.specs.Open.{most_roots, view_of}
+use Rattle.hgs_load.specs.View.{View}
+use Rattle.hgs_load.specs.Whole.{within}
+
+-- the index is asked for where it was not read to its end
+pub piece_asked : (former : Option Log) (required : Bool) (marks : Option (List Mark)) (nodes : Option WorkingNodes) (left : ℕ) (bytes : List ℕ) (log : Option Log) (loaded : Option View) (part : Option (List ℕ)) →
+    required ≡ true → is_some marks ≡ true → is_some nodes ≡ true → loaded ≡ None → is_some log ≡ false → ForNone log (0 < left) →
+    AsksFor (asks_unless loaded (asks_from required marks (option_map nodes_of nodes) (left_to_ask former left bytes log))) part → AsksFor (left_to_ask former left bytes log) part
+piece_asked former false marks nodes left bytes log loaded part r m n s l some asked = cc
+piece_asked former true None nodes left bytes log loaded part r m n s l some asked = cc
+piece_asked former true (Some ms) None left bytes log loaded part r m n s l some asked = cc
+piece_asked former true (Some ms) (Some ns) left bytes log (Some v) part r m n s l some asked = cc
+piece_asked former true (Some ms) (Some ns) left bytes (Some x) None part r m n s l some asked = cc
+piece_asked former true (Some ms) (Some ns) zero bytes None None part r m n s l some asked = let h = some refl in absurd (omega (arith, h))
+piece_asked former true (Some ms) (Some ns) (suc left) bytes None None part r m n s l some asked = asked
+
+either : (b : Bool) (P Q : Type 0) → (P → Q) → MatchBool b ⊤ P → MatchBool b ⊤ Q
+either true P Q f m = tt
+either false P Q f m = f m
+
+-- the phase roots are refused
+pub roots_refused : (former : Option Log) (required : Bool) (marks : Option (List Mark)) (nodes : Option WorkingNodes) (left : ℕ) (bytes : List ℕ) (log : Option Log) (loaded : Option View) (part : Option (List ℕ)) (e : ReadAnswer) →
+    required ≡ true → is_some marks ≡ true → is_some nodes ≡ true → loaded ≡ None → is_some log ≡ true →
+    MatchBool (is_of_outside e) ⊤ (within most_roots roots_answer part ≡ Err e) →
+    MatchBool (is_of_outside e) ⊤ (rest_of (asks_unless loaded (asks_from required marks (option_map nodes_of nodes) (left_to_ask former left bytes log))) part ≡ answer (Err e))
+roots_refused former false marks nodes left bytes log loaded part e r m n s l h = cc
+roots_refused former true None nodes left bytes log loaded part e r m n s l h = cc
+roots_refused former true (Some ms) None left bytes log loaded part e r m n s l h = cc
+roots_refused former true (Some ms) (Some ns) left bytes log (Some v) part e r m n s l h = cc
+roots_refused former true (Some ms) (Some ns) left bytes None None part e r m n s l h = cc
+roots_refused former true (Some ms) (Some ns) left bytes (Some x) None part e r m n s l h =
+    let more : List Root → Asks (Result View ReadAnswer) = λ roots. answer (view_of ms (nodes_of ns) x roots) in
+    either (is_of_outside e) _ _ (λ k. ap (λ given. then_asks (answer given) more) k) h
+
+-- a load that has loaded nothing has not ended
+pub not_ended : (former : Option Log) (required : Bool) (marks : Option (List Mark)) (nodes : Option WorkingNodes) (left : ℕ) (bytes : List ℕ) (log : Option Log) (loaded : Option View) →
+    ForNone log (0 < left) → loaded ≡ None → HasEnded (asks_unless loaded (asks_from required marks (option_map nodes_of nodes) (left_to_ask former left bytes log))) → ⊥
+not_ended former required marks nodes left bytes log (Some v) some s ended = cc
+not_ended former false marks nodes left bytes log None some s ended = ended
+not_ended former true None nodes left bytes log None some s ended = ended
+not_ended former true (Some ms) None left bytes log None some s ended = ended
+not_ended former true (Some ms) (Some ns) left bytes (Some x) None some s ended = ended
+not_ended former true (Some ms) (Some ns) zero bytes None None some s ended = let h = some refl in omega (arith, h)
+not_ended former true (Some ms) (Some ns) (suc left) bytes None None some s ended = ended

@@ -1,0 +1,48 @@
+use Rattle.std.proofs.Common.{refl, ◌∙◌, arith}
+use Rattle.hgs_load.specs.Load.{asks_of}
+use Rattle.hgs_load.proofs.AskLemmas.{continues-start, grows-refl, grows-trans}
+use Rattle.hgs_load.proofs.StepLemmas.{goes_on, has_ended, is_refused}
+use Rattle.hgs_load.proofs.step.load_with.Goals as goal
+
+pub loop-machine-init : goal.loop-machine-init
+loop-machine-init g c =
+    let seen = g.R.Reads.seen c.args.files.now in
+    let start = g.R.Reads.start c.args.files.now in
+    record {
+      asked = continues-start seen start (asks_of c.args.load);
+      grown = grows-refl seen;
+      same_start = refl;
+      still = λ h. refl;
+      later = omega arith;
+      refused = omega arith;
+    }
+
+pub loop-machine-preserved : goal.loop-machine-preserved
+loop-machine-preserved g c =
+    let i = c.loop-machine.invariant in
+    let e = c.in-Ok-true.ensures in
+    record {
+      asked = goes_on (g.R.Reads.seen c.args.files.now) (g.R.Reads.seen c.loop-machine.files) (g.R.Reads.seen c.feed_next.new.files) (g.R.Reads.start c.args.files.now) (g.R.Reads.start c.loop-machine.files) (asks_of c.args.load) (asks_of c.loop-machine.machine) (asks_of c.feed_next.new.machine)
+          i.asked i.grown i.same_start c.in-Ok-true.field-0 c.in-Ok-true.field-0-test e.asked;
+      grown = grows-trans (g.R.Reads.seen c.args.files.now) (g.R.Reads.seen c.loop-machine.files) (g.R.Reads.seen c.feed_next.new.files) i.grown e.seen;
+      same_start = e.same_start ∙ i.same_start;
+      still = λ h. e.still h ∙ i.still h;
+      later = (let l = e.cause.later in omega (arith, l, i.later));
+      refused = (let l = e.cause.refused in omega (arith, l, i.refused));
+    }
+
+pub returns-in-Ok-false-clause-answer : goal.returns-in-Ok-false-clause-answer
+returns-in-Ok-false-clause-answer g c =
+    let i = c.loop-machine.invariant in
+    has_ended (g.R.Reads.seen c.args.files.now) (g.R.Reads.seen c.loop-machine.files) (g.R.Reads.seen c.feed_next.new.files) (g.R.Reads.start c.args.files.now) (g.R.Reads.start c.loop-machine.files) (asks_of c.args.load) (asks_of c.loop-machine.machine) (asks_of c.feed_next.new.machine)
+    i.asked i.grown i.same_start c.in-Ok-false.field-0 c.take.result c.in-Ok-false.field-0-test c.in-Ok-false.ensures.asked c.take.ensures
+
+pub returns-in-Err-clause-answer : goal.returns-in-Err-clause-answer
+returns-in-Err-clause-answer g c =
+    let i = c.loop-machine.invariant in
+    is_refused (g.R.Reads.seen c.args.files.now) (g.R.Reads.seen c.loop-machine.files) (g.R.Reads.seen c.feed_next.new.files) (g.R.Reads.start c.args.files.now) (g.R.Reads.start c.loop-machine.files) (asks_of c.args.load) (asks_of c.loop-machine.machine) (asks_of c.feed_next.new.machine)
+    i.asked i.grown i.same_start c.in-Err.refusal c.in-Err.ensures.asked
+
+pub returns-in-Err-clause-seen : goal.returns-in-Err-clause-seen
+returns-in-Err-clause-seen g c =
+    grows-trans (g.R.Reads.seen c.args.files.now) (g.R.Reads.seen c.loop-machine.files) (g.R.Reads.seen c.feed_next.new.files) c.loop-machine.invariant.grown c.in-Err.ensures.seen

@@ -1,0 +1,9 @@
+pub mod Answer
+pub mod Asks
+pub mod Load
+pub mod Marks
+pub mod Open
+pub mod Refresh
+pub mod Requirements
+pub mod View
+pub mod Whole

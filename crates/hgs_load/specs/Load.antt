@@ -1,0 +1,119 @@
+-- What a load has still to ask.
+use Rattle.std.specs.Prelude.{◌≡◌, ℕ, ◌+◌, ◌≤◌, if◌then◌else◌, List, length, Option, Some, None, IfSome, Result, Ok, Err, ⊤}
+use Rattle.std.specs.Prelude.{Bool, true, false}
+use Rattle.std.specs.Bool.{MatchBool}
+use Rattle.std.specs.Option.{option_map}
+use Rattle.hgs_files.specs.declared.op.Op.{Op}
+use Rattle.hgs_files.specs.Tree.{Tree}
+use Rattle.hgs_load.specs.declared.answer.ReadAnswer.{ReadAnswer}
+use Rattle.hgs_load.specs.declared.load.LoadMachine.{LoadMachine}
+use Rattle.hgs_load.specs.declared.pieces.IndexLoad.{IndexLoad}
+use Rattle.hgs_load.specs.declared.load.LoadNext.{LoadNext}
+use Rattle.hgs_load.specs.declared.load.LoadNext.TheVariants.{Read, End}
+use Rattle.hgs_marks.specs.Bookmarks.{Mark}
+use Rattle.hgs_revlog.specs.Log.{Log}
+use Rattle.hgs_load.specs.Answer.{is_of_outside}
+use Rattle.hgs_load.specs.Asks.{Asks, answer, read, then_asks, Continues, MayAnswerWhereTold}
+use Rattle.hgs_load.specs.Marks.{Nodes, nodes_of}
+use Rattle.hgs_load.specs.Open.{requires_asks, bookmarks_asks, dirstate_asks, roots_asks, log_of, view_of}
+use Rattle.hgs_load.specs.Refresh.{log_after}
+use Rattle.hgs_load.specs.View.{View, changelog_index, pieces_then}
+
+-- ---- an index under way
+
+-- the history of an index, which has to begin with the former one where there is one
+abbrev pub log_behind : Option Log → List ℕ → Result Log ReadAnswer
+log_behind None index = log_of index
+log_behind (Some old) index = log_after old.entries (log_of index)
+
+abbrev pub left_to_ask : Option Log → ℕ → List ℕ → Option Log → Asks (Result Log ReadAnswer)
+left_to_ask former left bytes None = pieces_then changelog_index left bytes (λ index. answer (log_behind former index))
+left_to_ask former left bytes (Some log) = answer (Ok log)
+
+abbrev pub index_asks : IndexLoad → Asks (Result Log ReadAnswer)
+index_asks m = left_to_ask m.former m.left m.bytes.items m.log
+
+abbrev pub reads_left_of : ℕ → Option Log → ℕ
+reads_left_of left None = left
+reads_left_of left (Some log) = 0
+
+abbrev pub index_reads : IndexLoad → ℕ
+index_reads m = reads_left_of m.left m.log
+
+-- ---- a load under way
+
+abbrev pub requires_left : Bool → Asks (Result Unit ReadAnswer)
+requires_left true = answer (Ok tt)
+requires_left false = requires_asks
+
+-- a question that was answered, or that was not
+abbrev pub asks_unless : {A : Type 0} → Option A → Asks (Result A ReadAnswer) → Asks (Result A ReadAnswer)
+asks_unless None question = question
+asks_unless (Some x) question = answer (Ok x)
+
+-- the reads in their order, without those that were answered
+abbrev pub asks_from : Bool → Option (List Mark) → Option Nodes → Asks (Result Log ReadAnswer) → Asks (Result View ReadAnswer)
+asks_from required marks nodes index =
+    then_asks (requires_left required) (λ x.
+    then_asks (asks_unless marks bookmarks_asks) (λ marks.
+    then_asks (asks_unless nodes dirstate_asks) (λ nodes.
+    then_asks index (λ log.
+    then_asks roots_asks (λ roots.
+    answer (view_of marks nodes log roots))))))
+
+-- the question that a load still asks
+abbrev pub asks_of : LoadMachine → Asks (Result View ReadAnswer)
+asks_of m = asks_unless m.loaded (asks_from m.required m.bookmarks (option_map nodes_of m.nodes) (index_asks m.index))
+
+abbrev pub reads_unless : {A : Type 0} → Option A → ℕ → ℕ
+reads_unless None reads = reads
+reads_unless (Some x) reads = 0
+
+-- at most so many reads are left
+abbrev pub reads_left : LoadMachine → ℕ
+reads_left m = reads_unless m.loaded ((if m.required then 0 else 1) + reads_unless m.bookmarks 1 + reads_unless m.nodes 1 + index_reads m.index + 1)
+
+-- ---- a step
+
+-- `next` says what the question asks for
+abbrev pub IsNext : {A : Type 0} → Asks A → LoadNext → Type 0
+IsNext (answer x) End = Unit {0}
+IsNext (answer x) (Read path from most) = ⊥
+IsNext (read path from most rest) End = ⊥
+IsNext (read path from most rest) (Read p f m) = (p.now ≡ path) × (f ≡ from) × (m ≡ most)
+
+-- the question asks for a read, and of at most so many bytes
+abbrev pub AsksFor : {A : Type 0} → Asks A → Option (List ℕ) → Type 0
+AsksFor (answer x) part = ⊥
+AsksFor (read path from most rest) part = IfSome part (λ bytes. length bytes ≤ most)
+
+-- what is asked once a read was answered
+abbrev pub rest_of : {A : Type 0} → Asks A → Option (List ℕ) → Asks A
+rest_of (answer x) part = answer x
+rest_of (read path from most rest) part = rest part
+
+-- the bytes fed are the answer of the read: the load goes on, or this answer refuses it
+abbrev pub Feeds : {A : Type 0} → Asks (Result A ReadAnswer) → Option (List ℕ) → Asks (Result A ReadAnswer) → Result Unit ReadAnswer → Type 0
+Feeds question part left (Ok x) = left ≡ rest_of question part
+Feeds question part left (Err e) = MatchBool (is_of_outside e) ⊤ (rest_of question part ≡ answer (Err e))
+
+-- the load has its answer
+abbrev pub HasEnded : {A : Type 0} → Asks A → Type 0
+HasEnded (answer x) = Unit {0}
+HasEnded (read path from most rest) = ⊥
+
+-- what was read gives the answer that is left, or is refused by this
+abbrev pub Finishes : {A : Type 0} → Result A ReadAnswer → Asks (Result A ReadAnswer) → Result Unit ReadAnswer → Type 0
+Finishes given left (Ok x) = left ≡ answer given
+Finishes given left (Err e) = MatchBool (is_of_outside e) ⊤ (given ≡ Err e)
+
+-- A refresh answered a question with the new view, or was refused and changed nothing.
+abbrev pub Refreshes : Option (List Op) → Tree → Option (List Op) → Asks (Result View ReadAnswer) → View → View → Result Unit ReadAnswer → Type 0
+Refreshes before start after question old new (Ok x) = MayAnswerWhereTold before start after question (Ok new)
+Refreshes before start after question old new (Err e) = (new ≡ old) × MatchBool (is_of_outside e) ⊤ (MayAnswerWhereTold before start after question (Err e))
+
+-- one step of a load: a read was answered, or the load has its answer, or it is refused
+abbrev pub Advances : {A : Type 0} → Option (List Op) → Tree → Option (List Op) → Asks (Result A ReadAnswer) → Asks (Result A ReadAnswer) → Result Bool ReadAnswer → Type 0
+Advances before start after question left (Ok true) = Continues before start after question left
+Advances before start after question left (Ok false) = HasEnded question × (left ≡ question) × (after ≡ before)
+Advances before start after question left (Err e) = MatchBool (is_of_outside e) ⊤ (MayAnswerWhereTold before start after question (Err e))

@@ -1,0 +1,53 @@
+-- What a refresh asks.
+use Rattle.std.specs.Prelude.{ℕ, suc, Bool, true, false, ◌==◌, ◌&&◌, List, [], ◌∷◌, Option, Some, None, Result, Ok, Err, if◌then◌else◌}
+use Rattle.hgs_bytes.specs.Bytes.{same}
+use Rattle.hgs_index.specs.declared.entry.Entry.{Entry}
+use Rattle.hgs_plan.specs.declared.damage.Part.TheVariants as parts
+use Rattle.hgs_revlog.specs.Log.{Log}
+use Rattle.hgs_load.specs.declared.answer.ReadAnswer.{ReadAnswer}
+use Rattle.hgs_load.specs.Asks.{Asks, answer, then_asks}
+use Rattle.hgs_load.specs.Open.{bookmarks_asks, dirstate_asks, roots_asks, log_of, view_of}
+use Rattle.hgs_load.specs.View.{View, changelog_index, damaged, most_pieces, pieces_then}
+
+abbrev pub same_parent : Option ℕ → Option ℕ → Bool
+same_parent None None = true
+same_parent None (Some b) = false
+same_parent (Some a) None = false
+same_parent (Some a) (Some b) = a == b
+
+abbrev pub same_lengths : Entry → Entry → Bool
+same_lengths a b = a.offset == b.offset && a.flags == b.flags && a.stored == b.stored && a.size == b.size
+
+abbrev pub same_links : Entry → Entry → Bool
+same_links a b = a.base == b.base && a.link == b.link && same_parent a.p1 b.p1 && same_parent a.p2 b.p2
+
+abbrev pub same_entry : Entry → Entry → Bool
+same_entry a b = same_lengths a b && same_links a b && same a.node.0 b.node.0
+
+-- the number of the first of the old entries that isn't the new one in its place
+abbrev pub first_changed : ℕ → List Entry → List Entry → Option ℕ
+first_changed rev [] entries = None
+first_changed rev (o ∷ old) [] = Some rev
+first_changed rev (o ∷ old) (e ∷ entries) = if same_entry o e then first_changed (suc rev) old entries else Some rev
+
+abbrev pub unless_changed : Option ℕ → Log → Result Log ReadAnswer
+unless_changed None log = Ok log
+unless_changed (Some rev) log = Err (damaged changelog_index parts.Shrunk 1 rev)
+
+-- the history that was read, which has to begin with the old entries
+abbrev pub log_after : List Entry → Result Log ReadAnswer → Result Log ReadAnswer
+log_after old (Err e) = Err e
+log_after old (Ok log) = unless_changed (first_changed 0 old log.entries) log
+
+-- the new history, which is refused as soon as its index was read
+abbrev pub newer_log_asks : List Entry → Asks (Result Log ReadAnswer)
+newer_log_asks old = pieces_then changelog_index most_pieces [] (λ index. answer (log_after old (log_of index)))
+
+-- all is read again but `requires`
+abbrev pub refresh_asks : View → Asks (Result View ReadAnswer)
+refresh_asks old =
+    then_asks bookmarks_asks (λ marks.
+    then_asks dirstate_asks (λ nodes.
+    then_asks (newer_log_asks old.changelog.entries) (λ log.
+    then_asks roots_asks (λ roots.
+    answer (view_of marks nodes log roots)))))

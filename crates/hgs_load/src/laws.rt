@@ -1,0 +1,34 @@
+//! What the definitions of this crate imply. Each function is one law; none does anything.
+ghost use Rattle.std.specs.Prelude.{◌≡◌, ◌≤◌, ◌/◌, List, Ok, None, length};
+ghost use Rattle.hgs_files.specs.Tree.{Tree, bytes_at};
+ghost use Rattle.hgs_marks.specs.Bookmarks.{Mark};
+ghost use Rattle.hgs_phases.specs.Phases.{phases_by};
+ghost use Rattle.hgs_phases.specs.declared.roots.Root.{Root};
+ghost use Rattle.hgs_revlog.specs.Load.{most_revisions};
+ghost use Rattle.hgs_revlog.specs.Log.{Log};
+ghost use Rattle.hgs_load.specs.Asks.{at_rest};
+ghost use Rattle.hgs_load.specs.Marks.{Nodes, Working, bookmarks_answer, bookmarks_path, dirstate_answer, dirstate_path, roots_answer, roots_path, working_answer};
+ghost use Rattle.hgs_load.specs.Open.{bookmarks_asks, dirstate_asks, log_asks, log_of, most_bookmarks_text, most_dirstate, most_requires, most_roots, open_asks, requires_asks, requires_path, roots_asks};
+ghost use Rattle.hgs_load.specs.Refresh.{first_changed, refresh_asks};
+ghost use Rattle.hgs_load.specs.Requirements.{requires_answer};
+ghost use Rattle.hgs_load.specs.View.{View, changelog_index};
+
+/// A file within its limit is read whole, and an index of no more entries than a revlog may have is read piece by piece to
+/// its end.
+pub fn files_are_read_whole()
+    ensures requires_file { (t : Tree) → length (bytes_at t requires_path) ≤ most_requires → at_rest t requires_asks ≡ requires_answer (t requires_path) }
+    ensures bookmarks { (t : Tree) → length (bytes_at t bookmarks_path) ≤ most_bookmarks_text → at_rest t bookmarks_asks ≡ bookmarks_answer (t bookmarks_path) }
+    ensures dirstate { (t : Tree) → length (bytes_at t dirstate_path) ≤ most_dirstate → at_rest t dirstate_asks ≡ dirstate_answer (t dirstate_path) }
+    ensures roots { (t : Tree) → length (bytes_at t roots_path) ≤ most_roots → at_rest t roots_asks ≡ roots_answer (t roots_path) }
+    ensures index { (t : Tree) → length (bytes_at t changelog_index) / 64 ≤ most_revisions → at_rest t log_asks ≡ log_of (bytes_at t changelog_index) }
+{}
+
+/// What is read of the files gives the view of a load, and where no old entry changed, that of a refresh; the changelog of a
+/// view is what was read of the index.
+pub fn parts_make_views()
+    ensures opened { (t : Tree) (marks : List Mark) (nodes : Nodes) (log : Log) (roots : List Root) (working : Working) → at_rest t requires_asks ≡ Ok tt → at_rest t bookmarks_asks ≡ Ok marks → at_rest t dirstate_asks ≡ Ok nodes → at_rest t log_asks ≡ Ok log → at_rest t roots_asks ≡ Ok roots →
+        working_answer log.entries nodes ≡ Ok working → at_rest t open_asks ≡ Ok (record { changelog = log; bookmarks = marks; working = working; phases = phases_by roots log.entries }) }
+    ensures refreshed { (t : Tree) (old : View) (marks : List Mark) (nodes : Nodes) (log : Log) (roots : List Root) (working : Working) → at_rest t bookmarks_asks ≡ Ok marks → at_rest t dirstate_asks ≡ Ok nodes → at_rest t log_asks ≡ Ok log → at_rest t roots_asks ≡ Ok roots →
+        working_answer log.entries nodes ≡ Ok working → first_changed 0 old.changelog.entries log.entries ≡ None → at_rest t (refresh_asks old) ≡ Ok (record { changelog = log; bookmarks = marks; working = working; phases = phases_by roots log.entries }) }
+    ensures log { (t : Tree) (view : View) → at_rest t open_asks ≡ Ok view → at_rest t log_asks ≡ Ok view.changelog }
+{}

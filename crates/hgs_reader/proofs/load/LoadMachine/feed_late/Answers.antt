@@ -1,9 +1,0 @@
-use Rattle.std.proofs.Common.{sym, ◌∙◌}
-use Rattle.std.specs.Option.{option_copied}
-use Rattle.hgs_reader.proofs.MachineLemmas.{piece_asked}
-use Rattle.hgs_reader.proofs.load.LoadMachine.feed_late.Goals as goal
-
-pub feed_piece-requires-clause-asked : goal.feed_piece-requires-clause-asked
-feed_piece-requires-clause-asked c =
-    piece_asked c.args.self.now.former.items c.args.self.now.required c.args.self.now.bookmarks c.args.self.now.nodes c.args.self.now.index.left c.args.self.now.index.bytes.items c.args.self.now.index.log c.args.self.now.session (option_copied c.args.part)
-    c.requires.required c.requires.bookmarks c.requires.nodes c.requires.session (sym c.is_whole.ensures ∙ c.if-is_whole.false) c.args.self.now.index.some_left c.requires.asked

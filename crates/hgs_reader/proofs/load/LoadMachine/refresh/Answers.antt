@@ -1,8 +1,0 @@
-use Rattle.std.proofs.Common.{◌∙◌, ap, true, None}
-use Rattle.hgs_reader.specs.Load.{index_asks, asks_from}
-use Rattle.hgs_reader.proofs.load.LoadMachine.refresh.Goals as goal
-
-pub returns : goal.returns
-returns c = record {
-  asks = ap (λ former. asks_from former true None None (index_asks c.new-3.result)) c.in_ok-entries.ensures ∙ ap (λ index. asks_from c.args.session.now.changelog.entries true None None index) c.new-3.ensures;
-}

@@ -1,6 +1,0 @@
-use Rattle.std.proofs.Common.{ap, None}
-use Rattle.hgs_reader.specs.Load.{left_to_ask}
-use Rattle.hgs_reader.proofs.pieces.IndexLoad.new.Goals as goal
-
-pub returns : goal.returns
-returns c = ap (λ bytes. left_to_ask 977 bytes None) c.new.ensures.items
