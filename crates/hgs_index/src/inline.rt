@@ -1,7 +1,7 @@
 //! Inline indexes, in which each entry is followed by its chunk (Mercurial's help page `internals.revlogs`).
 ghost use Rattle.std.specs.Prelude.{◌≡◌};
 ghost use Rattle.std.specs.Option.{option_map};
-ghost use Rattle.hgs_index.specs.Inline.{is_inline, whole_item};
+ghost use Rattle.hgs_index.specs.Inline.{is_inline, whole_item, without_inline};
 
 use crate::fields::u32_at;
 use crate::head::header;
@@ -40,4 +40,13 @@ pub fn whole_item(bytes: &[u8]) -> Option<(&[u8; 64], &[u8])>
             Some((entry, &[]))
         }
     }
+}
+
+/// The first entry of an inline index as the first one of a separate index: without the flag of its header.
+pub fn without_inline(entry: &[u8; 64]) -> [u8; 64]
+    ensures { result ≡ without_inline entry.now }
+{
+    let mut plain = *entry;
+    plain[1] = entry[1].saturating_sub(1);
+    plain
 }

@@ -1,4 +1,4 @@
--- The laws of loading, for the index of either form.
+-- The laws of loading an index of either form.
 use Rattle.std.proofs.Common.{◌≡◌, ◌⊎◌, ℕ, zero, suc, ◌+◌, ◌-◌, ◌*◌, ◌/◌, ◌%◌, ◌<◌, ◌≤◌, Bool, true, false, cond, ◌&&◌, ◌||◌, not, List, [], ◌∷◌, ◌++◌, length, take, drop, Option, Some, None, Result, Ok, Err, inl, inr, refl, sym, ◌∙◌, ap, subst, arith, append_assoc, append-nil, length-append}
 use Rattle.std.specs.Prelude.{◌==◌, nat_le, nat_lt, slice_get}
 use Rattle.std.specs.Int.{w16, w32, from_be_bytes}
@@ -12,140 +12,27 @@ use Rattle.hgs_index.specs.Entry.{part, number_at, is_negative, has_bad_header, 
 use Rattle.hgs_index.specs.Inline.{says_inline, is_inline, is_cut, entries_in, chunks_in, without_inline, index_apart, chunks_apart}
 use Rattle.hgs_index.specs.Revision.{Revision}
 use Rattle.hgs_index.specs.Revlog.{Holds, HoldsRevisions, BeginsWithRevisions}
-use Rattle.hgs_index.proofs.RevlogLemmas.{length-held}
 use Rattle.hgs_revlog.specs.declared.fault.RevFault.{RevFault}
 use Rattle.hgs_revlog.specs.declared.fault.RevFault.TheVariants.{Missing, Tail}
 use Rattle.hgs_revlog.specs.declared.fault.Tail.TheVariants.{Ignore, Refuse, Until}
 use Rattle.hgs_revlog.specs.declared.fault.Tail as tails
 use Rattle.hgs_revlog.specs.Held.{Agrees, AreWithinLimits, EndsFirstAt, chunk_in, read_all}
-use Rattle.hgs_revlog.specs.Load.{entry_behind, ends_at, at_end, after, load_from, loaded, loaded_apart, in_form}
+use Rattle.hgs_revlog.specs.Load.{entry_behind, ends_at, at_end, after, load_from, loaded_either, loaded, in_form}
 use Rattle.hgs_revlog.specs.Loaded.{AreEntries, HaveNodes}
 use Rattle.hgs_revlog.specs.Log.{Log, with_entry, place_of, stored_sum}
-use Rattle.hgs_revlog.proofs.EntriesLemmas.{held-whole}
-use Rattle.hgs_revlog.proofs.FormLemmas.{separate-loads, loads-apart, is-separate, separate-apart, entries-load}
+use Rattle.hgs_revlog.proofs.FormLemmas.{loads-apart, marked-first, marked-length, marked-number, marked-rest}
 use Rattle.hgs_revlog.proofs.LoadLemmas.{taken_entry, faultless}
 use Rattle.hgs_revlog.proofs.LoadedLemmas.{end_is, entry-read, get-kept, load_holds, loaded-entries, loaded-nodes}
 use Rattle.hgs_revlog.proofs.LogLemmas.{sum_push}
-use Rattle.hgs_revlog.proofs.ReadLemmas.{bytes_drop, bytes_take, loaded-front, loaded-held, read_entry, slice_get_seam}
+use Rattle.hgs_revlog.proofs.ReadLemmas.{bytes_drop, bytes_take, loaded-front, read_entry, slice_get_seam}
 use Rattle.hgs_revlog.proofs.StandingLemmas.{held-loaded}
-use Rattle.hgs_revlog.proofs.TailHeldLemmas.{says-separate, ignored-held, front-ignored, until-held, front-until}
-use Rattle.hgs_revlog.proofs.TailLemmas.{ignore-refuse, ignore-until, until-fault}
-
--- ---- which indexes are separate
-
-and-false : (b : Bool) → (b && false) ≡ false
-and-false true = refl
-and-false false = refl
-
-too-short : (index : List ℕ) → length index < 64 → is_inline index ≡ false
-too-short index few = ap (λ b. b && says_inline (header_at index)) (above (length index) few)
-  where
-    above : (len : ℕ) → len < 64 → nat_le 64 len ≡ false
-    above len h = grind arith
-
-header-of-front : (m : ℕ) (index : List ℕ) → header_at (take (suc (suc (suc (suc m)))) index) ≡ header_at index
-header-of-front m [] = refl
-header-of-front m (a ∷ []) = refl
-header-of-front m (a ∷ b ∷ []) = refl
-header-of-front m (a ∷ b ∷ c ∷ []) = refl
-header-of-front m (a ∷ b ∷ c ∷ d ∷ index) = refl
-
-taken-separate : (k : ℕ) (index : List ℕ) → 64 * k ≤ length index → is_inline index ≡ false → is_inline (take (64 * k) index) ≡ false
-taken-separate zero index fits plain = refl
-taken-separate (suc k) index fits plain =
-    let m : ℕ = 64 * suc k in
-    let long : m ≡ suc (suc (suc (suc (m - 4)))) = omega arith in
-    ap (λ b. nat_le 64 (length (take m index)) && b) (ap (λ n. says_inline (header_at (take n index))) long ∙ ap says_inline (header-of-front (m - 4) index) ∙ says-separate index plain (omega (arith, fits)))
-    ∙ and-false (nat_le 64 (length (take m index)))
-
-pub ignored-front : (index : List ℕ) → is_inline index ≡ false → loaded Ignore index ≡ loaded Refuse (take (64 * (length index / 64)) index)
-ignored-front index plain =
-    separate-loads Ignore index plain ∙ ignore-refuse index ∙ sym (separate-loads Refuse (take (64 * (length index / 64)) index) (taken-separate (length index / 64) index (omega arith) plain))
-
--- ---- what a separate index that loads holds
-
-pub whole-holds : (index data_bytes : List ℕ) (log : Log) (revisions : List Revision) → IsBytes index → loaded Refuse index ≡ Ok log → log.inline ≡ false → read_all log.entries data_bytes ≡ Ok revisions → length data_bytes ≡ stored_sum log.entries
-    → Agrees index data_bytes log.entries revisions
-whole-holds index data_bytes log revisions are load separate read last =
-    loaded-held index data_bytes log revisions are (says-separate index (is-separate Refuse index log load separate)) (separate-apart Refuse index log load separate) read last
-
-pub ignored-holds : (index data_bytes : List ℕ) (log : Log) (revisions : List Revision) → IsBytes index → loaded Ignore index ≡ Ok log → log.inline ≡ false → read_all log.entries data_bytes ≡ Ok revisions
-    → (begins : BeginsWithRevisions index data_bytes revisions) × Agrees begins.index_front begins.data_front log.entries revisions × (length revisions ≡ length index / 64)
-ignored-holds index data_bytes log revisions are load separate read =
-    ignored-held index data_bytes log revisions are (is-separate Ignore index log load separate) (separate-apart Ignore index log load separate) read
-
-pub until-holds : (index data_bytes : List ℕ) (log : Log) (revisions : List Revision) (node : Node) → IsBytes index → loaded (Until node) index ≡ Ok log → log.inline ≡ false → read_all log.entries data_bytes ≡ Ok revisions
-    → (begins : BeginsWithRevisions index data_bytes revisions) × Agrees begins.index_front begins.data_front log.entries revisions × EndsFirstAt node.0 revisions
-until-holds index data_bytes log revisions node are load separate read =
-    until-held index data_bytes log revisions node are (is-separate (Until node) index log load separate) (separate-apart (Until node) index log load separate) read
-
--- ---- what holds loads
-
-abbrev pub SaysSeparate : Type 0
-SaysSeparate = (index data_bytes more : List ℕ) (first : Revision) (revisions : List Revision) → HoldsRevisions index data_bytes (first ∷ revisions) → is_inline (index ++ more) ≡ false
-
-module _ (says : SaysSeparate) where
-  pub held-separate : (index data_bytes : List ℕ) (revisions : List Revision) → HoldsRevisions index data_bytes revisions → is_inline index ≡ false
-  held-separate index data_bytes [] h = too-short index (let len = length-held index data_bytes [] h in omega (arith, len))
-  held-separate index data_bytes (r ∷ revisions) h = ap is_inline (sym (append-nil index)) ∙ says index data_bytes [] r revisions h
-
-  pub whole-loads : (index data_bytes rest : List ℕ) (revisions : List Revision) → HoldsRevisions index data_bytes revisions → AreWithinLimits revisions data_bytes
-      → (log : Log) × (loaded Refuse index ≡ Ok log) × (read_all log.entries (data_bytes ++ rest) ≡ Ok revisions) × Agrees index data_bytes log.entries revisions
-  whole-loads index data_bytes rest revisions held limits =
-      let h = held-loaded index data_bytes rest revisions held limits in
-      (h.0, separate-loads Refuse index (held-separate index data_bytes revisions held) ∙ h.1, h.2, h.3)
-
-  pub held-loads : (index data_bytes : List ℕ) (revisions : List Revision) → HoldsRevisions index data_bytes revisions → AreWithinLimits revisions data_bytes → (log : Log) × (loaded Ignore index ≡ Ok log) × Agrees index data_bytes log.entries revisions
-  held-loads index data_bytes revisions held limits =
-      let h = held-whole index data_bytes revisions held limits in
-      (h.0, separate-loads Ignore index (held-separate index data_bytes revisions held) ∙ h.1, h.2)
-
-  begins-separate : (index data_bytes : List ℕ) (r : Revision) (revisions : List Revision) → BeginsWithRevisions index data_bytes (r ∷ revisions) → is_inline index ≡ false
-  begins-separate index data_bytes r revisions b = ap is_inline b.index_begins.1 ∙ says b.index_front b.data_front b.index_begins.0 r revisions b.held
-
-  pub ignored-loads : (index data_bytes : List ℕ) (revisions : List Revision) → (begins : BeginsWithRevisions index data_bytes revisions) → length revisions ≡ length index / 64 → AreWithinLimits revisions begins.data_front
-      → (log : Log) × (loaded Ignore index ≡ Ok log) × (read_all log.entries data_bytes ≡ Ok revisions) × Agrees begins.index_front begins.data_front log.entries revisions
-  ignored-loads index data_bytes revisions b all limits =
-      let h = front-ignored index data_bytes revisions b all limits in
-      (h.0, separate-loads Ignore index (plain revisions b all) ∙ h.1, h.2, h.3)
-    where
-      plain : (revisions : List Revision) → BeginsWithRevisions index data_bytes revisions → length revisions ≡ length index / 64 → is_inline index ≡ false
-      plain [] b none = too-short index (omega (arith, none))
-      plain (r ∷ revisions) b some = begins-separate index data_bytes r revisions b
-
-  pub until-loads : (index data_bytes : List ℕ) (revisions : List Revision) (node : Node) → (begins : BeginsWithRevisions index data_bytes revisions) → EndsFirstAt node.0 revisions → AreWithinLimits revisions begins.data_front
-      → (log : Log) × (loaded (Until node) index ≡ Ok log) × (read_all log.entries data_bytes ≡ Ok revisions) × Agrees begins.index_front begins.data_front log.entries revisions
-  until-loads index data_bytes revisions node b ends limits =
-      let h = front-until index data_bytes revisions node b ends limits in
-      (h.0, separate-loads (Until node) index (plain revisions b ends) ∙ h.1, h.2, h.3)
-    where
-      plain : (revisions : List Revision) → BeginsWithRevisions index data_bytes revisions → EndsFirstAt node.0 revisions → is_inline index ≡ false
-      plain [] b none = cc
-      plain (r ∷ revisions) b some = begins-separate index data_bytes r revisions b
 
 -- ---- for either form
 
-missing-in : (b : Bool) (r : Result Log RevFault) → r ≡ Err Missing → in_form b r ≡ Err Missing
-missing-in b r h = ap (in_form b) h
-
-pub until-missing : (index : List ℕ) (log : Log) (node : Node) → loaded Ignore index ≡ Ok log → place_of log.entries node.0 ≡ None → loaded (Until node) index ≡ Err Missing
-until-missing index log node load none =
-    missing-in (is_inline index) (loaded_apart (Until node) (index_apart index)) (ignore-until (index_apart index) (record { inline = false; entries = log.entries }) node (loads-apart Ignore index log load).1 none)
-
-form-err : (b : Bool) (r : Result Log RevFault) (f : RevFault) → in_form b r ≡ Err f → r ≡ Err f
-form-err b (Err g) f h = h
-form-err b (Ok log) f h = cc
-
-pub until-fails : (index : List ℕ) (node : Node) (f : RevFault) → loaded Ignore index ≡ Err f → (loaded (Until node) index ≡ Err f) ⊎ ((log : Log) × (loaded (Until node) index ≡ Ok log))
-until-fails index node f load = elim (until-fault (index_apart index) node f (form-err (is_inline index) (loaded_apart Ignore (index_apart index)) f load)) [
-  | inl h ↦ inl (ap (in_form (is_inline index)) h)
-  | inr h ↦ inr (record { inline = is_inline index; entries = h.0.entries }, ap (in_form (is_inline index)) h.1)
-]
-
-pub form-entries : (tail : tails.Tail) (index : List ℕ) (log : Log) → loaded tail index ≡ Ok log → AreEntries log.entries
+pub form-entries : (tail : tails.Tail) (index : List ℕ) (log : Log) → loaded_either tail index ≡ Ok log → AreEntries log.entries
 form-entries tail index log load = loaded-entries tail (index_apart index) (record { inline = false; entries = log.entries }) (loads-apart tail index log load).1
 
-pub form-is : (tail : tails.Tail) (index : List ℕ) (log : Log) → loaded tail index ≡ Ok log → log.inline ≡ is_inline index
+pub form-is : (tail : tails.Tail) (index : List ℕ) (log : Log) → loaded_either tail index ≡ Ok log → log.inline ≡ is_inline index
 form-is tail index log load = (loads-apart tail index log load).0
 
 bytes-append : (xs ys : List ℕ) → IsBytes xs → IsBytes ys → IsBytes (xs ++ ys)
@@ -178,52 +65,10 @@ apart-bytes index are = by (is_inline index)
     by true = cleared-bytes (entries_in (length index) index) (entries-bytes (length index) index are)
     by false = are
 
-pub form-nodes : (tail : tails.Tail) (index : List ℕ) (log : Log) → IsBytes index → loaded tail index ≡ Ok log → HaveNodes log.entries
+pub form-nodes : (tail : tails.Tail) (index : List ℕ) (log : Log) → IsBytes index → loaded_either tail index ≡ Ok log → HaveNodes log.entries
 form-nodes tail index log are load = loaded-nodes tail (index_apart index) (record { inline = false; entries = log.entries }) (apart-bytes index are) (loads-apart tail index log load).1
 
 -- ---- inline
-
-second-true : (a b : Bool) → (a && b) ≡ true → b ≡ true
-second-true true b h = h
-second-true false b h = cc
-
-flag-of : (x y : Bool) (h : Header) → says_inline (cond x (Err Version) (cond y (Err HeaderFlags) (Ok h))) ≡ true → h.inline ≡ true
-flag-of true y h e = cc
-flag-of false true h e = cc
-flag-of false false h e = e
-
-no-flag : (x y : Bool) (h : Header) → h.inline ≡ false → says_inline (cond x (Err Version) (cond y (Err HeaderFlags) (Ok h))) ≡ false
-no-flag true y h e = refl
-no-flag false true h e = refl
-no-flag false false h e = e
-
--- without its flag a header says that the index is separate
-cleared-says : (a b : ℕ) (index bytes : List ℕ) → is_inline (a ∷ b ∷ index) ≡ true → says_inline (header_at (a ∷ (b - 1) ∷ bytes)) ≡ false
-cleared-says a b index bytes h =
-    no-flag (not (from_be_bytes w16 (part 2 2 (a ∷ b ∷ bytes)) == 1)) (has_bad_header (from_be_bytes w16 (a ∷ (b - 1) ∷ []))) (header_of (from_be_bytes w16 (a ∷ (b - 1) ∷ [])))
-    (even (flag-of (not (from_be_bytes w16 (part 2 2 (a ∷ b ∷ index)) == 1)) (has_bad_header (from_be_bytes w16 (a ∷ b ∷ []))) (header_of (from_be_bytes w16 (a ∷ b ∷ [])))
-    (second-true (nat_le 64 (length (a ∷ b ∷ index))) (says_inline (header_at (a ∷ b ∷ index))) h)))
-  where
-    is-one : (n : ℕ) → (n == 1) ≡ true → n ≡ 1
-    is-one n e = grind arith
-
-    not-one : (n : ℕ) → n ≡ 0 → (n == 1) ≡ false
-    not-one n e = grind arith
-
-    even : (from_be_bytes w16 (a ∷ b ∷ []) % 2 == 1) ≡ true → (from_be_bytes w16 (a ∷ (b - 1) ∷ []) % 2 == 1) ≡ false
-    even e = not-one (from_be_bytes w16 (a ∷ (b - 1) ∷ []) % 2) (let r = is-one (from_be_bytes w16 (a ∷ b ∷ []) % 2) e in omega (arith, r))
-
-apart-says : (index : List ℕ) → is_inline index ≡ true → says_inline (header_at (index_apart index)) ≡ false
-apart-says index inline = ap (λ b. says_inline (header_at (cond b (without_inline (entries_in (length index) index)) index))) inline ∙ by index inline
-  where
-    by : (index : List ℕ) → is_inline index ≡ true → says_inline (header_at (without_inline (entries_in (length index) index))) ≡ false
-    by [] h = cc
-    by (a ∷ []) h = cc
-    by (a ∷ b ∷ xs) h = cut (is_cut (a ∷ b ∷ xs))
-      where
-        cut : (c : Bool) → says_inline (header_at (without_inline (cond c (take 63 (a ∷ b ∷ xs)) (take 64 (a ∷ b ∷ xs) ++ entries_in (length (b ∷ xs)) (drop (64 + number_at 8 (a ∷ b ∷ xs)) (a ∷ b ∷ xs)))))) ≡ false
-        cut true = cleared-says a b xs (take 61 xs) h
-        cut false = cleared-says a b xs (take 62 xs ++ entries_in (length (b ∷ xs)) (drop (64 + number_at 8 (a ∷ b ∷ xs)) (a ∷ b ∷ xs))) h
 
 abbrev pub IsTakenApart : Type 0
 IsTakenApart = (index data_bytes : List ℕ) (revisions : List Revision) → Holds true index data_bytes revisions → HoldsRevisions (index_apart index) (chunks_apart index) revisions
@@ -231,15 +76,15 @@ IsTakenApart = (index data_bytes : List ℕ) (revisions : List Revision) → Hol
 abbrev pub IsPutBack : Type 0
 IsPutBack = (index data_bytes used left : List ℕ) (revisions : List Revision) → is_inline index ≡ true → HoldsRevisions (index_apart index) used revisions → chunks_apart index ≡ used ++ left → Holds true index data_bytes revisions
 
-pub inline-holds : IsPutBack → (index data_bytes : List ℕ) (log : Log) (revisions : List Revision) → IsBytes index → loaded Refuse index ≡ Ok log → log.inline ≡ true → read_all log.entries (chunks_apart index) ≡ Ok revisions → Holds true index data_bytes revisions
+pub inline-holds : IsPutBack → (index data_bytes : List ℕ) (log : Log) (revisions : List Revision) → IsBytes index → loaded_either Refuse index ≡ Ok log → log.inline ≡ true → read_all log.entries (chunks_apart index) ≡ Ok revisions → Holds true index data_bytes revisions
 inline-holds back index data_bytes log revisions are load form read =
     let a = loads-apart Refuse index log load in
     let inline : is_inline index ≡ true = sym a.0 ∙ form in
-    let h = loaded-front (index_apart index) (chunks_apart index) (record { inline = false; entries = log.entries }) revisions (apart-bytes index are) (λ whole. apart-says index inline) a.1 read in
+    let h = loaded-front (index_apart index) (chunks_apart index) (record { inline = false; entries = log.entries }) revisions (apart-bytes index are) a.1 read in
     back index data_bytes h.used h.left revisions inline h.agrees.held h.split
 
 pub inline-loads : IsTakenApart → (index data_bytes : List ℕ) (revisions : List Revision) → Holds true index data_bytes revisions → AreWithinLimits revisions (chunks_apart index)
-    → (log : Log) × (loaded Refuse index ≡ Ok log) × (read_all log.entries (chunks_apart index) ≡ Ok revisions) × Agrees (index_apart index) (chunks_apart index) log.entries revisions
+    → (log : Log) × (loaded_either Refuse index ≡ Ok log) × (read_all log.entries (chunks_apart index) ≡ Ok revisions) × Agrees (index_apart index) (chunks_apart index) log.entries revisions
 inline-loads apart index data_bytes revisions held limits =
     let h = held-loaded (index_apart index) (chunks_apart index) [] revisions (apart index data_bytes revisions held) limits in
     (record { inline = is_inline index; entries = h.0.entries }, ap (in_form (is_inline index)) h.1, ap (read_all h.0.entries) (sym (append-nil (chunks_apart index))) ∙ h.2, h.3)
@@ -287,13 +132,17 @@ ok_is x y e = cc
 number-in-cell : (bytes : List ℕ) → number_at 8 (take 64 bytes) ≡ number_at 8 bytes
 number-in-cell bytes = ap (λ l. from_be_bytes w32 (take 4 l)) (drop-take 8 56 bytes) ∙ ap (from_be_bytes w32) (take-take 4 56 (drop 8 bytes) (omega arith))
 
+-- the entries of an inline index, the first one without the flag of its header
+abbrev cells : Bool → ℕ → List ℕ → List ℕ
+cells first n bytes = cond first (without_inline (entries_in n bytes)) (entries_in n bytes)
+
 abbrev Placing : tails.Tail → ℕ → Type 0
-Placing tail n = (log end : Log) (bytes : List ℕ) → load_from tail (length (entries_in n bytes) / 64) log (entries_in n bytes) ≡ Ok end
+Placing tail n = (first : Bool) (log end : Log) (bytes : List ℕ) → load_from tail (length (cells first n bytes) / 64) log (cells first n bytes) ≡ Ok end
     → (j : ℕ) (e : index_entry.Entry) → slice_get end.entries (length log.entries + j) ≡ Some e → IsPlaced log bytes (chunks_in n bytes) j e
 
 -- an entry that was taken, the load that went on behind it, and the entry at a place from it on
-module _ (tail : tails.Tail) (n : ℕ) (next : Placing tail n) (log end : Log) (bytes : List ℕ) (x : index_entry.Entry)
-    (taken : entry_behind log.entries (take 64 bytes) ≡ Ok x) (whole : is_cut bytes ≡ false)
+module _ (tail : tails.Tail) (n : ℕ) (next : Placing tail n) (log end : Log) (bytes cell : List ℕ) (x : index_entry.Entry)
+    (number : number_at 8 cell ≡ number_at 8 bytes) (taken : entry_behind log.entries cell ≡ Ok x) (whole : is_cut bytes ≡ false)
     (behind : cond (ends_at tail x) (Ok (with_entry log x)) (load_from tail (length (entries_in n (drop (64 + number_at 8 bytes) bytes)) / 64) (with_entry log x) (entries_in n (drop (64 + number_at 8 bytes) bytes))) ≡ Ok end) where
   abbrev k : ℕ
   k = number_at 8 bytes
@@ -302,12 +151,12 @@ module _ (tail : tails.Tail) (n : ℕ) (next : Placing tail n) (log end : Log) (
   rest = drop (64 + number_at 8 bytes) bytes
 
   is-stored : x.stored ≡ k
-  is-stored = ap (λ (y : index_entry.Entry). y.stored) (sym (entry-read log.entries (take 64 bytes) x taken)) ∙ number-in-cell bytes
+  is-stored = ap (λ (y : index_entry.Entry). y.stored) (sym (entry-read log.entries cell x taken)) ∙ number
 
   not-negative : not (is_negative k) ≡ true
   not-negative =
-      let tests = negative-test _ _ (has_negative (take 64 bytes)) _ _ x (read_entry log.entries (take 64 bytes) x taken) in
-      ap (λ n. not (is_negative n)) (sym (number-in-cell bytes)) ∙ ap not (first-of-six _ _ _ _ _ _ tests)
+      let tests = negative-test _ _ (has_negative cell) _ _ x (read_entry log.entries cell x taken) in
+      ap (λ n. not (is_negative n)) (sym number) ∙ ap not (first-of-six _ _ _ _ _ _ tests)
 
   room : 64 + k ≤ length bytes
   room = reached (64 + k) (length bytes) (last-false (nat_lt (length bytes) 64) (not (is_negative k)) (nat_lt (length bytes) (64 + k)) whole not-negative)
@@ -329,7 +178,7 @@ module _ (tail : tails.Tail) (n : ℕ) (next : Placing tail n) (log end : Log) (
   placed-here : IsPlaced log bytes (part 64 k bytes ++ chunks_in n rest) 0 x
   placed-here = record {
     from = 0;
-    offset = (let o = (faultless log.entries x (taken_entry log.entries (take 64 bytes) x taken).1).offset in omega (arith, o));
+    offset = (let o = (faultless log.entries x (taken_entry log.entries cell x taken).1).offset in omega (arith, o));
     there = ap (λ m. take m (drop 64 bytes)) is-stored ∙ sym (take_at (part 64 k bytes) (chunks_in n rest) k chunk-length) ∙ ap (λ m. take m (part 64 k bytes ++ chunks_in n rest)) (sym is-stored);
   }
 
@@ -358,20 +207,27 @@ module _ (tail : tails.Tail) (n : ℕ) (next : Placing tail n) (log end : Log) (
 
       by : (b : Bool) → cond b (Ok (with_entry log x)) (load_from tail (length (entries_in n rest) / 64) (with_entry log x) (entries_in n rest)) ≡ Ok end → IsPlaced log bytes (part 64 k bytes ++ chunks_in n rest) (suc j) e
       by true h = absurd (past (log.entries ++ x ∷ []) j e (ap (λ (l : Log). slice_get l.entries (length (log.entries ++ x ∷ []) + j)) (ok_is (with_entry log x) end h) ∙ moved))
-      by false h = placed-behind j e (next (with_entry log x) end rest h j e moved)
+      by false h = placed-behind j e (next false (with_entry log x) end rest h j e moved)
 
 places : (tail : tails.Tail) (n : ℕ) → Placing tail n
-places tail zero log end bytes load j e at = absurd (past log.entries j e (ap (λ (l : Log). slice_get l.entries (length log.entries + j)) (end_is tail log end [] load) ∙ at))
-places tail (suc n) log end bytes load j e at = by (is_cut bytes) refl load (places tail n)
+places tail zero first log end bytes load j e at = absurd (past log.entries j e (ap (λ (l : Log). slice_get l.entries (length log.entries + j)) (none first load) ∙ at))
+  where
+    none : (first : Bool) → load_from tail (length (cells first zero bytes) / 64) log (cells first zero bytes) ≡ Ok end → log ≡ end
+    none true h = end_is tail log end [] h
+    none false h = end_is tail log end [] h
+places tail (suc n) first log end bytes load j e at = by (is_cut bytes) refl load (places tail n)
   where
     k : ℕ
     k = number_at 8 bytes
 
-    cell : List ℕ
-    cell = take 64 bytes
-
     more : List ℕ
     more = entries_in n (drop (64 + number_at 8 bytes) bytes)
+
+    marked : List ℕ → List ℕ
+    marked xs = cond first (without_inline xs) xs
+
+    cell : List ℕ
+    cell = cond first (without_inline (take 64 bytes)) (take 64 bytes)
 
     on : index_entry.Entry → List ℕ → Result Log RevFault
     on x left = cond (ends_at tail x) (Ok (with_entry log x)) (load_from tail (length more / 64) (with_entry log x) left)
@@ -379,31 +235,36 @@ places tail (suc n) log end bytes load j e at = by (is_cut bytes) refl load (pla
     step : Placing tail n → is_cut bytes ≡ false → (r : Result index_entry.Entry RevFault) → entry_behind log.entries cell ≡ r → after r (λ x. on x more) ≡ Ok end
         → IsPlaced log bytes (part 64 k bytes ++ chunks_in n (drop (64 + k) bytes)) j e
     step next whole (Err f) taken h = cc
-    step next whole (Ok x) taken h = placed tail n next log end bytes x taken whole h j e at
+    step next whole (Ok x) taken h = placed tail n next log end bytes cell x (marked-number first (take 64 bytes) ∙ number-in-cell bytes) taken whole h j e at
 
-    by : (b : Bool) → is_cut bytes ≡ b → load_from tail (length (cond b (take 63 bytes) (cell ++ more)) / 64) log (cond b (take 63 bytes) (cell ++ more)) ≡ Ok end → Placing tail n
-        → IsPlaced log bytes (cond b [] (part 64 k bytes ++ chunks_in n (drop (64 + k) bytes))) j e
+    by : (b : Bool) → is_cut bytes ≡ b
+        → load_from tail (length (cond first (without_inline (cond b (take 63 bytes) (take 64 bytes ++ more))) (cond b (take 63 bytes) (take 64 bytes ++ more))) / 64) log (cond first (without_inline (cond b (take 63 bytes) (take 64 bytes ++ more))) (cond b (take 63 bytes) (take 64 bytes ++ more))) ≡ Ok end
+        → Placing tail n → IsPlaced log bytes (cond b [] (part 64 k bytes ++ chunks_in n (drop (64 + k) bytes))) j e
     by true t h next =
-        let few : 0 ≡ length (take 63 bytes) / 64 = omega (arith, length-take 63 bytes) in
-        absurd (past log.entries j e (ap (λ (l : Log). slice_get l.entries (length log.entries + j)) (end_is tail log end (take 63 bytes) (ap (λ m. load_from tail m log (take 63 bytes)) few ∙ h)) ∙ at))
+        let rest = cond first (without_inline (take 63 bytes)) (take 63 bytes) in
+        let size = marked-length first (take 63 bytes) in
+        let few : 0 ≡ length rest / 64 = omega (arith, size, length-take 63 bytes) in
+        absurd (past log.entries j e (ap (λ (l : Log). slice_get l.entries (length log.entries + j)) (end_is tail log end rest (ap (λ m. load_from tail m log rest) few ∙ h)) ∙ at))
     by false t h next =
         let low = reached 64 (length bytes) (first-false (nat_lt (length bytes) 64) (not (is_negative k) && nat_lt (length bytes) (64 + k)) t) in
-        let size : length cell ≡ 64 = omega (arith, length-take 64 bytes, low) in
-        let steps : suc (length more / 64) ≡ length (cell ++ more) / 64 = omega (arith, length-append cell more, size) in
-        let front = take_at cell more 64 size in
-        let back = drop_at cell more 64 size in
+        let size : length (take 64 bytes) ≡ 64 = omega (arith, length-take 64 bytes, low) in
+        let all = cond first (without_inline (take 64 bytes ++ more)) (take 64 bytes ++ more) in
+        let count = marked-length first (take 64 bytes ++ more) in
+        let steps : suc (length more / 64) ≡ length all / 64 = omega (arith, count, length-append (take 64 bytes) more, size) in
+        let front : take 64 all ≡ cell = marked-first first (take 64 bytes ++ more) ∙ ap (λ l. cond first (without_inline l) l) (take_at (take 64 bytes) more 64 size) in
+        let back : drop 64 all ≡ more = marked-rest first (take 64 bytes ++ more) ∙ drop_at (take 64 bytes) more 64 size in
         step next t (entry_behind log.entries cell) refl
-        (sym (λ i. after (entry_behind log.entries (front i)) (λ x. on x (back i))) ∙ ap (λ m. load_from tail m log (cell ++ more)) steps ∙ h)
+        (sym (λ i. after (entry_behind log.entries (front i)) (λ x. on x (back i))) ∙ ap (λ m. load_from tail m log all) steps ∙ h)
 
 -- in the index a chunk stands behind its entry, and so behind all entries and chunks before it
-pub inline-places : (tail : tails.Tail) (index : List ℕ) (log : Log) (rev : ℕ) (e : index_entry.Entry) → loaded tail index ≡ Ok log → log.inline ≡ true → slice_get log.entries rev ≡ Some e
+pub inline-places : (tail : tails.Tail) (index : List ℕ) (log : Log) (rev : ℕ) (e : index_entry.Entry) → loaded_either tail index ≡ Ok log → log.inline ≡ true → slice_get log.entries rev ≡ Some e
     → take e.stored (drop (e.offset + 64 * suc rev) index) ≡ chunk_in (chunks_apart index) e
 inline-places tail index log rev e load form at =
     let a = loads-apart tail index log load in
     let inline : is_inline index ≡ true = sym a.0 ∙ form in
     let n = length index in
-    let raw = sym (entries-load tail n false index inline) ∙ sym (ap (λ b. loaded_apart tail (cond b (without_inline (entries_in n index)) index)) inline) ∙ a.1 in
+    let raw = sym (ap (λ b. loaded tail (cond b (without_inline (entries_in n index)) index)) inline) ∙ a.1 in
     let none : 0 + rev ≡ rev = omega arith in
-    let p = places tail n (record { inline = false; entries = [] }) (record { inline = false; entries = log.entries }) index raw rev e (ap (slice_get log.entries) none ∙ at) in
+    let p = places tail n true (record { inline = false; entries = [] }) (record { inline = false; entries = log.entries }) index raw rev e (ap (slice_get log.entries) none ∙ at) in
     let from : e.offset ≡ p.from = (let o = p.offset in omega (arith, o)) in
     ap (λ d. take e.stored (drop (d + 64 * suc rev) index)) from ∙ p.there ∙ ap (λ d. take e.stored (drop d (chunks_apart index))) (sym from)

@@ -1,4 +1,4 @@
--- The parents in entries, and bytes that are loaded_apart whole.
+-- The parents in entries, and bytes that are loaded whole.
 use Rattle.std.proofs.Common.{◌≡◌, ℕ, ◌+◌, ◌*◌, ◌/◌, List, [], ◌∷◌, ◌++◌, length, take, map, Ok, refl, sym, ◌∙◌, ap, arith}
 use Rattle.std.proofs.lemmas.List.{take_all}
 use Rattle.hgs_index.specs.declared.entry.Entry.{Entry}
@@ -7,7 +7,7 @@ use Rattle.hgs_index.specs.Revlog.{HoldsRevisions, Stored, items_from}
 use Rattle.hgs_index.proofs.RevlogLemmas.{length-held}
 use Rattle.hgs_revlog.specs.declared.fault.Tail.TheVariants.{Ignore, Refuse}
 use Rattle.hgs_revlog.specs.Held.{Agrees, AreWithinLimits, read_all}
-use Rattle.hgs_revlog.specs.Load.{loaded_apart}
+use Rattle.hgs_revlog.specs.Load.{loaded}
 use Rattle.hgs_revlog.specs.Log.{Log}
 use Rattle.hgs_revlog.proofs.StandingLemmas.{held-loaded}
 use Rattle.hgs_revlog.proofs.TailLemmas.{ignore-refuse}
@@ -23,9 +23,9 @@ pub parents-agrees : (index data_bytes : List ℕ) (entries : List Entry) (revis
 parents-agrees index data_bytes entries revisions h = ap parents_of_entries h.entries_are ∙ parents-items 0 [] h.held.stored ∙ ap (map (λ (r : Revision). r.parents)) h.held.these
 
 -- bytes that hold a list and nothing else load as its entries, whether or not a rest is passed over
-pub held-whole : (index data_bytes : List ℕ) (revisions : List Revision) → HoldsRevisions index data_bytes revisions → AreWithinLimits revisions data_bytes → (log : Log) × (loaded_apart Ignore index ≡ Ok log) × Agrees index data_bytes log.entries revisions
+pub held-whole : (index data_bytes : List ℕ) (revisions : List Revision) → HoldsRevisions index data_bytes revisions → AreWithinLimits revisions data_bytes → (log : Log) × (loaded Ignore index ≡ Ok log) × Agrees index data_bytes log.entries revisions
 held-whole index data_bytes revisions held within =
     let h = held-loaded index data_bytes [] revisions held within in
     let len = length-held index data_bytes revisions held in
     let all : take (64 * (length index / 64)) index ≡ index = take_all (64 * (length index / 64)) index (omega (arith, len)) in
-    (h.0, ignore-refuse index ∙ ap (loaded_apart Refuse) all ∙ h.1, h.3)
+    (h.0, ignore-refuse index ∙ ap (loaded Refuse) all ∙ h.1, h.3)

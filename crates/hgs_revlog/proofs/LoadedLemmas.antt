@@ -17,7 +17,7 @@ use Rattle.hgs_revlog.specs.declared.fault.RevFault.TheVariants.{Tail}
 use Rattle.hgs_revlog.specs.declared.fault.Tail.TheVariants.{Ignore, Refuse, Until}
 use Rattle.hgs_revlog.specs.declared.fault.Tail as tails
 use Rattle.hgs_revlog.specs.Log.{Log, with_entry, place_of, stored_sum, nodes_of}
-use Rattle.hgs_revlog.specs.Load.{most_revisions, most_text, most_data, entry_behind, ends_at, at_end, after, load_from, loaded_apart, pushed}
+use Rattle.hgs_revlog.specs.Load.{most_revisions, most_text, most_data, entry_behind, ends_at, at_end, after, load_from, loaded, pushed}
 use Rattle.hgs_revlog.specs.Loaded.{parents_in, HaveNodes, HaveOwnNodes, HaveOffsets, HaveSmallTexts, AreEntries}
 use Rattle.hgs_revlog.proofs.LoadLemmas.{IsFaultless, faultless, taken_entry, neither}
 use Rattle.hgs_revlog.proofs.HeldLemmas.{below, not_among}
@@ -59,7 +59,7 @@ module _ (Holds : Log → Type 0) (IsTaken : List ℕ → Type 0)
       let behind : (k : ℕ) → k < n → IsTaken (take 64 (drop (64 * k) (drop 64 bytes))) = (λ k lt. subst (λ bs. IsTaken (take 64 bs)) ((let q : 64 * suc k ≡ 64 + 64 * k = omega arith in ap (λ m. drop m bytes) q) ∙ sym (drop-drop (64 * k) 64 bytes)) (taken (suc k) (omega (arith, lt)))) in
       step tail log new (take 64 bytes) (λ next. load_from tail n next (drop 64 bytes)) (entry_behind log.entries (take 64 bytes)) first refl holds (λ next before h. load_holds tail n next new (drop 64 bytes) behind before h) e
 
-  pub loaded_holds : (tail : tails.Tail) (index : List ℕ) (log : Log) → ((k : ℕ) → k < length index / 64 → IsTaken (take 64 (drop (64 * k) index))) → Holds (record { inline = false; entries = [] }) → loaded_apart tail index ≡ Ok log → Holds log
+  pub loaded_holds : (tail : tails.Tail) (index : List ℕ) (log : Log) → ((k : ℕ) → k < length index / 64 → IsTaken (take 64 (drop (64 * k) index))) → Holds (record { inline = false; entries = [] }) → loaded tail index ≡ Ok log → Holds log
   loaded_holds tail index log taken none e = load_holds tail (length index / 64) (record { inline = false; entries = [] }) log index taken none e
 
   pub pushed_holds : (log new : Log) (bytes : List ℕ) → IsTaken bytes → Holds log → pushed log bytes ≡ Ok new → Holds new
@@ -235,13 +235,13 @@ entries_taken log bytes e any h are = record {
 entries_none : AreEntries []
 entries_none = record { few = omega arith; earlier = tt; own = own_none; not_null = refl; offsets = offsets_none; texts = tt; data_end = omega arith }
 
-pub loaded-entries : (tail : tails.Tail) (index : List ℕ) (log : Log) → loaded_apart tail index ≡ Ok log → AreEntries log.entries
+pub loaded-entries : (tail : tails.Tail) (index : List ℕ) (log : Log) → loaded tail index ≡ Ok log → AreEntries log.entries
 loaded-entries tail index log e = loaded_holds (λ l. AreEntries l.entries) Any entries_taken tail index log (λ k lt. tt) entries_none e
 
-pub loaded-separate : (tail : tails.Tail) (index : List ℕ) (log : Log) → loaded_apart tail index ≡ Ok log → log.inline ≡ false
+pub loaded-separate : (tail : tails.Tail) (index : List ℕ) (log : Log) → loaded tail index ≡ Ok log → log.inline ≡ false
 loaded-separate tail index log e = loaded_holds (λ l. l.inline ≡ false) Any (λ log bytes e any h is. is) tail index log (λ k lt. tt) refl e
 
-pub loaded-nodes : (tail : tails.Tail) (index : List ℕ) (log : Log) → IsBytes index → loaded_apart tail index ≡ Ok log → HaveNodes log.entries
+pub loaded-nodes : (tail : tails.Tail) (index : List ℕ) (log : Log) → IsBytes index → loaded tail index ≡ Ok log → HaveNodes log.entries
 loaded-nodes tail index log bytes e = loaded_holds (λ l. HaveNodes l.entries) IsWholeEntry nodes_taken tail index log (λ k lt. whole-entry index k bytes lt) nodes_none e
 
 pub pushed-entries : (log new : Log) (entry : List ℕ) → AreEntries log.entries → pushed log entry ≡ Ok new → AreEntries new.entries

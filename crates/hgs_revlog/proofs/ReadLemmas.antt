@@ -24,7 +24,7 @@ use Rattle.hgs_revlog.specs.declared.fault.RevFault.{RevFault}
 use Rattle.hgs_revlog.specs.declared.fault.RevFault.TheVariants as faults
 use Rattle.hgs_revlog.specs.declared.fault.Tail.TheVariants.{Refuse}
 use Rattle.hgs_revlog.specs.Log.{Log, with_entry, stored_sum, nodes_of}
-use Rattle.hgs_revlog.specs.Load.{most_revisions, fault_of, checked, unless, entry_behind, load_from, loaded_apart}
+use Rattle.hgs_revlog.specs.Load.{most_revisions, fault_of, checked, unless, separate_at, entry_behind, load_from, loaded}
 use Rattle.hgs_revlog.specs.Text.{text_of, text_at, entry_text, fitting_text, node_with}
 use Rattle.hgs_revlog.specs.Held.{Agrees, revision_of, chunk_in, with_text, read_from, read_all}
 use Rattle.hgs_revlog.proofs.LogLemmas.{equal_from_same, length-nodes_of}
@@ -92,8 +92,8 @@ says_header true b h x y s = cc
 says_header false true h x y s = cc
 says_header false false h x y s = s
 
--- The header that an entry which reads begins with; it is separate where the index says so.
-pub step_header : (cell : List ℕ) (e : Entry) (rev : ℕ) (revisions : List Revision) → entry_at cell rev ≡ Ok e → rev ≡ length revisions → (rev ≡ 0 → says_inline (header_at cell) ≡ false)
+-- the header that an entry which reads begins with, where it says that the index is separate
+pub step_header : (cell : List ℕ) (e : Entry) (rev : ℕ) (revisions : List Revision) → entry_at cell rev ≡ Ok e → rev ≡ length revisions → (rev == 0 && says_inline (header_at cell)) ≡ false
     → (h : Header) × (h.inline ≡ false) × (header_within cell rev ≡ next_header revisions h)
 step_header cell e rev [] is len plain =
     let first : (rev == 0) ≡ true = grind arith in
@@ -101,7 +101,7 @@ step_header cell e rev [] is len plain =
     let bad = has_bad_header (from_be_bytes w16 (part 0 2 cell)) in
     let tests = entry_tests _ _ (has_negative cell) (has_padding cell rev) (fields_of cell rev) e is in (
       header_of (from_be_bytes w16 (part 0 2 cell)),
-      says_header old bad (header_of (from_be_bytes w16 (part 0 2 cell))) (ap (λ b. b && old) (sym first) ∙ tests.0) (ap (λ b. b && bad) (sym first) ∙ tests.1) (plain (omega (arith, len))),
+      says_header old bad (header_of (from_be_bytes w16 (part 0 2 cell))) (ap (λ b. b && old) (sym first) ∙ tests.0) (ap (λ b. b && bad) (sym first) ∙ tests.1) (ap (λ b. b && says_inline (header_at cell)) (sym first) ∙ plain),
       ap (λ b. cond b (Some (header_of (from_be_bytes w16 (part 0 2 cell)))) None) first,
     )
 step_header cell e rev (r ∷ revisions) is len plain =
@@ -127,13 +127,25 @@ checked_is before (Ok x) e h = by (fault_of before x) h
         same_entry h = cc
     by (Some f) h = cc
 
+separate_ok : (s : Bool) (r : Result Entry EntryFault) (e : Entry) → cond s (Err HeaderFlags) r ≡ Ok e → (s ≡ false) × (r ≡ Ok e)
+separate_ok true r e h = cc
+separate_ok false r e h = (refl, h)
+
 -- an entry that is taken reads
 pub read_entry : (before : List Entry) (cell : List ℕ) (e : Entry) → entry_behind before cell ≡ Ok e → entry_at cell (length before) ≡ Ok e
 read_entry before cell e h = by (nat_le most_revisions (length before)) h
   where
-    by : (b : Bool) → cond b (Err (faults.Limit Changesets)) (checked before (entry_at cell (length before))) ≡ Ok e → entry_at cell (length before) ≡ Ok e
+    by : (b : Bool) → cond b (Err (faults.Limit Changesets)) (checked before (separate_at cell (length before))) ≡ Ok e → entry_at cell (length before) ≡ Ok e
     by true h = cc
-    by false h = checked_is before (entry_at cell (length before)) e h
+    by false h = (separate_ok (length before == 0 && says_inline (header_at cell)) (entry_at cell (length before)) e (checked_is before (separate_at cell (length before)) e h)).1
+
+-- and its header says that the index is separate
+pub read_plain : (before : List Entry) (cell : List ℕ) (e : Entry) → entry_behind before cell ≡ Ok e → (length before == 0 && says_inline (header_at cell)) ≡ false
+read_plain before cell e h = by (nat_le most_revisions (length before)) h
+  where
+    by : (b : Bool) → cond b (Err (faults.Limit Changesets)) (checked before (separate_at cell (length before))) ≡ Ok e → (length before == 0 && says_inline (header_at cell)) ≡ false
+    by true h = cc
+    by false h = (separate_ok (length before == 0 && says_inline (header_at cell)) (entry_at cell (length before)) e (checked_is before (separate_at cell (length before)) e h)).0
 
 pub with_text_ok : (e : Entry) (text : Result (List ℕ) RevFault) (more : Result (List Revision) RevFault) (revisions : List Revision) → with_text e text more ≡ Ok revisions
     → (t : List ℕ) × (rest : List Revision) × (text ≡ Ok t) × (more ≡ Ok rest) × (revisions ≡ revision_of e t ∷ rest)
@@ -201,14 +213,6 @@ list_is x y h = cc
 same_agrees : (i j : List ℕ) (es fs : List Entry) (d : List ℕ) (r q : List Revision) → i ≡ j → es ≡ fs → r ≡ q → Agrees i d es r → Agrees j d fs q
 same_agrees i j es fs d r q a b c h = subst (Agrees j d fs) c (subst (λ x. Agrees j d x r) b (subst (λ x. Agrees x d es r) a h))
 
--- the header stands in the first entry
-header_taken : (bytes : List ℕ) → header_at (take 64 bytes) ≡ header_at bytes
-header_taken [] = refl
-header_taken (a ∷ []) = refl
-header_taken (a ∷ b ∷ []) = refl
-header_taken (a ∷ b ∷ c ∷ []) = refl
-header_taken (a ∷ b ∷ c ∷ d ∷ bytes) = refl
-
 -- the data begins with the chunks of these entries, and with the index these hold the revisions
 pub record HeldFront (index data_bytes : List ℕ) (entries : List Entry) (revisions : List Revision) : Type 0 where
   pub used : List ℕ
@@ -220,9 +224,8 @@ pub record HeldFront (index data_bytes : List ℕ) (entries : List Entry) (revis
 held_from : (n : ℕ) (before end : Log) (index bytes front rest : List ℕ) (revisions more : List Revision) (entries : List Entry)
     → Agrees index front before.entries revisions → IsBytes bytes → 64 * n ≤ length bytes → load_from Refuse n before bytes ≡ Ok end
     → end.entries ≡ before.entries ++ entries → read_from end.entries (front ++ rest) (length before.entries) entries ≡ Ok more
-    → (length before.entries ≡ 0 → 64 ≤ length bytes → says_inline (header_at bytes) ≡ false)
     → HeldFront (index ++ bytes) (front ++ rest) end.entries (revisions ++ more)
-held_from zero before end index bytes front rest revisions more entries h are whole load these read plain =
+held_from zero before end index bytes front rest revisions more entries h are whole load these read =
     let none = refuse_none before end bytes load in
     let no_entries : entries ≡ [] = front_cancel before.entries entries [] (sym these ∙ ap (λ l. l.entries) (sym none.0) ∙ sym (append-nil before.entries)) in
     let no_bytes : bytes ≡ [] = empty bytes none.1 in
@@ -234,7 +237,7 @@ held_from zero before end index bytes front rest revisions more entries h are wh
       agrees = same_agrees index (index ++ bytes) before.entries end.entries front revisions (revisions ++ more)
           (sym (append-nil index) ∙ ap (λ l. index ++ l) (sym no_bytes)) (ap (λ l. l.entries) none.0) (sym (append-nil revisions) ∙ ap (λ l. revisions ++ l) no_more) h;
     }
-held_from (suc n) before end index bytes front rest revisions more entries h are whole load these read plain =
+held_from (suc n) before end index bytes front rest revisions more entries h are whole load these read =
     let s = refuse_step n before end bytes load in
     let e = s.0 in
     let cell = take 64 bytes in
@@ -250,8 +253,7 @@ held_from (suc n) before end index bytes front rest revisions more entries h are
     (ap (λ es. text_of es (length before.entries) c) (sym there) ∙ ap (text_of end.entries (length before.entries)) (sym chunk) ∙ w.2) in
     let reads = read_entry before.entries cell e s.1 in
     let ent = entry_taken cell (length before.entries) e (bytes_take 64 bytes are) (let l = length-take 64 bytes in omega (arith, l)) reads in
-    let hd = step_header cell e (length before.entries) revisions reads (length-agrees index front before.entries revisions h)
-    (λ first. ap says_inline (header_taken bytes) ∙ plain first (omega (arith, whole))) in
+    let hd = step_header cell e (length before.entries) revisions reads (length-agrees index front before.entries revisions h) (read_plain before.entries cell e s.1) in
     let spelled : entry_bytes e (next_header revisions hd.0) ≡ cell = ap (entry_bytes e) (sym hd.2) ∙ sym ent.0 in
     let next = subst (λ b. Agrees (index ++ b) (front ++ c) (before.entries ++ e ∷ []) (revisions ++ revision_of e t ∷ [])) spelled
     (agrees_on index front before.entries revisions e c t hd.0 h f ok (fits_none e (header_within cell (length before.entries)) ent.1) hd.1) in
@@ -259,8 +261,7 @@ held_from (suc n) before end index bytes front rest revisions more entries h are
     let count : length (before.entries ++ e ∷ []) ≡ suc (length before.entries) = (let l = length_push before.entries e in omega (arith, l)) in
     let held = held_from n (with_entry before e) end (index ++ cell) (drop 64 bytes) (front ++ c) (drop e.stored rest) (revisions ++ revision_of e t ∷ []) w.1 r.0
     next (bytes_drop 64 bytes are) (let l = length-drop 64 bytes in omega (arith, l)) s.2 r.1
-    (ap (λ d. read_from end.entries d (length (before.entries ++ e ∷ [])) r.0) whole_data ∙ ap (λ m. read_from end.entries (front ++ rest) m r.0) count ∙ w.3)
-    (λ none. absurd (omega (arith, none, count))) in
+    (ap (λ d. read_from end.entries d (length (before.entries ++ e ∷ [])) r.0) whole_data ∙ ap (λ m. read_from end.entries (front ++ rest) m r.0) count ∙ w.3) in
     record {
       used = held.used;
       left = held.left;
@@ -273,15 +274,15 @@ agrees_none : Agrees [] [] [] []
 agrees_none = record { held = held-none; entries_are = refl }
 
 -- An index that loads whole, whose texts read, holds with the front of the data what is read.
-pub loaded-front : (index data_bytes : List ℕ) (log : Log) (revisions : List Revision) → IsBytes index → (64 ≤ length index → says_inline (header_at index) ≡ false) → loaded_apart Refuse index ≡ Ok log → read_all log.entries data_bytes ≡ Ok revisions
+pub loaded-front : (index data_bytes : List ℕ) (log : Log) (revisions : List Revision) → IsBytes index → loaded Refuse index ≡ Ok log → read_all log.entries data_bytes ≡ Ok revisions
     → HeldFront index data_bytes log.entries revisions
-loaded-front index data_bytes log revisions are plain load read =
-    held_from (length index / 64) (record { inline = false; entries = [] }) log [] index [] data_bytes [] revisions log.entries agrees_none are (omega arith) load refl read (λ none. plain)
+loaded-front index data_bytes log revisions are load read =
+    held_from (length index / 64) (record { inline = false; entries = [] }) log [] index [] data_bytes [] revisions log.entries agrees_none are (omega arith) load refl read
 
 -- With no byte past the last chunk it holds this with all of the data.
-pub loaded-held : (index data_bytes : List ℕ) (log : Log) (revisions : List Revision) → IsBytes index → (64 ≤ length index → says_inline (header_at index) ≡ false) → loaded_apart Refuse index ≡ Ok log → read_all log.entries data_bytes ≡ Ok revisions → length data_bytes ≡ stored_sum log.entries
+pub loaded-held : (index data_bytes : List ℕ) (log : Log) (revisions : List Revision) → IsBytes index → loaded Refuse index ≡ Ok log → read_all log.entries data_bytes ≡ Ok revisions → length data_bytes ≡ stored_sum log.entries
     → Agrees index data_bytes log.entries revisions
-loaded-held index data_bytes log revisions are plain load read last =
-    let h = loaded-front index data_bytes log revisions are plain load read in
+loaded-held index data_bytes log revisions are load read last =
+    let h = loaded-front index data_bytes log revisions are load read in
     let none : h.left ≡ [] = empty h.left (let s = stored_sum-agrees index h.used log.entries revisions h.agrees in let d = ap length h.split in omega (arith, s, d, last, length-append h.used h.left)) in
     subst (λ d. Agrees index d log.entries revisions) (sym (append-nil h.used) ∙ ap (λ l. h.used ++ l) (sym none) ∙ sym h.split) h.agrees

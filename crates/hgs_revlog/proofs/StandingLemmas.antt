@@ -18,7 +18,7 @@ use Rattle.hgs_revlog.specs.declared.fault.RevFault.{RevFault}
 use Rattle.hgs_revlog.specs.declared.fault.RevFault.TheVariants as faults
 use Rattle.hgs_revlog.specs.declared.fault.Tail.TheVariants.{Refuse}
 use Rattle.hgs_revlog.specs.Log.{Log, with_entry, stored_sum, nodes_of}
-use Rattle.hgs_revlog.specs.Load.{most_revisions, most_text, most_data, entry_behind, after, load_from, loaded_apart}
+use Rattle.hgs_revlog.specs.Load.{most_revisions, most_text, most_data, entry_behind, after, load_from, loaded}
 use Rattle.hgs_revlog.specs.Text.{text_of, text_at, fitting_text, node_with}
 use Rattle.hgs_revlog.specs.Held.{AreWithinLimits, Agrees, chunk_in, with_text, read_from, read_all}
 use Rattle.hgs_revlog.proofs.LogLemmas.{same_itself, sum_push, length-nodes_of}
@@ -220,7 +220,7 @@ length_revisions (s ∷ stored) = ap suc (length_revisions stored)
 
 -- Bytes that hold revisions within the limits load whole, and their texts read as these revisions, also from longer data.
 pub held-loaded : (index data_bytes rest : List ℕ) (revisions : List Revision) → HoldsRevisions index data_bytes revisions → AreWithinLimits revisions data_bytes
-    → (log : Log) × (loaded_apart Refuse index ≡ Ok log) × (read_all log.entries (data_bytes ++ rest) ≡ Ok revisions) × Agrees index data_bytes log.entries revisions
+    → (log : Log) × (loaded Refuse index ≡ Ok log) × (read_all log.entries (data_bytes ++ rest) ≡ Ok revisions) × Agrees index data_bytes log.entries revisions
 held-loaded index data_bytes rest revisions h limits =
     let stored = h.stored in
     let is = items stored in
@@ -238,7 +238,7 @@ held-loaded index data_bytes rest revisions h limits =
     } in
     let spelled : index ≡ bytes_from (Some h.header) is = h.index_is ∙ all_bytes h.header is h.form in
     let entries_count : length index / 64 ≡ length stored = (let l = length-held index data_bytes revisions h in omega (arith, l, count)) in
-    let load : loaded_apart Refuse index ≡ Ok log =
+    let load : loaded Refuse index ≡ Ok log =
     ap (λ n. load_from Refuse n (record { inline = false; entries = [] }) index) entries_count
     ∙ ap (load_from Refuse (length stored) (record { inline = false; entries = [] })) spelled
     ∙ loads_from (record { inline = false; entries = [] }) (Some h.header) stored next h.form (λ s. refl) (λ z. refl) in

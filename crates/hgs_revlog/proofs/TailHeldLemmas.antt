@@ -1,14 +1,12 @@
 -- What each way to take the end of an index finds of the revisions that the bytes hold.
-use Rattle.std.proofs.Common.{◌≡◌, ℕ, zero, suc, ◌+◌, ◌-◌, ◌*◌, ◌/◌, ◌≤◌, Bool, true, false, cond, not, ◌&&◌, List, [], ◌∷◌, length, take, drop, map, Some, None, Ok, Err, refl, sym, ◌∙◌, ap, arith, length-append}
-use Rattle.std.specs.Prelude.{position, slice_get, nat_le, nat_lt}
+use Rattle.std.proofs.Common.{◌≡◌, ℕ, zero, suc, ◌+◌, ◌-◌, ◌*◌, ◌/◌, Bool, cond, not, ◌&&◌, List, [], ◌∷◌, length, take, drop, map, Some, None, Ok, Err, refl, sym, ◌∙◌, ap, arith, length-append}
+use Rattle.std.specs.Prelude.{position, slice_get, nat_lt}
 use Rattle.std.specs.List.{position_or_len}
 use Rattle.std.proofs.lemmas.List.{take-append-drop, length-take}
 use Rattle.hex.specs.Hex.{IsBytes}
 use Rattle.hgs_bytes.specs.Bytes.{same}
 use Rattle.hgs_index.specs.declared.entry.Entry.{Entry}
 use Rattle.hgs_index.specs.declared.node.Node.{Node}
-use Rattle.hgs_index.specs.Entry.{header_at}
-use Rattle.hgs_index.specs.Inline.{says_inline, is_inline}
 use Rattle.hgs_index.specs.Revision.{Revision, nodes, same_parents}
 use Rattle.hgs_index.specs.Revlog.{BeginsWithRevisions}
 use Rattle.hgs_index.proofs.RevlogLemmas.{length-held}
@@ -16,7 +14,7 @@ use Rattle.hgs_revlog.specs.declared.add.Added.TheVariants.{Old}
 use Rattle.hgs_revlog.specs.declared.fault.RevFault.TheVariants.{Collision}
 use Rattle.hgs_revlog.specs.declared.fault.Tail.TheVariants.{Ignore, Refuse, Until}
 use Rattle.hgs_revlog.specs.Log.{Log, nodes_of, place_of}
-use Rattle.hgs_revlog.specs.Load.{loaded_apart}
+use Rattle.hgs_revlog.specs.Load.{loaded}
 use Rattle.hgs_revlog.specs.Text.{text_of}
 use Rattle.hgs_revlog.specs.Add.{added, added_at, matched, next_entry, parents_of}
 use Rattle.hgs_revlog.specs.Held.{AreWithinLimits, Agrees, EndsFirstAt, chunk_in, revision_of, read_from, read_all}
@@ -25,41 +23,17 @@ use Rattle.hgs_revlog.proofs.ReadLemmas.{loaded-front, bytes_take, with_text_ok}
 use Rattle.hgs_revlog.proofs.StandingLemmas.{held-loaded, first_of}
 use Rattle.hgs_revlog.proofs.TailLemmas.{ignore-refuse, until-refuse, refuse-until}
 
-or-says : (a b : Bool) → (a && b) ≡ false → a ≡ true → b ≡ false
-or-says true b h t = h
-or-says false b h t = cc
-
--- a separate index says so, and so does a front of it
-pub says-separate : (index : List ℕ) → is_inline index ≡ false → 64 ≤ length index → says_inline (header_at index) ≡ false
-says-separate index plain whole = or-says (nat_le 64 (length index)) (says_inline (header_at index)) plain (at-least (length index) whole)
-  where
-    at-least : (len : ℕ) → 64 ≤ len → nat_le 64 len ≡ true
-    at-least len h = grind arith
-
-header-front : (m : ℕ) (index : List ℕ) → header_at (take (suc (suc (suc (suc m)))) index) ≡ header_at index
-header-front m [] = refl
-header-front m (a ∷ []) = refl
-header-front m (a ∷ b ∷ []) = refl
-header-front m (a ∷ b ∷ c ∷ []) = refl
-header-front m (a ∷ b ∷ c ∷ d ∷ index) = refl
-
-pub front-says : (n : ℕ) (index : List ℕ) → is_inline index ≡ false → 64 ≤ length (take n index) → says_inline (header_at (take n index)) ≡ false
-front-says n index plain whole =
-    let len = length-take n index in
-    let long : n ≡ suc (suc (suc (suc (n - 4)))) = omega (arith, len, whole) in
-    ap (λ m. says_inline (header_at (take m index))) long ∙ ap says_inline (header-front (n - 4) index) ∙ says-separate index plain (omega (arith, len, whole))
-
 -- the front of an index that loads, whose texts read
-begins_from : (n : ℕ) (index data_bytes : List ℕ) (log : Log) (revisions : List Revision) → IsBytes index → (64 ≤ length (take n index) → says_inline (header_at (take n index)) ≡ false) → loaded_apart Refuse (take n index) ≡ Ok log → read_all log.entries data_bytes ≡ Ok revisions
+begins_from : (n : ℕ) (index data_bytes : List ℕ) (log : Log) (revisions : List Revision) → IsBytes index → loaded Refuse (take n index) ≡ Ok log → read_all log.entries data_bytes ≡ Ok revisions
     → (begins : BeginsWithRevisions index data_bytes revisions) × Agrees begins.index_front begins.data_front log.entries revisions × (begins.index_front ≡ take n index)
-begins_from n index data_bytes log revisions are plain load read =
-    let h = loaded-front (take n index) data_bytes log revisions (bytes_take n index are) plain load read in
+begins_from n index data_bytes log revisions are load read =
+    let h = loaded-front (take n index) data_bytes log revisions (bytes_take n index are) load read in
     (record { index_front = take n index; data_front = h.used; held = h.agrees.held; index_begins = (drop n index, sym (take-append-drop n index)); data_begins = (h.left, h.split) }, h.agrees, refl)
 
-pub ignored-held : (index data_bytes : List ℕ) (log : Log) (revisions : List Revision) → IsBytes index → is_inline index ≡ false → loaded_apart Ignore index ≡ Ok log → read_all log.entries data_bytes ≡ Ok revisions
+pub ignored-held : (index data_bytes : List ℕ) (log : Log) (revisions : List Revision) → IsBytes index → loaded Ignore index ≡ Ok log → read_all log.entries data_bytes ≡ Ok revisions
     → (begins : BeginsWithRevisions index data_bytes revisions) × Agrees begins.index_front begins.data_front log.entries revisions × (length revisions ≡ length index / 64)
-ignored-held index data_bytes log revisions are plain load read =
-    let b = begins_from (64 * (length index / 64)) index data_bytes log revisions are (front-says (64 * (length index / 64)) index plain) (sym (ignore-refuse index) ∙ load) read in
+ignored-held index data_bytes log revisions are load read =
+    let b = begins_from (64 * (length index / 64)) index data_bytes log revisions are (sym (ignore-refuse index) ∙ load) read in
     let whole = length-held b.0.index_front b.0.data_front revisions b.0.held in
     let front = ap length b.2 in
     let len = length-take (64 * (length index / 64)) index in
@@ -73,22 +47,22 @@ limits-front index data_bytes revisions b limits =
 
 -- what a front of the bytes gives
 front_loaded : (index data_bytes : List ℕ) (revisions : List Revision) (b : BeginsWithRevisions index data_bytes revisions) → AreWithinLimits revisions b.data_front
-    → (log : Log) × (loaded_apart Refuse b.index_front ≡ Ok log) × (read_all log.entries data_bytes ≡ Ok revisions) × Agrees b.index_front b.data_front log.entries revisions
+    → (log : Log) × (loaded Refuse b.index_front ≡ Ok log) × (read_all log.entries data_bytes ≡ Ok revisions) × Agrees b.index_front b.data_front log.entries revisions
 front_loaded index data_bytes revisions b limits =
     let h = held-loaded b.index_front b.data_front b.data_begins.0 revisions b.held limits in
     (h.0, h.1, ap (read_all h.0.entries) b.data_begins.1 ∙ h.2, h.3)
 
 pub front-ignored : (index data_bytes : List ℕ) (revisions : List Revision) → (begins : BeginsWithRevisions index data_bytes revisions) → length revisions ≡ length index / 64 → AreWithinLimits revisions begins.data_front
-    → (log : Log) × (loaded_apart Ignore index ≡ Ok log) × (read_all log.entries data_bytes ≡ Ok revisions) × Agrees begins.index_front begins.data_front log.entries revisions
+    → (log : Log) × (loaded Ignore index ≡ Ok log) × (read_all log.entries data_bytes ≡ Ok revisions) × Agrees begins.index_front begins.data_front log.entries revisions
 front-ignored index data_bytes revisions b all limits =
     let h = front_loaded index data_bytes revisions b limits in
     let len = length-held b.index_front b.data_front revisions b.held in
     let front : take (64 * (length index / 64)) index ≡ b.index_front =
     ap (take (64 * (length index / 64))) b.index_begins.1 ∙ first_of b.index_front b.index_begins.0 (64 * (length index / 64)) (omega (arith, len, all)) in
-    (h.0, ignore-refuse index ∙ ap (loaded_apart Refuse) front ∙ h.1, h.2, h.3)
+    (h.0, ignore-refuse index ∙ ap (loaded Refuse) front ∙ h.1, h.2, h.3)
 
 pub held-ignored : (index data_bytes : List ℕ) (revisions : List Revision) → (begins : BeginsWithRevisions index data_bytes revisions) → length revisions ≡ length index / 64 → AreWithinLimits revisions data_bytes
-    → (log : Log) × (loaded_apart Ignore index ≡ Ok log) × (read_all log.entries data_bytes ≡ Ok revisions) × Agrees begins.index_front begins.data_front log.entries revisions
+    → (log : Log) × (loaded Ignore index ≡ Ok log) × (read_all log.entries data_bytes ≡ Ok revisions) × Agrees begins.index_front begins.data_front log.entries revisions
 held-ignored index data_bytes revisions b all limits = front-ignored index data_bytes revisions b all (limits-front index data_bytes revisions b limits)
 
 -- the first place in a list of values is that of what they come from
@@ -109,24 +83,24 @@ place-among entries node = sym (position_map (λ (e : Entry). e.node.0) (λ n. s
 place-ends : (index data_bytes : List ℕ) (entries : List Entry) (revisions : List Revision) (node : List ℕ) → Agrees index data_bytes entries revisions → place_of entries node ≡ position (λ n. same n node) (nodes revisions)
 place-ends index data_bytes entries revisions node h = sym (position_map (λ (e : Entry). e.node.0) (λ n. same n node) entries) ∙ ap (position (λ n. same n node)) (nodes_of-agrees index data_bytes entries revisions h)
 
-pub until-held : (index data_bytes : List ℕ) (log : Log) (revisions : List Revision) (node : Node) → IsBytes index → is_inline index ≡ false → loaded_apart (Until node) index ≡ Ok log → read_all log.entries data_bytes ≡ Ok revisions
+pub until-held : (index data_bytes : List ℕ) (log : Log) (revisions : List Revision) (node : Node) → IsBytes index → loaded (Until node) index ≡ Ok log → read_all log.entries data_bytes ≡ Ok revisions
     → (begins : BeginsWithRevisions index data_bytes revisions) × Agrees begins.index_front begins.data_front log.entries revisions × EndsFirstAt node.0 revisions
-until-held index data_bytes log revisions node are plain load read =
+until-held index data_bytes log revisions node are load read =
     let u = until-refuse index log node load in
-    let b = begins_from (64 * length log.entries) index data_bytes log revisions are (front-says (64 * length log.entries) index plain) u.0 read in
+    let b = begins_from (64 * length log.entries) index data_bytes log revisions are u.0 read in
     let len = length-agrees b.0.index_front b.0.data_front log.entries revisions b.1 in
     (b.0, b.1, sym (place-ends b.0.index_front b.0.data_front log.entries revisions node.0 b.1) ∙ u.1 ∙ ap (λ n. Some (n - 1)) len)
 
 pub front-until : (index data_bytes : List ℕ) (revisions : List Revision) (node : Node) → (begins : BeginsWithRevisions index data_bytes revisions) → EndsFirstAt node.0 revisions → AreWithinLimits revisions begins.data_front
-    → (log : Log) × (loaded_apart (Until node) index ≡ Ok log) × (read_all log.entries data_bytes ≡ Ok revisions) × Agrees begins.index_front begins.data_front log.entries revisions
+    → (log : Log) × (loaded (Until node) index ≡ Ok log) × (read_all log.entries data_bytes ≡ Ok revisions) × Agrees begins.index_front begins.data_front log.entries revisions
 front-until index data_bytes revisions node b ends limits =
     let h = front_loaded index data_bytes revisions b limits in
     let len = length-agrees b.index_front b.data_front h.0.entries revisions h.3 in
     let last = place-ends b.index_front b.data_front h.0.entries revisions node.0 h.3 ∙ ends ∙ ap (λ n. Some (n - 1)) (sym len) in
-    (h.0, ap (loaded_apart (Until node)) b.index_begins.1 ∙ refuse-until b.index_front b.index_begins.0 h.0 node h.1 last, h.2, h.3)
+    (h.0, ap (loaded (Until node)) b.index_begins.1 ∙ refuse-until b.index_front b.index_begins.0 h.0 node h.1 last, h.2, h.3)
 
 pub held-until : (index data_bytes : List ℕ) (revisions : List Revision) (node : Node) → (begins : BeginsWithRevisions index data_bytes revisions) → EndsFirstAt node.0 revisions → AreWithinLimits revisions data_bytes
-    → (log : Log) × (loaded_apart (Until node) index ≡ Ok log) × (read_all log.entries data_bytes ≡ Ok revisions) × Agrees begins.index_front begins.data_front log.entries revisions
+    → (log : Log) × (loaded (Until node) index ≡ Ok log) × (read_all log.entries data_bytes ≡ Ok revisions) × Agrees begins.index_front begins.data_front log.entries revisions
 held-until index data_bytes revisions node b ends limits = front-until index data_bytes revisions node b ends (limits-front index data_bytes revisions b limits)
 
 -- ---- a revision that stands

@@ -9,7 +9,7 @@ use Rattle.hgs_revlog.specs.declared.fault.RevFault.{RevFault}
 use Rattle.hgs_revlog.specs.declared.fault.RevFault.TheVariants.{Missing, Tail}
 use Rattle.hgs_revlog.specs.declared.fault.Tail.TheVariants.{Ignore, Refuse, Until}
 use Rattle.hgs_revlog.specs.Log.{Log, with_entry, place_of}
-use Rattle.hgs_revlog.specs.Load.{entry_behind, after, load_from, loaded_apart}
+use Rattle.hgs_revlog.specs.Load.{entry_behind, after, load_from, loaded}
 use Rattle.hgs_revlog.proofs.LogLemmas.{position_push_none, position_push_some}
 
 after_same : (r : Result index_entry.Entry RevFault) (f g : index_entry.Entry → Result Log RevFault) → ((e : index_entry.Entry) → f e ≡ g e) → after r f ≡ after r g
@@ -39,7 +39,7 @@ whole_front : (index : List ℕ) → length (take (64 * (length index / 64)) ind
 whole_front index = ap (λ n. n / 64) (length-take (64 * (length index / 64)) index) ∙ omega arith
 
 -- The whole entries with a rest passed over are those of the front that they are.
-pub ignore-refuse : (index : List ℕ) → loaded_apart Ignore index ≡ loaded_apart Refuse (take (64 * (length index / 64)) index)
+pub ignore-refuse : (index : List ℕ) → loaded Ignore index ≡ loaded Refuse (take (64 * (length index / 64)) index)
 ignore-refuse index =
     ignore_front (length index / 64) _ index
     ∙ ap (λ n. load_from Refuse n (record { inline = false; entries = [] }) (take (64 * (length index / 64)) index)) (sym (whole_front index))
@@ -112,7 +112,7 @@ until_from (suc n) (suc m) log end front rest node h whole is none last =
         ap (load_from (Until node) m (with_entry log e)) (drop-append-le 64 front rest (omega arith))
         ∙ next (placed e false t)
 
-pub refuse-until : (front rest : List ℕ) (log : Log) (node : Node) → loaded_apart Refuse front ≡ Ok log → place_of log.entries node.0 ≡ Some (length log.entries - 1) → loaded_apart (Until node) (front ++ rest) ≡ Ok log
+pub refuse-until : (front rest : List ℕ) (log : Log) (node : Node) → loaded Refuse front ≡ Ok log → place_of log.entries node.0 ≡ Some (length log.entries - 1) → loaded (Until node) (front ++ rest) ≡ Ok log
 refuse-until front rest log node is last =
     until_from (length front / 64) (length (front ++ rest) / 64) _ log front rest node (let l = length-append front rest in omega (arith, l)) (omega arith) is refl last
 
@@ -155,7 +155,7 @@ until_found (suc n) log end bytes node h none =
         let r = next is (placed e false t) in
         (suc r.0, (let le = r.1 in omega (arith, le)), refuse_cons r.0 log end bytes e taken r.2, r.3)
 
-pub until-refuse : (index : List ℕ) (log : Log) (node : Node) → loaded_apart (Until node) index ≡ Ok log → (loaded_apart Refuse (take (64 * length log.entries) index) ≡ Ok log) × (place_of log.entries node.0 ≡ Some (length log.entries - 1)) × (64 * length log.entries ≤ length index)
+pub until-refuse : (index : List ℕ) (log : Log) (node : Node) → loaded (Until node) index ≡ Ok log → (loaded Refuse (take (64 * length log.entries) index) ≡ Ok log) × (place_of log.entries node.0 ≡ Some (length log.entries - 1)) × (64 * length log.entries ≤ length index)
 until-refuse index log node h =
     let r = until_found (length index / 64) (record { inline = false; entries = [] }) log index node h refl in
     let k : r.0 ≡ length log.entries = (let l = load_length r.0 (record { inline = false; entries = [] }) log (take (64 * r.0) index) r.2 in omega (arith, l)) in
@@ -189,7 +189,7 @@ until_none (suc n) log end bytes node h none =
         absurd (let no : None ≡ Some (length log.entries) = sym after ∙ position_push_none (λ x. same x.node.0 node.0) log.entries e before ∙ ap (λ b. cond b (Some (length log.entries)) None) t in cc)
     by e after before next false t = next
 
-pub ignore-until : (index : List ℕ) (log : Log) (node : Node) → loaded_apart Ignore index ≡ Ok log → place_of log.entries node.0 ≡ None → loaded_apart (Until node) index ≡ Err Missing
+pub ignore-until : (index : List ℕ) (log : Log) (node : Node) → loaded Ignore index ≡ Ok log → place_of log.entries node.0 ≡ None → loaded (Until node) index ≡ Err Missing
 ignore-until index log node h none = until_none (length index / 64) (record { inline = false; entries = [] }) log index node h none
 
 -- ---- faults
@@ -212,5 +212,5 @@ until_fault (suc n) log bytes node f h =
     (λ e is. ends_or (same e.node.0 node.0) (with_entry log e) (load_from (Until node) n (with_entry log e) (drop 64 bytes)) f (until_fault n (with_entry log e) (drop 64 bytes) node f is)) h
 
 -- a fault of the whole entries is that of a load up to a node, or the node comes before it
-pub until-fault : (index : List ℕ) (node : Node) (f : RevFault) → loaded_apart Ignore index ≡ Err f → (loaded_apart (Until node) index ≡ Err f) ⊎ ((log : Log) × (loaded_apart (Until node) index ≡ Ok log))
+pub until-fault : (index : List ℕ) (node : Node) (f : RevFault) → loaded Ignore index ≡ Err f → (loaded (Until node) index ≡ Err f) ⊎ ((log : Log) × (loaded (Until node) index ≡ Ok log))
 until-fault index node f h = until_fault (length index / 64) (record { inline = false; entries = [] }) index node f h

@@ -14,7 +14,7 @@ ghost use Rattle.hgs_revlog.specs.declared.fault.RevFault.TheVariants.{Collision
 ghost use Rattle.hgs_revlog.specs.declared.fault.Tail.{Tail};
 ghost use Rattle.hgs_revlog.specs.declared.fault.Tail.TheVariants.{Ignore, Refuse, Until};
 ghost use Rattle.hgs_revlog.specs.Log.{Log, nodes_of, place_of, stored_sum, with_entry};
-ghost use Rattle.hgs_revlog.specs.Load.{loaded, pushed, entry_behind};
+ghost use Rattle.hgs_revlog.specs.Load.{loaded, loaded_either, pushed, entry_behind};
 ghost use Rattle.hgs_revlog.specs.Loaded.{AreEntries, HaveNodes, HaveOwnNodes, parents_in};
 ghost use Rattle.hgs_revlog.specs.Add.{added, next_entry};
 ghost use Rattle.hgs_revlog.specs.Held.{Agrees, AreWithinLimits, EndsFirstAt, chunk_in, read_all};
@@ -22,32 +22,37 @@ ghost use Rattle.hgs_revlog.specs.Text.{span_in};
 
 use hgs_index::laws::inline_taken_apart;
 
-/// Within the limits, and with no byte of data past the last chunk, a separate index loads whole and its texts read exactly
+/// Within the limits, and with no byte of data past the last chunk, an index loads whole and its texts read exactly
 /// where the bytes hold a list of revisions, and as that list and its entries.
 pub fn whole_index()
-    ensures holds { (index data_bytes : List ℕ) (log : Log) (revisions : List Revision) → IsBytes index → loaded Refuse index ≡ Ok log → log.inline ≡ false → read_all log.entries data_bytes ≡ Ok revisions → length data_bytes ≡ stored_sum log.entries → Agrees index data_bytes log.entries revisions }
+    ensures holds { (index data_bytes : List ℕ) (log : Log) (revisions : List Revision) → IsBytes index → loaded Refuse index ≡ Ok log → read_all log.entries data_bytes ≡ Ok revisions → length data_bytes ≡ stored_sum log.entries → Agrees index data_bytes log.entries revisions }
     ensures loads { (index data_bytes rest : List ℕ) (revisions : List Revision) → HoldsRevisions index data_bytes revisions → AreWithinLimits revisions data_bytes → (log : Log) × (loaded Refuse index ≡ Ok log) × (read_all log.entries (data_bytes ++ rest) ≡ Ok revisions) × Agrees index data_bytes log.entries revisions }
-{
-    inline_taken_apart();
-}
+{}
 
-/// With a rest passed over, a separate index is what its whole entries alone are, and so it loads and its texts read exactly
+/// With a rest passed over, an index is what its whole entries alone are, and so it loads and its texts read exactly
 /// where the bytes begin with those that hold as many revisions as there are whole entries, and as these and their
 /// entries. The limits are asked of these bytes alone, and not of what a writer has appended behind them.
 pub fn ignored_rest()
-    ensures front { (index : List ℕ) → is_inline index ≡ false → loaded Ignore index ≡ loaded Refuse (take (64 * (length index / 64)) index) }
-    ensures holds { (index data_bytes : List ℕ) (log : Log) (revisions : List Revision) → IsBytes index → loaded Ignore index ≡ Ok log → log.inline ≡ false → read_all log.entries data_bytes ≡ Ok revisions → (begins : BeginsWithRevisions index data_bytes revisions) × Agrees begins.index_front begins.data_front log.entries revisions × (length revisions ≡ length index / 64) }
+    ensures front { (index : List ℕ) → loaded Ignore index ≡ loaded Refuse (take (64 * (length index / 64)) index) }
+    ensures holds { (index data_bytes : List ℕ) (log : Log) (revisions : List Revision) → IsBytes index → loaded Ignore index ≡ Ok log → read_all log.entries data_bytes ≡ Ok revisions → (begins : BeginsWithRevisions index data_bytes revisions) × Agrees begins.index_front begins.data_front log.entries revisions × (length revisions ≡ length index / 64) }
     ensures loads { (index data_bytes : List ℕ) (revisions : List Revision) → (begins : BeginsWithRevisions index data_bytes revisions) → length revisions ≡ length index / 64 → AreWithinLimits revisions begins.data_front → (log : Log) × (loaded Ignore index ≡ Ok log) × (read_all log.entries data_bytes ≡ Ok revisions) × Agrees begins.index_front begins.data_front log.entries revisions }
-{
-    inline_taken_apart();
-}
+{}
+
+/// An index of either form loads in the form that its header says: a separate one as `loaded` says. In both, the entries are
+/// those of an index, and where it is bytes, each node is 20 bytes.
+pub fn either_form()
+    ensures separate { (tail : Tail) (index : List ℕ) → is_inline index ≡ false → loaded_either tail index ≡ loaded tail index }
+    ensures form { (tail : Tail) (index : List ℕ) (log : Log) → loaded_either tail index ≡ Ok log → log.inline ≡ is_inline index }
+    ensures entries { (tail : Tail) (index : List ℕ) (log : Log) → loaded_either tail index ≡ Ok log → AreEntries log.entries }
+    ensures nodes { (tail : Tail) (index : List ℕ) (log : Log) → IsBytes index → loaded_either tail index ≡ Ok log → HaveNodes log.entries }
+{}
 
 /// An inline index loads whole and its texts read exactly where it holds a list of revisions, and as that list, from the
 /// chunks that it is taken apart into; and these are what stands in the index at the places of `span_in`.
 pub fn inline_index()
-    ensures holds { (index data_bytes : List ℕ) (log : Log) (revisions : List Revision) → IsBytes index → loaded Refuse index ≡ Ok log → log.inline ≡ true → read_all log.entries (chunks_apart index) ≡ Ok revisions → Holds true index data_bytes revisions }
-    ensures loads { (index data_bytes : List ℕ) (revisions : List Revision) → Holds true index data_bytes revisions → AreWithinLimits revisions (chunks_apart index) → (log : Log) × (loaded Refuse index ≡ Ok log) × (read_all log.entries (chunks_apart index) ≡ Ok revisions) × Agrees (index_apart index) (chunks_apart index) log.entries revisions }
-    ensures places { (tail : Tail) (index : List ℕ) (log : Log) (rev : ℕ) (e : Entry) → loaded tail index ≡ Ok log → log.inline ≡ true → slice_get log.entries rev ≡ Some e → take e.stored (drop (span_in true rev e).from index) ≡ chunk_in (chunks_apart index) e }
+    ensures holds { (index data_bytes : List ℕ) (log : Log) (revisions : List Revision) → IsBytes index → loaded_either Refuse index ≡ Ok log → log.inline ≡ true → read_all log.entries (chunks_apart index) ≡ Ok revisions → Holds true index data_bytes revisions }
+    ensures loads { (index data_bytes : List ℕ) (revisions : List Revision) → Holds true index data_bytes revisions → AreWithinLimits revisions (chunks_apart index) → (log : Log) × (loaded_either Refuse index ≡ Ok log) × (read_all log.entries (chunks_apart index) ≡ Ok revisions) × Agrees (index_apart index) (chunks_apart index) log.entries revisions }
+    ensures places { (tail : Tail) (index : List ℕ) (log : Log) (rev : ℕ) (e : Entry) → loaded_either tail index ≡ Ok log → log.inline ≡ true → slice_get log.entries rev ≡ Some e → take e.stored (drop (span_in true rev e).from index) ≡ chunk_in (chunks_apart index) e }
 {
     inline_taken_apart();
 }
@@ -62,22 +67,18 @@ pub fn entries_of_revisions()
 /// Bytes that hold a list and nothing else load with a rest passed over as well, as the entries of the whole index.
 pub fn held_bytes_load()
     ensures { (index data_bytes : List ℕ) (revisions : List Revision) → HoldsRevisions index data_bytes revisions → AreWithinLimits revisions data_bytes → (log : Log) × (loaded Ignore index ≡ Ok log) × Agrees index data_bytes log.entries revisions }
-{
-    inline_taken_apart();
-}
+{}
 
-/// Up to a node, a separate index loads and its texts read exactly where the bytes begin with those that hold revisions of
+/// Up to a node, an index loads and its texts read exactly where the bytes begin with those that hold revisions of
 /// which the last is the first with the node, whatever follows and however much, and as these and their entries. Where
 /// the whole entries have a fault, it is refused with that, unless the node comes before; where they have none and none
 /// has the node, the node is missing.
 pub fn until_node()
-    ensures holds { (index data_bytes : List ℕ) (log : Log) (revisions : List Revision) (node : Node) → IsBytes index → loaded (Until node) index ≡ Ok log → log.inline ≡ false → read_all log.entries data_bytes ≡ Ok revisions → (begins : BeginsWithRevisions index data_bytes revisions) × Agrees begins.index_front begins.data_front log.entries revisions × EndsFirstAt node.0 revisions }
+    ensures holds { (index data_bytes : List ℕ) (log : Log) (revisions : List Revision) (node : Node) → IsBytes index → loaded (Until node) index ≡ Ok log → read_all log.entries data_bytes ≡ Ok revisions → (begins : BeginsWithRevisions index data_bytes revisions) × Agrees begins.index_front begins.data_front log.entries revisions × EndsFirstAt node.0 revisions }
     ensures loads { (index data_bytes : List ℕ) (revisions : List Revision) (node : Node) → (begins : BeginsWithRevisions index data_bytes revisions) → EndsFirstAt node.0 revisions → AreWithinLimits revisions begins.data_front → (log : Log) × (loaded (Until node) index ≡ Ok log) × (read_all log.entries data_bytes ≡ Ok revisions) × Agrees begins.index_front begins.data_front log.entries revisions }
     ensures fault { (index : List ℕ) (node : Node) (fault : RevFault) → loaded Ignore index ≡ Err fault → (loaded (Until node) index ≡ Err fault) ⊎ ((log : Log) × (loaded (Until node) index ≡ Ok log)) }
     ensures missing { (index : List ℕ) (log : Log) (node : Node) → loaded Ignore index ≡ Ok log → place_of log.entries node.0 ≡ None → loaded (Until node) index ≡ Err Missing }
-{
-    inline_taken_apart();
-}
+{}
 
 /// What is written of a new revision whose node is not the null node may be pushed, and appended to the bytes that hold
 /// the revisions before, it holds the new one last; the entries then are those of the longer index, so that one more can
@@ -109,11 +110,11 @@ pub fn places_go_on()
 {}
 
 /// In an index that loads, whatever is done with its end, parents stand before their children, no node stands twice and
-/// none is the null node, each chunk begins where those before it end, and the limits are kept; its form is that which its
-/// header says; and where the index is bytes, each node is 20 bytes.
+/// none is the null node, each chunk begins where those before it end, and the limits are kept; the chunks stand in a file
+/// of their own; and where the index is bytes, each node is 20 bytes.
 pub fn loaded_entries()
     ensures entries { (tail : Tail) (index : List ℕ) (log : Log) → loaded tail index ≡ Ok log → AreEntries log.entries }
-    ensures form { (tail : Tail) (index : List ℕ) (log : Log) → loaded tail index ≡ Ok log → log.inline ≡ is_inline index }
+    ensures separate { (tail : Tail) (index : List ℕ) (log : Log) → loaded tail index ≡ Ok log → log.inline ≡ false }
     ensures nodes { (tail : Tail) (index : List ℕ) (log : Log) → IsBytes index → loaded tail index ≡ Ok log → HaveNodes log.entries }
 {}
 

@@ -1,11 +1,12 @@
-use Rattle.hgs_revlog.proofs.ApartLemmas.{ignored-front, ignored-holds, ignored-loads}
+use Rattle.hgs_revlog.proofs.TailLemmas.{ignore-refuse}
+use Rattle.hgs_revlog.proofs.TailHeldLemmas.{ignored-held, front-ignored}
 use Rattle.hgs_revlog.proofs.laws.ignored_rest.Goals as goal
 
 pub returns-clause-front : goal.returns-clause-front
-returns-clause-front c = ignored-front
+returns-clause-front c = ignore-refuse
 
 pub returns-clause-holds : goal.returns-clause-holds
-returns-clause-holds c = ignored-holds
+returns-clause-holds c = ignored-held
 
 pub returns-clause-loads : goal.returns-clause-loads
-returns-clause-loads c = ignored-loads c.inline_taken_apart.ensures.separate
+returns-clause-loads c = front-ignored

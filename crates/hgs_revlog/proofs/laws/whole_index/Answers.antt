@@ -1,8 +1,9 @@
-use Rattle.hgs_revlog.proofs.ApartLemmas.{whole-holds, whole-loads}
+use Rattle.hgs_revlog.proofs.ReadLemmas.{loaded-held}
+use Rattle.hgs_revlog.proofs.StandingLemmas.{held-loaded}
 use Rattle.hgs_revlog.proofs.laws.whole_index.Goals as goal
 
 pub returns-clause-holds : goal.returns-clause-holds
-returns-clause-holds c = whole-holds
+returns-clause-holds c = loaded-held
 
 pub returns-clause-loads : goal.returns-clause-loads
-returns-clause-loads c = whole-loads c.inline_taken_apart.ensures.separate
+returns-clause-loads c = held-loaded

@@ -1,25 +1,17 @@
-use Rattle.std.proofs.Common.{◌≡◌, ◌≤◌, [], length, take, drop, Ok, Some, arith, sym, ◌∙◌, ap}
-use Rattle.hgs_revlog.specs.Log.{Log, with_entry}
+use Rattle.std.proofs.Common.{◌≡◌, ◌≤◌, length, take, drop, Ok, arith, sym, ◌∙◌, ap}
+use Rattle.hgs_revlog.specs.Log.{with_entry}
 use Rattle.hgs_revlog.specs.Load.{loaded, entry_behind}
-use Rattle.hgs_revlog.proofs.FormLemmas.{left_of, left-front, left-ends, left-shorter, form-begins}
-use Rattle.hgs_revlog.proofs.LoadLemmas.{load_rest, load_stops, load_ends, load_on, taken_entry, gives, gives_err}
+use Rattle.hgs_revlog.proofs.LoadLemmas.{load_rest, load_stops, load_ends, load_on, taken_entry, gives_err}
 use Rattle.hgs_revlog.proofs.revlog.Revlog.load.Goals as goal
-
-pub loop-bytes-init : goal.loop-bytes-init
-loop-bytes-init c = (
-  ap (λ (l : Log). l.inline) c.empty-log.ensures,
-  ap (λ l. load_rest c.args.tail l (left_of c.is_inline-inline.result c.args.index.now)) c.empty-log.ensures
-      ∙ ap (λ b. load_rest c.args.tail (record { inline = b; entries = [] }) (left_of b c.args.index.now)) c.is_inline-inline.ensures
-      ∙ form-begins c.args.tail c.args.index.now,
-)
 
 pub returns-in-Err : goal.returns-in-Err
 returns-in-Err c =
     let log = c.loop-bytes.log in
-    let inline = c.is_inline-inline.result in
-    let front = left-front inline c.loop-bytes.rest.now c.in-Some.bytes.now c.in-Some.behind.now (sym c.in-Some.ensures) in
+    let rest = c.loop-bytes.rest.now in
+    let front : c.in-Some.bytes.now ≡ take 64 rest = c.in-Some.ensures.cases.0 in
+    let whole : 64 ≤ length rest = (let len = c.in-Some.ensures.cases.2 in omega (arith, len)) in
     gives_err (λ log. log) c.in-Err.fault (loaded c.args.tail c.args.index.now)
-    (sym c.loop-bytes.invariant.1 ∙ load_stops c.args.tail log (left_of inline c.loop-bytes.rest.now) c.in-Err.fault front.long (ap (entry_behind log.entries) front.first ∙ sym c.in-Err.ensures))
+    (sym c.loop-bytes.invariant ∙ load_stops c.args.tail log rest c.in-Err.fault whole (ap (entry_behind log.entries) (sym front) ∙ sym c.in-Err.ensures))
 
 pub append-requires-clause-few : goal.append-requires-clause-few
 append-requires-clause-few c = (taken_entry c.loop-bytes.log.entries c.in-Some.bytes.now c.in-Ok.entry (sym c.in-Ok.ensures)).0
@@ -30,28 +22,21 @@ append-requires-clause-faultless c = (taken_entry c.loop-bytes.log.entries c.in-
 pub returns-then-ends : goal.returns-then-ends
 returns-then-ends c =
     let log = c.loop-bytes.log in
-    let inline = c.is_inline-inline.result in
-    let front = left-front inline c.loop-bytes.rest.now c.in-Some.bytes.now c.in-Some.behind.now (sym c.in-Some.ensures) in
-    sym c.loop-bytes.invariant.1
-    ∙ load_ends c.args.tail log (left_of inline c.loop-bytes.rest.now) c.in-Ok.entry front.long (ap (entry_behind log.entries) front.first ∙ sym c.in-Ok.ensures) (sym c.ends.ensures ∙ c.if-ends.true)
+    let rest = c.loop-bytes.rest.now in
+    let front : c.in-Some.bytes.now ≡ take 64 rest = c.in-Some.ensures.cases.0 in
+    let whole : 64 ≤ length rest = (let len = c.in-Some.ensures.cases.2 in omega (arith, len)) in
+    sym c.loop-bytes.invariant
+    ∙ load_ends c.args.tail log rest c.in-Ok.entry whole (ap (entry_behind log.entries) (sym front) ∙ sym c.in-Ok.ensures) (sym c.ends.ensures ∙ c.if-ends.true)
     ∙ ap (λ x. Ok x) (sym c.in_ok-append.ensures.ok)
-
-pub loop-bytes-smaller : goal.loop-bytes-smaller
-loop-bytes-smaller c = left-shorter c.is_inline-inline.result c.loop-bytes.rest.now c.in-Some.bytes.now c.in-Some.behind.now (sym c.in-Some.ensures)
 
 pub loop-bytes-preserved : goal.loop-bytes-preserved
 loop-bytes-preserved c =
     let log = c.loop-bytes.log in
-    let inline = c.is_inline-inline.result in
-    let front = left-front inline c.loop-bytes.rest.now c.in-Some.bytes.now c.in-Some.behind.now (sym c.in-Some.ensures) in (
-      ap (λ (l : Log). l.inline) c.in_ok-append.ensures.ok ∙ c.loop-bytes.invariant.0,
-      ap (λ l. load_rest c.args.tail l (left_of inline c.in-Some.behind.now)) c.in_ok-append.ensures.ok
-          ∙ ap (load_rest c.args.tail (with_entry log c.in-Ok.entry)) (sym front.rest)
-          ∙ sym (load_on c.args.tail log (left_of inline c.loop-bytes.rest.now) c.in-Ok.entry front.long (ap (entry_behind log.entries) front.first ∙ sym c.in-Ok.ensures) (sym c.ends.ensures ∙ c.if-ends.false))
-          ∙ c.loop-bytes.invariant.1,
-    )
-
-pub returns : goal.returns
-returns c =
-    gives c.ended.result (loaded c.args.tail c.args.index.now)
-    (sym c.loop-bytes.invariant.1 ∙ left-ends c.args.tail c.loop-bytes.log c.is_inline-inline.result c.loop-bytes.rest.now (sym c.in_default.ensures) ∙ sym c.ended.ensures)
+    let rest = c.loop-bytes.rest.now in
+    let front : c.in-Some.bytes.now ≡ take 64 rest = c.in-Some.ensures.cases.0 in
+    let back : c.in-Some.behind.now ≡ drop 64 rest = c.in-Some.ensures.cases.1 in
+    let whole : 64 ≤ length rest = (let len = c.in-Some.ensures.cases.2 in omega (arith, len)) in
+    ap (λ l. load_rest c.args.tail l c.in-Some.behind.now) c.in_ok-append.ensures.ok
+    ∙ ap (load_rest c.args.tail (with_entry log c.in-Ok.entry)) back
+    ∙ sym (load_on c.args.tail log rest c.in-Ok.entry whole (ap (entry_behind log.entries) (sym front) ∙ sym c.in-Ok.ensures) (sym c.ends.ensures ∙ c.if-ends.false))
+    ∙ c.loop-bytes.invariant

@@ -1,11 +1,10 @@
 use Rattle.std.proofs.Common.{◌≡◌, length}
 use Rattle.hgs_revlog.specs.Load.{loaded}
-use Rattle.hgs_revlog.proofs.FormLemmas.{left_of}
 use Rattle.hgs_revlog.proofs.LoadLemmas.{load_rest}
 use Rattle.hgs_revlog.proofs.revlog.Revlog.load.Given as goal
 
 abbrev pub invariant-loop-bytes : goal.invariant-loop-bytes
-invariant-loop-bytes l = (l.log.inline ≡ l.inline) × (load_rest l.tail l.log (left_of l.inline l.rest) ≡ loaded l.tail l.index)
+invariant-loop-bytes l = load_rest l.tail l.log l.rest ≡ loaded l.tail l.index
 
 abbrev pub decreases-loop-bytes : goal.decreases-loop-bytes
 decreases-loop-bytes l = length l.rest
