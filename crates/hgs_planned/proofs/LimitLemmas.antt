@@ -219,7 +219,7 @@ pub held-limited : (index data_bytes : List ℕ) (revisions : List Revision) (k 
 held-limited index data_bytes revisions k h =
     let stored = h.stored in
     let empty : Log = record { inline = false; entries = [] } in
-    let spelled : index ≡ bytes-from (Some h.header) (items stored) = h.index_is ∙ all-bytes h.header (items stored) h.separate in
+    let spelled : index ≡ bytes-from (Some h.header) (items stored) = h.index_is ∙ all-bytes h.header (items stored) h.form in
     let front = front-bytes (Some h.header) 0 [] stored k h.fits in
     let bytes : take (64 * k) index ≡ bytes-from (Some h.header) (items (take k stored)) = ap (take (64 * k)) spelled ∙ front.0 in
     let whole : List Stored = take k stored ++ drop k stored in
@@ -231,4 +231,4 @@ held-limited index data_bytes revisions k h =
     } in
     let count : length (bytes-from (Some h.header) (items (take k stored))) / 64 ≡ length (take k stored) = omega (arith, front.1) in
     subst HasOnlyLimits (sym (ap (loaded Refuse) bytes ∙ ap (λ n. load_from Refuse n empty (bytes-from (Some h.header) (items (take k stored)))) count))
-    (limits-from empty (Some h.header) (take k stored) (drop k stored) (subst (AreNext []) is next) h.separate (λ some. refl) (λ none. refl))
+    (limits-from empty (Some h.header) (take k stored) (drop k stored) (subst (AreNext []) is next) h.form (λ some. refl) (λ none. refl))

@@ -14,11 +14,12 @@ use Rattle.hgs_index.specs.declared.node.Node.{Node}
 use Rattle.hgs_index.specs.Revision.{Revision}
 use Rattle.hgs_index.specs.Revlog.{BeginsWithRevisions}
 use Rattle.hgs_index.specs.declared.kinds.Which.TheVariants.{Changesets}
-use Rattle.hgs_index.specs.Entry.{part, entry_at, fields_of, has_bad_header, has_negative, has_padding}
+use Rattle.hgs_index.specs.Entry.{part, entry_at, fields_of, has_bad_header, has_negative, has_padding, header_at}
+use Rattle.hgs_index.specs.Inline.{says_inline}
 use Rattle.hgs_revlog.specs.declared.fault.RevFault.{RevFault}
 use Rattle.hgs_revlog.specs.declared.fault.RevFault.TheVariants.{Limit}
 use Rattle.hgs_revlog.specs.declared.fault.Tail.TheVariants.{Until}
-use Rattle.hgs_revlog.specs.Load.{most_revisions, fault_of, unless, checked, entry_behind, after, load_from, loaded}
+use Rattle.hgs_revlog.specs.Load.{most_revisions, fault_of, unless, checked, separate_at, entry_behind, after, load_from, loaded}
 use Rattle.hgs_revlog.specs.Held.{AreWithinLimits, EndsFirstAt, chunk_in, read_from, revision_of}
 use Rattle.hgs_revlog.specs.Log.{Log, with_entry, place_of}
 use Rattle.hgs_revlog.specs.Text.{text_of}
@@ -122,10 +123,14 @@ node_read before bytes e h = by (nat_le most_revisions (length before)) h
     checked_is (Err f) h = cc
     checked_is (Ok x) h = ap (λ y. Ok y) (unless_is x (fault_of before x) h)
 
-    by : (b : Bool) → cond b (Err (Limit Changesets)) (checked before (entry_at bytes (length before))) ≡ Ok e → e.node.0 ≡ take 20 (drop 32 bytes)
+    separate_is : (s : Bool) (r : Result index_entry.Entry EntryFault) → cond s (Err HeaderFlags) r ≡ Ok e → r ≡ Ok e
+    separate_is true r h = cc
+    separate_is false r h = h
+
+    by : (b : Bool) → cond b (Err (Limit Changesets)) (checked before (separate_at bytes (length before))) ≡ Ok e → e.node.0 ≡ take 20 (drop 32 bytes)
     by true h = cc
     by false h =
-        let is : fields_of bytes (length before) ≡ e = entry_fields bytes (length before) e (checked_is (entry_at bytes (length before)) h) in
+        let is : fields_of bytes (length before) ≡ e = entry_fields bytes (length before) e (separate_is (length before == 0 && says_inline (header_at bytes)) (entry_at bytes (length before)) (checked_is (separate_at bytes (length before)) h)) in
         ap (λ (x : index_entry.Entry). x.node.0) (sym is)
 
 -- how many entries stand behind those of the log, up to the one with the node

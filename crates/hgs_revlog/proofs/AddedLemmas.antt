@@ -71,13 +71,15 @@ says_plain e (Some h) rev separate first = by (rev == 0) h.inline h.generaldelta
     by true false false h = refl
     by false false g h = refl
 
+pub written-read : (e : Entry) (h : Option Header) (rev : ℕ) → Fits e h → IfSome h (λ x. x.inline ≡ false) → (IsSome h → rev ≡ 0) → (rev ≡ 0 → IsSome h) → separate_at (entry_bytes e h) rev ≡ Ok e
+written-read e h rev fits separate a b = ap (λ x. cond x (Err HeaderFlags) (entry_at (entry_bytes e h) rev)) (says_plain e h rev separate b) ∙ entry_again e h rev fits a b
+
 -- the bytes of an entry without fault, behind the others, are taken as this entry
 pub taken_again : (before : List Entry) (e : Entry) (h : Option Header) → length before < most_revisions → IsFaultless before e → Fits e h → IfSome h (λ x. x.inline ≡ false)
     → (IsSome h → length before ≡ 0) → (length before ≡ 0 → IsSome h) → entry_behind before (entry_bytes e h) ≡ Ok e
 taken_again before e h few f fits separate a b =
     ap (λ x. cond x (Err (faults.Limit Changesets)) (checked before (separate_at (entry_bytes e h) (length before)))) (room (length before) few)
-    ∙ ap (λ x. checked before (cond x (Err HeaderFlags) (entry_at (entry_bytes e h) (length before)))) (says_plain e h (length before) separate b)
-    ∙ ap (checked before) (entry_again e h (length before) fits a b)
+    ∙ ap (checked before) (written-read e h (length before) fits separate a b)
     ∙ ap (λ o. unless o e) (no_fault before e f)
 
 -- ---- what a new revision is

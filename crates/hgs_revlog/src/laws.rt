@@ -1,9 +1,11 @@
 //! What the definitions of this crate imply. Each function is one law; none does anything.
-ghost use Rattle.std.specs.Prelude.{◌≡◌, ◌⊎◌, ◌+◌, ◌*◌, ◌/◌, ◌<◌, ◌≤◌, ◌^◌, ◌&&◌, true, false, List, ℕ, [], ◌∷◌, ◌++◌, length, take, drop, slice_get, Option, Some, None, IfSome, if◌then◌else◌, map, position, IsOk};
+ghost use Rattle.std.specs.Prelude.{◌≡◌, ◌⊎◌, ◌+◌, ◌*◌, ◌/◌, ◌<◌, ◌≤◌, ◌^◌, ◌&&◌, true, false, List, ℕ, [], ◌∷◌, ◌++◌, length, take, drop, slice_get, Option, Some, None, IfSome, IsSome, if◌then◌else◌, map, position, IsOk};
 ghost use Rattle.hex.specs.Hex.{IsBytes};
 ghost use Rattle.hgs_bytes.specs.Bytes.{same};
 ghost use Rattle.hgs_index.specs.declared.entry.Entry.{Entry};
+ghost use Rattle.hgs_index.specs.declared.entry.Header.{Header};
 ghost use Rattle.hgs_index.specs.declared.node.Node.{Node};
+ghost use Rattle.hgs_index.specs.Entry.{Fits, entry_bytes};
 ghost use Rattle.hgs_index.specs.Inline.{chunks_apart, index_apart, is_inline};
 ghost use Rattle.hgs_index.specs.Revision.{Parents, Revision, nodes, same_parents, ParentsBefore};
 ghost use Rattle.hgs_index.specs.Revlog.{Holds, HoldsRevisions, BeginsWithRevisions, chunk_of};
@@ -14,7 +16,7 @@ ghost use Rattle.hgs_revlog.specs.declared.fault.RevFault.TheVariants.{Collision
 ghost use Rattle.hgs_revlog.specs.declared.fault.Tail.{Tail};
 ghost use Rattle.hgs_revlog.specs.declared.fault.Tail.TheVariants.{Ignore, Refuse, Until};
 ghost use Rattle.hgs_revlog.specs.Log.{Log, nodes_of, place_of, stored_sum, with_entry};
-ghost use Rattle.hgs_revlog.specs.Load.{loaded, loaded_either, pushed, entry_behind};
+ghost use Rattle.hgs_revlog.specs.Load.{loaded, loaded_either, separate_at, pushed, entry_behind};
 ghost use Rattle.hgs_revlog.specs.Loaded.{AreEntries, HaveNodes, HaveOwnNodes, parents_in};
 ghost use Rattle.hgs_revlog.specs.Add.{added, next_entry};
 ghost use Rattle.hgs_revlog.specs.Held.{Agrees, AreWithinLimits, EndsFirstAt, chunk_in, read_all};
@@ -56,6 +58,11 @@ pub fn inline_index()
 {
     inline_taken_apart();
 }
+
+/// An entry that is written of a separate revlog is read again as the one of a separate index.
+pub fn written_entries_read()
+    ensures { (e : Entry) (h : Option Header) (rev : ℕ) → Fits e h → IfSome h (λ x. x.inline ≡ false) → (IsSome h → rev ≡ 0) → (rev ≡ 0 → IsSome h) → separate_at (entry_bytes e h) rev ≡ Ok e }
+{}
 
 /// The entries of a list have its nodes and its parents, and are as many.
 pub fn entries_of_revisions()

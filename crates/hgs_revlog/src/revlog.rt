@@ -11,7 +11,7 @@ ghost use Rattle.hgs_revlog.specs.declared.fault.RevFault.TheVariants.{Memory};
 ghost use Rattle.hgs_revlog.specs.Fault.{is_memory};
 ghost use Rattle.hgs_revlog.specs.Log.{place_of, nodes_of, new_header, stored_sum, with_entry};
 ghost use Rattle.hgs_revlog.specs.Load.{loaded, loaded_either, cell_of, separate_at, is_taken, entry_behind, fault_of, is_above, ends_at, at_end, most_data, most_revisions, pushed};
-ghost use Rattle.hgs_revlog.specs.Text.{span_in, node_with, text_of};
+ghost use Rattle.hgs_revlog.specs.Text.{span_in, span_of, node_with, text_of};
 
 use crate::fault::{RevFault, Tail};
 use hgs_index::entry::{Entry, EntryFault, Header, decode};
@@ -253,8 +253,20 @@ impl Revlog {
         self.inline
     }
 
-    /// Where the chunk of a revision stands, in bytes: in the data file, or in the index of an inline revlog.
+    /// Where the chunk of a revision stands among all chunks, and so in the data file of a separate revlog, in bytes.
     pub fn text_span(&self, rev: u32) -> Span
+        requires { rev < length self.now.entries }
+        ensures { option_map span_of (slice_get self.now.entries rev) ≡ Some result }
+    {
+        let entry = self.entry(rev);
+        Span {
+            from: entry.offset,
+            len: entry.stored as u64,
+        }
+    }
+
+    /// Where the chunk of a revision stands in its file, in bytes: in the data file, or in the index of an inline revlog.
+    pub fn span_in_file(&self, rev: u32) -> Span
         requires { rev < length self.now.entries }
         ensures { option_map (span_in self.now.inline rev) (slice_get self.now.entries rev) ≡ Some result }
     {
