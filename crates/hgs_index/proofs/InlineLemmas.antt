@@ -379,3 +379,32 @@ held-plain index data_bytes more r revisions h =
     by g [] these = cc
     by true (s ∷ stored) these = nothing (nat_le 64 (length (index_bytes (plain_header true) (items (s ∷ stored)) ++ more)))
     by false (s ∷ stored) these = nothing (nat_le 64 (length (index_bytes (plain_header false) (items (s ∷ stored)) ++ more)))
+
+-- what a separate index begins with is separate
+header-front : (m : ℕ) (index : List ℕ) → header_at (take (suc (suc (suc (suc m)))) index) ≡ header_at index
+header-front m [] = refl
+header-front m (a ∷ []) = refl
+header-front m (a ∷ b ∷ []) = refl
+header-front m (a ∷ b ∷ c ∷ []) = refl
+header-front m (a ∷ b ∷ c ∷ d ∷ index) = refl
+
+pub fronts-separate : (n : ℕ) (index : List ℕ) → is_inline index ≡ false → is_inline (take n index) ≡ false
+fronts-separate n index plain = by (nat_le 64 (length (take n index))) refl
+  where
+    most : (a b : ℕ) → nat_le a b ≡ true → a ≤ b
+    most a b h = grind arith
+
+    second-false : (a b : Bool) → a ≡ true → (a && b) ≡ false → b ≡ false
+    second-false true b h k = k
+    second-false false b h k = cc
+
+    by : (b : Bool) → nat_le 64 (length (take n index)) ≡ b → (nat_le 64 (length (take n index)) && says_inline (header_at (take n index))) ≡ false
+    by false t = ap (λ b. b && says_inline (header_at (take n index))) t
+    by true t =
+        let whole = most 64 (length (take n index)) t in
+        let len = length-take n index in
+        let long : n ≡ suc (suc (suc (suc (n - 4)))) = omega (arith, len, whole) in
+        let same-header : header_at (take n index) ≡ header_at index = ap (λ m. header_at (take m index)) long ∙ header-front (n - 4) index in
+        ap (λ b. b && says_inline (header_at (take n index))) t
+        ∙ ap says_inline same-header
+        ∙ second-false (nat_le 64 (length index)) (says_inline (header_at index)) (at-least 64 (length index) (omega (arith, len, whole))) plain

@@ -73,11 +73,13 @@ pub fn nodes_written_then_read()
 {}
 
 /// An inline index holds the revisions that it is taken apart into, with no byte left over, and no others; whatever stands
-/// beside it. The index of a separate revlog with a revision does not say that it is inline.
+/// beside it. The index of a separate revlog with a revision does not say that it is inline, and no
+/// front of one that does not says so.
 pub fn inline_taken_apart()
     ensures apart { (index data_bytes : List ℕ) (revisions : List Revision) → Holds true index data_bytes revisions → HoldsRevisions (index_apart index) (chunks_apart index) revisions }
     ensures back { (index data_bytes used left : List ℕ) (revisions : List Revision) → is_inline index ≡ true → HoldsRevisions (index_apart index) used revisions → chunks_apart index ≡ used ++ left → Holds true index data_bytes revisions }
     ensures separate { (index data_bytes more : List ℕ) (first : Revision) (revisions : List Revision) → HoldsRevisions index data_bytes (first ∷ revisions) → is_inline (index ++ more) ≡ false }
+    ensures fronts { (size : ℕ) (index : List ℕ) → is_inline index ≡ false → is_inline (take size index) ≡ false }
     ensures one { (index data_bytes other_data : List ℕ) (revisions others : List Revision) → Holds true index data_bytes revisions → Holds true index other_data others → revisions ≡ others }
 {}
 

@@ -28,7 +28,7 @@ use Rattle.hgs_revlog.proofs.TailHeldLemmas.{front-until}
 use Rattle.hgs_revlog.proofs.TailLemmas.{refuse-until, until-refuse}
 use Rattle.hgs_load.specs.declared.answer.ReadAnswer.{ReadAnswer}
 use Rattle.hgs_load.specs.Asks.{Asks, answer, part_of, at_rest}
-use Rattle.hgs_reader.specs.Find.{has_node, is_last_of, bytes_until, log_until, text_answer, text_at_asks, text_asks}
+use Rattle.hgs_reader.specs.Find.{has_node, is_last_of, bytes_until, log_until, text_answer, text_at_asks, separate_asks}
 use Rattle.hgs_reader.specs.Line.{chunk_asks}
 use Rattle.hgs_load.specs.View.{piece_length, most_pieces, log_answer}
 use Rattle.hgs_reader.proofs.FindLemmas.{front_node, take_less}
@@ -305,7 +305,7 @@ read_length all (x ∷ entries) data_bytes first revisions texts =
     ap length w.4 ∙ ap suc (read_length all entries data_bytes (suc first) w.1 w.3)
 
 module _ (t : Tree) (index chunks : List ℕ) (revisions : List Revision) (last : Revision) (node : List ℕ) (held : BeginsWithRevisions (bytes_at t index) (bytes_at t chunks) revisions) (ends : EndsFirstAt node revisions) (limits : AreWithinLimits revisions held.data_front) (is_last : slice_get revisions (length revisions - 1) ≡ Some last) where
-  pub held-text : at_rest t (text_asks index chunks node) ≡ Ok last.text
+  pub held-text : at_rest t (separate_asks index chunks node) ≡ Ok last.text
   held-text =
       let named : Node = record { 0 = node } in
       let h = front-until (bytes_at t index) (bytes_at t chunks) revisions named held ends limits in

@@ -1,4 +1,4 @@
-use Rattle.hgs_index.proofs.InlineLemmas.{apart-held, held-apart, held-plain, inline-unique}
+use Rattle.hgs_index.proofs.InlineLemmas.{apart-held, fronts-separate, held-apart, held-plain, inline-unique}
 use Rattle.hgs_index.proofs.laws.inline_taken_apart.Goals as goal
 
 pub returns-clause-apart : goal.returns-clause-apart
@@ -12,3 +12,6 @@ returns-clause-one c = inline-unique
 
 pub returns-clause-separate : goal.returns-clause-separate
 returns-clause-separate c = held-plain
+
+pub returns-clause-fronts : goal.returns-clause-fronts
+returns-clause-fronts c = fronts-separate
