@@ -63,10 +63,14 @@ separate-at-moments fronts start from last index chunks node y plain m =
     let says : is_inline first ≡ false = ap is_inline (part_is (t index) 0 piece_length) ∙ fronts piece_length (bytes_at t index) (plain m.0 m.1 goes) in
     (m.0, m.1, subst (λ b. MayAnswer start m.0 (cond b (inline_behind index node first) (separate_behind index chunks node first)) last y) says m.2)
 
+pub separate-held : (t : Tree) (index chunks node text : List ℕ) → HasText t index chunks node text → at_rest t (separate_asks index chunks node) ≡ Ok text
+separate-held t index chunks node text h =
+    held-text t index chunks h.revisions h.last node h.held h.ends h.limits h.is_last ∙ ap (λ x. let a : Result (List ℕ) ReadAnswer = Ok x in a) h.text_is
+
 pub text-held : SaysSeparate → FrontsAre → (t : Tree) (index chunks node text : List ℕ) → HasText t index chunks node text → at_rest t (text_asks index chunks node) ≡ Ok text
 text-held says fronts t index chunks node text h =
     separate-at-rest fronts t index chunks node (begins-separate says (bytes_at t index) (bytes_at t chunks) h.revisions h.last h.held h.is_last)
-    ∙ held-text t index chunks h.revisions h.last node h.held h.ends h.limits h.is_last ∙ ap (λ x. let a : Result (List ℕ) ReadAnswer = Ok x in a) h.text_is
+    ∙ separate-held t index chunks node text h
 
 not_above : (most n : ℕ) → n ≤ most → nat_lt most n ≡ false
 not_above most n h = grind (arith, nat_tests, h)

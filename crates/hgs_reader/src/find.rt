@@ -1,5 +1,5 @@
 //! Texts that are known by their nodes.
-ghost use Rattle.std.specs.Prelude.{◌≡◌, ◌<◌, ◌≤◌, ◌/◌, [], true, length, take, drop, slice_get, unwrap_or, Some, IfOk, IfSome};
+ghost use Rattle.std.specs.Prelude.{◌≡◌, ◌<◌, ◌≤◌, ◌/◌, [], false, true, length, take, drop, slice_get, unwrap_or, Some, IfOk, IfSome};
 ghost use Rattle.hgs_bytes.specs.Answer.{Gives};
 ghost use Rattle.hgs_files.specs.Reads.{Grows};
 ghost use Rattle.hgs_revlog.specs.declared.fault.Tail.TheVariants.{Until};

@@ -50,6 +50,7 @@ pub fn text_of_node_held()
 /// Of a separate index the first piece says so; then the text with a node is asked for as that of a separate revlog, whatever
 /// the moments of the reads.
 pub fn separate_texts_are_asked()
+    ensures found { (t : Tree) (index chunks node text : List ℕ) → HasText t index chunks node text → at_rest t (separate_asks index chunks node) ≡ Ok text }
     ensures rest { (t : Tree) (index chunks node : List ℕ) → is_inline (bytes_at t index) ≡ false → at_rest t (text_asks index chunks node) ≡ at_rest t (separate_asks index chunks node) }
     ensures moments { (start : Tree) (from last : List Op) (index chunks node : List ℕ) (y : Result (List ℕ) ReadAnswer) → ((now : List Op) → IsPrefixOf from now → IsPrefixOf now last → is_inline (bytes_at (after_all now start) index) ≡ false) →
         MayAnswer start from (text_asks index chunks node) last y → MayAnswer start from (separate_asks index chunks node) last y }
