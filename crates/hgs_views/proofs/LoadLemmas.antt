@@ -21,7 +21,7 @@ use Rattle.hgs_load.specs.Asks.{Asks, answer, then_asks, MayAnswer}
 use Rattle.hgs_load.specs.Marks.{Nodes, bookmarks_answer, dirstate_answer, roots_answer, working_answer}
 use Rattle.hgs_load.specs.Open.{requires_path, most_requires, most_bookmarks_text, most_dirstate, most_roots, bookmarks_asks, dirstate_asks, log_asks, roots_asks, log_of, view_with, view_of, open_asks}
 use Rattle.hgs_load.specs.Requirements.{requires_answer}
-use Rattle.hgs_load.specs.View.{View, log_answer, most_pieces, piece_length}
+use Rattle.hgs_load.specs.View.{View, log_answer, pieces_then, most_pieces, piece_length}
 use Rattle.hgs_stands.specs.Places.{bookmarks_path, dirstate_path, roots_path, changelog_index, changelog_data}
 use Rattle.hgs_stands.specs.Stands.{changeset_entries, mark_of}
 use Rattle.hgs_shown.specs.Shown.{working_nodes}
@@ -126,9 +126,9 @@ module _ (law : LoadLaws) (x : Course) (first last : List Op) (is : IsCourse x f
       pub log_is : LoadsAt x v.read log
       pub roots_give : map phase_number (phases_by roots (changeset_entries (x.repo v.rooted).changesets)) ≡ (x.repo v.rooted).phases
 
-    -- what is asked behind `requires`
-    abbrev pub asked : (List Mark → Nodes → Log → List Root → Result View ReadAnswer) → Asks (Result View ReadAnswer)
-    asked finish = then_asks bookmarks_asks (λ marks. then_asks dirstate_asks (λ nodes. then_asks log_asks (λ log. then_asks roots_asks (λ roots. answer (finish marks nodes log roots)))))
+    -- what is asked behind `requires`, with this question for the history
+    abbrev pub asked : Asks (Result Log ReadAnswer) → (List Mark → Nodes → Log → List Root → Result View ReadAnswer) → Asks (Result View ReadAnswer)
+    asked newer finish = then_asks bookmarks_asks (λ marks. then_asks dirstate_asks (λ nodes. then_asks newer (λ log. then_asks roots_asks (λ roots. answer (finish marks nodes log roots)))))
 
     -- the reads and their answer
     pub record Answered (finish : List Mark → Nodes → Log → List Root → Result View ReadAnswer) (from : List Op) (y : Result View ReadAnswer) : Type 0 where
@@ -156,16 +156,22 @@ module _ (law : LoadLaws) (x : Course) (first last : List Op) (is : IsCourse x f
         let nodes = working_nodes (x.repo (x.worked a.0)) in
         (a.0, a.1, nodes, refl, a.2 nodes (law.dirstate (tree_after x a.0) (x.repo (x.marked a.0)) (x.repo (x.worked a.0)) (x.repo (x.published a.0)) (is.shows a.0 now) (opens a.0 now)))
 
-    log-step : (more : Log → Asks (Result View ReadAnswer)) (from : List Op) (y : Result View ReadAnswer) → IsBetween first last from → MayAnswer x.start from (then_asks log_asks more) last y
+    -- what is answered to a question for the history is that of some list
+    abbrev pub LogStep : Asks (Result Log ReadAnswer) → Type 0
+    LogStep newer = (more : Log → Asks (Result View ReadAnswer)) (from : List Op) (y : Result View ReadAnswer) → IsBetween first last from → MayAnswer x.start from (then_asks newer more) last y
         → (log : List Op) × IsBetween from last log × (found : Log) × LoadsAt x (x.published log) found × MayAnswer x.start log (more found) last y
-    log-step more from y at m =
-        let a = pieces-end x.start changelog_index first last y (λ index. answer (log_of index)) more whole-stays room most_pieces 0 [] from at refl refl (bytes_at (tree_after x from) changelog_index, refl) m in
+
+    -- so it is of the index read whole, whatever it is tested for, where the test is passed
+    pub pieces-step : (given : List ℕ → Result Log ReadAnswer) → ((log : List Op) (found : Log) → IsBetween first last log → LoadsAt x (x.published log) found → log_of (bytes_at (tree_after x log) changelog_index) ≡ Ok found → given (bytes_at (tree_after x log) changelog_index) ≡ Ok found)
+        → LogStep (pieces_then changelog_index most_pieces [] (λ index. answer (given index)))
+    pieces-step given passes more from y at m =
+        let a = pieces-end x.start changelog_index first last y (λ index. answer (given index)) more whole-stays room most_pieces 0 [] from at refl refl (bytes_at (tree_after x from) changelog_index, refl) m in
         let now = between-later first last from a.0 at a.1 in
         let found = loads-at a.0 now in
-        (a.0, a.1, found.0, found.1, given a.0 found.0 (loads-as a.0 now ∙ found.1.loads) a.2)
-      where
-        given : (log : List Op) (found : Log) → loaded Ignore (bytes_at (tree_after x log) changelog_index) ≡ Ok found → MayAnswer x.start log (then_asks (answer (log_of (bytes_at (tree_after x log) changelog_index))) more) last y → MayAnswer x.start log (more found) last y
-        given log found e m = subst (λ q. MayAnswer x.start log (then_asks (answer q) more) last y) (ap (log_answer changelog_index) e) m
+        (a.0, a.1, found.0, found.1, subst (λ q. MayAnswer x.start a.0 (then_asks (answer q) more) last y) (passes a.0 found.0 now found.1 (ap (log_answer changelog_index) (loads-as a.0 now ∙ found.1.loads))) a.2)
+
+    log-step : LogStep log_asks
+    log-step = pieces-step log_of (λ log found at is loads. loads)
 
     roots-step : (more : List Root → Asks (Result View ReadAnswer)) (from : List Op) (y : Result View ReadAnswer) → IsBetween first last from → MayAnswer x.start from (then_asks roots_asks more) last y
         → (log : List Op) × IsBetween from last log × (roots : List Root) × (map phase_number (phases_by roots (changeset_entries (x.repo (x.published log)).changesets)) ≡ (x.repo (x.published log)).phases) × MayAnswer x.start log (more roots) last y
@@ -209,8 +215,8 @@ module _ (law : LoadLaws) (x : Course) (first last : List Op) (is : IsCourse x f
       answer_is = answer_is;
     }
 
-    pub answered : (finish : List Mark → Nodes → Log → List Root → Result View ReadAnswer) (from : List Op) (y : Result View ReadAnswer) → IsBetween first last from → MayAnswer x.start from (asked finish) last y → Answered finish from y
-    answered finish from y at m = one (marks-step (λ marks. then_asks dirstate_asks (λ nodes. then_asks log_asks (λ log. then_asks roots_asks (λ roots. answer (finish marks nodes log roots))))) from y at m)
+    pub answered : (newer : Asks (Result Log ReadAnswer)) → LogStep newer → (finish : List Mark → Nodes → Log → List Root → Result View ReadAnswer) (from : List Op) (y : Result View ReadAnswer) → IsBetween first last from → MayAnswer x.start from (asked newer finish) last y → Answered finish from y
+    answered newer step finish from y at m = one (marks-step (λ marks. then_asks dirstate_asks (λ nodes. then_asks newer (λ log. then_asks roots_asks (λ roots. answer (finish marks nodes log roots))))) from y at m)
       where
         four : (a b c : List Op) (marks : List Mark) (nodes : Nodes) (log : Log) → IsBetween from last a → IsBetween a last b → IsBetween b last c → IsBetween first last c
             → marks ≡ map (mark_of (changeset_nodes (x.repo (x.marked a)).changesets)) (x.repo (x.marked a)).bookmarks → nodes ≡ working_nodes (x.repo (x.worked b)) → LoadsAt x (x.published c) log
@@ -221,19 +227,19 @@ module _ (law : LoadLaws) (x : Course) (first last : List Op) (is : IsCourse x f
 
         three : (a b : List Op) (marks : List Mark) (nodes : Nodes) → IsBetween from last a → IsBetween a last b → IsBetween first last b
             → marks ≡ map (mark_of (changeset_nodes (x.repo (x.marked a)).changesets)) (x.repo (x.marked a)).bookmarks → nodes ≡ working_nodes (x.repo (x.worked b))
-            → MayAnswer x.start b (then_asks log_asks (λ log. then_asks roots_asks (λ roots. answer (finish marks nodes log roots)))) last y → Answered finish from y
+            → MayAnswer x.start b (then_asks newer (λ log. then_asks roots_asks (λ roots. answer (finish marks nodes log roots)))) last y → Answered finish from y
         three a b marks nodes fa ab b_at marks_are nodes_are m =
-            let r = log-step (λ log. then_asks roots_asks (λ roots. answer (finish marks nodes log roots))) b y b_at m in
+            let r = step (λ log. then_asks roots_asks (λ roots. answer (finish marks nodes log roots))) b y b_at m in
             four a b r.0 marks nodes r.2 fa ab r.1 (between-later first last b r.0 b_at r.1) marks_are nodes_are r.3 r.4
 
         two : (a : List Op) (marks : List Mark) → IsBetween from last a → IsBetween first last a → marks ≡ map (mark_of (changeset_nodes (x.repo (x.marked a)).changesets)) (x.repo (x.marked a)).bookmarks
-            → MayAnswer x.start a (then_asks dirstate_asks (λ nodes. then_asks log_asks (λ log. then_asks roots_asks (λ roots. answer (finish marks nodes log roots))))) last y → Answered finish from y
+            → MayAnswer x.start a (then_asks dirstate_asks (λ nodes. then_asks newer (λ log. then_asks roots_asks (λ roots. answer (finish marks nodes log roots))))) last y → Answered finish from y
         two a marks fa a_at marks_are m =
-            let r = nodes-step (λ nodes. then_asks log_asks (λ log. then_asks roots_asks (λ roots. answer (finish marks nodes log roots)))) a y a_at m in
+            let r = nodes-step (λ nodes. then_asks newer (λ log. then_asks roots_asks (λ roots. answer (finish marks nodes log roots)))) a y a_at m in
             three a r.0 marks r.2 fa r.1 (between-later first last a r.0 a_at r.1) marks_are r.3 r.4
 
         one : ((a : List Op) × IsBetween from last a × (marks : List Mark) × (marks ≡ map (mark_of (changeset_nodes (x.repo (x.marked a)).changesets)) (x.repo (x.marked a)).bookmarks)
-            × MayAnswer x.start a (then_asks dirstate_asks (λ nodes. then_asks log_asks (λ log. then_asks roots_asks (λ roots. answer (finish marks nodes log roots))))) last y) → Answered finish from y
+            × MayAnswer x.start a (then_asks dirstate_asks (λ nodes. then_asks newer (λ log. then_asks roots_asks (λ roots. answer (finish marks nodes log roots))))) last y) → Answered finish from y
         one r = two r.0 r.2 r.1 (between-later first last from r.0 at r.1) r.3 r.4
 
     -- ---- the numbers
@@ -306,10 +312,10 @@ module _ (law : LoadLaws) (x : Course) (first last : List Op) (is : IsCourse x f
 
     pub opened-along : (from : List Op) (y : Result View ReadAnswer) → IsBetween first last from → MayAnswer x.start from open_asks last y → (v : Numbers) × (view : View) × (y ≡ Ok view) × IsLoadedBetween x from last v view
     opened-along from y at m =
-        let a = whole-then x.start requires_path most_requires requires_answer (λ u. asked view_of) from last y m in
+        let a = whole-then x.start requires_path most_requires requires_answer (λ u. asked log_asks view_of) from last y m in
         let a_at = between-later first last from a.0 at a.1 in
         let m1 = a.2 tt (law.requirements (tree_after x a.0) (is.shows a.0 a_at).requires (opens a.0 a_at).requires) in
-        let r = answered view_of a.0 y a_at m1 in
+        let r = answered log_asks log-step view_of a.0 y a_at m1 in
         let reads = r.has.reads in
         let whole : AreReadBetween x from last r.v = record {
           bookmarks = reads.bookmarks;

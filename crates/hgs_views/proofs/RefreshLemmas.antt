@@ -13,15 +13,15 @@ use Rattle.hgs_revlog.specs.Load.{after, entry_behind, load_from, loaded}
 use Rattle.hgs_revlog.specs.Log.{Log, with_entry}
 use Rattle.hgs_load.specs.declared.answer.ReadAnswer.{ReadAnswer}
 use Rattle.hgs_load.specs.Asks.{MayAnswer}
-use Rattle.hgs_load.specs.Open.{view_of}
-use Rattle.hgs_load.specs.Refresh.{same_parent, same_lengths, same_links, same_entry, first_changed, unless_changed, view_after, refresh_asks}
+use Rattle.hgs_load.specs.Open.{log_of, view_of}
+use Rattle.hgs_load.specs.Refresh.{same_parent, same_lengths, same_links, same_entry, first_changed, unless_changed, log_after, newer_log_asks, refresh_asks}
 use Rattle.hgs_load.specs.View.{View}
 use Rattle.hgs_stands.specs.Places.{changelog_index, changelog_data}
 use Rattle.hgs_views.specs.Course.{Course, IsBetween, IsCourse, OpensAlong, tree_after}
 use Rattle.hgs_views.specs.Seen.{Numbers, NoneFell, AreReadBetween, IsLoadedBetween}
 use Rattle.hgs_views.proofs.Basics.{same-refl, prefix-refl, prefix-trans, may-front}
 use Rattle.hgs_views.proofs.CourseLemmas.{course-later, itself-between}
-use Rattle.hgs_views.proofs.LoadLemmas.{front-of-longer, below, answered, in-order, viewed}
+use Rattle.hgs_views.proofs.LoadLemmas.{LoadsAt, front-of-longer, below, pieces-step, answered, in-order, viewed}
 use Rattle.hgs_views.proofs.Below.{LoadLaws}
 
 -- ---- an entry is the same as itself
@@ -133,27 +133,6 @@ module _ (x : Course) (first last : List Op) (is : IsCourse x first last) where
       (prefix-trans first r.roots ended (prefix-trans first r.changelog r.roots (prefix-trans first r.dirstate r.changelog (prefix-trans first r.bookmarks r.dirstate r.from_first r.then_dirstate) r.then_changelog) r.then_roots) r.to_last)
       then
 
-  pub refreshed-along : (law : LoadLaws) (ended from : List Op) (v : Numbers) (old : View) (y : Result View ReadAnswer) → IsLoadedBetween x first ended v old → IsPrefixOf ended from → OpensAlong x from last → MayAnswer x.start from (refresh_asks old) last y
-      → (w : Numbers) × (view : View) × (y ≡ Ok view) × IsLoadedBetween x from last w view × NoneFell v w
-  refreshed-along law ended from v old y loaded_old then opens m =
-      let on = may-front (refresh_asks old) x.start from last y m in
-      let at : IsBetween first last from = record { begins = began-by ended from v loaded_old.reads then; ends = on } in
-      let later = course-later x first from last at is in
-      let now = itself-between from last on in
-      let r = answered law x from last later opens (view_after old.changelog.entries) from y now m in
-      let order = in-order law x from last later opens from r.v now r.has.reads in
-      let fell = none-fell ended from v r.v loaded_old.reads then on order.first_marked order.first_worked order.first_read order.read_rooted in
-      let seen = viewed law x from last later opens from r.v r.marks r.nodes r.log r.roots r.has order in
-      let reads = r.has.reads in
-      let log = reads.changelog in
-      let begins = prefix-trans first from log at.begins (prefix-trans from reads.dirstate log (prefix-trans from reads.bookmarks reads.dirstate reads.from_first reads.then_dirstate) reads.then_changelog) in
-      let ends = prefix-trans log reads.roots last reads.then_roots reads.to_last in
-      let top : r.v.read ≤ x.published log = (let e = reads.read in omega (arith, e)) in
-      let front = store-front law log v.read r.v.read (record { begins = begins; ends = ends }) fell.read top in
-      let kept = loaded-front (bytes_at (x.store v.read) changelog_index) front.0 old.changelog r.log loaded_old.is_view.loads (ap (loaded Ignore) (sym front.1) ∙ r.has.log_is.loads) in
-      let none : first_changed 0 old.changelog.entries r.log.entries ≡ None = ap (first_changed 0 old.changelog.entries) kept.1 ∙ unchanged 0 old.changelog.entries kept.0 in
-      (r.v, seen.0, r.answer_is ∙ ap (λ o. unless_changed o (view_of r.marks r.nodes r.log r.roots)) none ∙ seen.3, record { is_view = seen.1; reads = reads; order = order }, fell)
-
   -- a list after the load is not below its changesets
   pub loaded-below : (ended from : List Op) (v : Numbers) → AreReadBetween x first ended v → IsPrefixOf ended from → IsPrefixOf from last → v.read ≤ x.published from
   loaded-below ended from v r then on =
@@ -163,3 +142,30 @@ module _ (x : Course) (first last : List Op) (is : IsCourse x first last) where
       let e = r.read in
       let p = up.published in
       omega (arith, e, p)
+
+  -- the history of a later list begins with that of the old view
+  kept-at : (law : LoadLaws) (ended from : List Op) (v : Numbers) (old : View) → IsLoadedBetween x first ended v old → IsPrefixOf ended from → IsPrefixOf from last → (log : List Op) (found : Log) → IsBetween from last log → LoadsAt x (x.published log) found → first_changed 0 old.changelog.entries found.entries ≡ None
+  kept-at law ended from v old loaded_old then on log found at is_at =
+      let from_at : IsBetween first last from = record { begins = began-by ended from v loaded_old.reads then; ends = on } in
+      let log_at : IsBetween first last log = record { begins = prefix-trans first from log from_at.begins at.begins; ends = at.ends } in
+      let low = loaded-below ended from v loaded_old.reads then on in
+      let up = (is.rises from log from_at at).published in
+      let front = store-front law log v.read (x.published log) log_at (omega (arith, low, up)) (omega arith) in
+      let kept = loaded-front (bytes_at (x.store v.read) changelog_index) front.0 old.changelog found loaded_old.is_view.loads (ap (loaded Ignore) (sym front.1) ∙ is_at.loads) in
+      ap (first_changed 0 old.changelog.entries) kept.1 ∙ unchanged 0 old.changelog.entries kept.0
+
+  pub refreshed-along : (law : LoadLaws) (ended from : List Op) (v : Numbers) (old : View) (y : Result View ReadAnswer) → IsLoadedBetween x first ended v old → IsPrefixOf ended from → OpensAlong x from last → MayAnswer x.start from (refresh_asks old) last y
+      → (w : Numbers) × (view : View) × (y ≡ Ok view) × IsLoadedBetween x from last w view × NoneFell v w
+  refreshed-along law ended from v old y loaded_old then opens m =
+      let on = may-front (refresh_asks old) x.start from last y m in
+      let at : IsBetween first last from = record { begins = began-by ended from v loaded_old.reads then; ends = on } in
+      let later = course-later x first from last at is in
+      let now = itself-between from last on in
+      let entries = old.changelog.entries in
+      let kept = kept-at law ended from v old loaded_old then on in
+      let step = pieces-step law x from last later opens (λ index. log_after entries (log_of index)) (λ log found at is_at loads. ap (log_after entries) loads ∙ ap (λ o. unless_changed o found) (kept log found at is_at)) in
+      let r = answered law x from last later opens (newer_log_asks entries) step view_of from y now m in
+      let order = in-order law x from last later opens from r.v now r.has.reads in
+      let fell = none-fell ended from v r.v loaded_old.reads then on order.first_marked order.first_worked order.first_read order.read_rooted in
+      let seen = viewed law x from last later opens from r.v r.marks r.nodes r.log r.roots r.has order in
+      (r.v, seen.0, r.answer_is ∙ seen.3, record { is_view = seen.1; reads = r.has.reads; order = order }, fell)
