@@ -1,5 +1,7 @@
 pub mod AskLemmas
 pub mod FeedLemmas
+pub mod GivenLemmas
+pub mod HistoryLemmas
 pub mod MachineLemmas
 pub mod OpenedLemmas
 pub mod PartLemmas
@@ -7,4 +9,5 @@ pub mod RefreshLemmas
 pub mod RestLemmas
 pub mod StepLemmas
 pub mod ViewLemmas
+pub mod WayLemmas
 pub mod WholeLemmas

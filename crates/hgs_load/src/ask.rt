@@ -3,6 +3,7 @@ ghost use Rattle.std.specs.Prelude.{◌≡◌, ◌≤◌, [], Bool, true, length
 ghost use Rattle.hgs_files.specs.Reads.{Grows};
 ghost use Rattle.hgs_load.specs.Answer.{HasFaultCause};
 ghost use Rattle.hgs_load.specs.Asks.{IsPart};
+ghost use Rattle.hgs_load.specs.Given.{CountsPart};
 
 use crate::answer::{ReadAnswer, of_files};
 use hgs_bytes::bytes::Bytes;
@@ -19,6 +20,7 @@ pub fn read_part<R: Reads>(
     most: u64,
 ) -> Result<Option<Bytes>, ReadAnswer>
     ensures answer { IsPart (R.seen files.new) (R.start files.new) path.now from most result }
+    ensures given { CountsPart (R.given files.old) (R.given files.new) result }
     ensures short { IfOk result (λ part. IfSome part (λ bytes. length bytes ≤ most)) }
     ensures seen { Grows (R.seen files.old) (R.seen files.new) }
     ensures same_start { R.start files.new ≡ R.start files.old }

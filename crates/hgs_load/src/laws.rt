@@ -1,5 +1,7 @@
 //! What the definitions of this crate imply. Each function is one law; none does anything.
-ghost use Rattle.std.specs.Prelude.{◌≡◌, ◌≤◌, ◌/◌, List, Ok, None, length};
+ghost use Rattle.std.specs.Prelude.{◌≡◌, ◌+◌, ◌<◌, ◌≤◌, ◌/◌, ℕ, List, Ok, None, Some, length, take, slice_get};
+ghost use Rattle.hgs_bytes.specs.Bytes.{IsPrefixOf};
+ghost use Rattle.hgs_index.specs.declared.entry.Entry.{Entry};
 ghost use Rattle.hgs_files.specs.Tree.{Tree, bytes_at};
 ghost use Rattle.hgs_marks.specs.Bookmarks.{Mark};
 ghost use Rattle.hgs_phases.specs.Phases.{phases_by};
@@ -31,4 +33,12 @@ pub fn parts_make_views()
     ensures refreshed { (t : Tree) (old : View) (marks : List Mark) (nodes : Nodes) (log : Log) (roots : List Root) (working : Working) → at_rest t bookmarks_asks ≡ Ok marks → at_rest t dirstate_asks ≡ Ok nodes → at_rest t log_asks ≡ Ok log → at_rest t roots_asks ≡ Ok roots →
         working_answer log.entries nodes ≡ Ok working → first_changed 0 old.changelog.entries log.entries ≡ None → at_rest t (refresh_asks old) ≡ Ok (record { changelog = log; bookmarks = marks; working = working; phases = phases_by roots log.entries }) }
     ensures log { (t : Tree) (view : View) → at_rest t open_asks ≡ Ok view → at_rest t log_asks ≡ Ok view.changelog }
+{}
+
+/// No old entry changed exactly where the old entries are a front of the new ones; the first that changed stands behind a common
+/// front, and another entry stands there now, or none.
+pub fn old_entries_are_in_front()
+    ensures front { (rev : ℕ) (old new : List Entry) → first_changed rev old new ≡ None → IsPrefixOf old new }
+    ensures none { (rev : ℕ) (old new : List Entry) → IsPrefixOf old new → first_changed rev old new ≡ None }
+    ensures first { (rev changed : ℕ) (old new : List Entry) → first_changed rev old new ≡ Some changed → (at : ℕ) × (changed ≡ rev + at) × (at < length old) × (take at old ≡ take at new) × (slice_get old at ≡ slice_get new at → ⊥) }
 {}

@@ -1,9 +1,11 @@
 //! One step of a load: a read, and what the machine makes of it.
-ghost use Rattle.std.specs.Prelude.{◌≡◌, ◌<◌, true};
+ghost use Rattle.std.specs.Prelude.{◌≡◌, ◌<◌, true, IfOk};
 ghost use Rattle.std.specs.Option.{option_map};
+ghost use Rattle.hgs_bytes.specs.Bytes.{IsPrefixOf};
 ghost use Rattle.hgs_files.specs.Reads.{Grows};
 ghost use Rattle.hgs_load.specs.Answer.{HasFaultCause};
 ghost use Rattle.hgs_load.specs.Asks.{Answers};
+ghost use Rattle.hgs_load.specs.Given.{Takes, TakesStep};
 ghost use Rattle.hgs_load.specs.Load.{asks_of, reads_left, Advances};
 ghost use Rattle.hgs_load.specs.Open.{open_asks};
 ghost use Rattle.hgs_load.specs.Refresh.{refresh_asks};
@@ -33,6 +35,7 @@ pub fn feed_next<R: Reads>(
     machine: &mut LoadMachine,
 ) -> Result<bool, ReadAnswer>
     ensures asked { Advances (R.seen files.old) (R.start files.old) (R.seen files.new) (asks_of machine.old) (asks_of machine.new) result }
+    ensures given { TakesStep (R.given files.old) (R.given files.new) (R.seen files.old) (R.start files.old) (R.seen files.new) (asks_of machine.old) (asks_of machine.new) result }
     ensures fewer { result ≡ Ok true → reads_left machine.new < reads_left machine.old }
     ensures seen { Grows (R.seen files.old) (R.seen files.new) }
     ensures same_start { R.start files.new ≡ R.start files.old }
@@ -56,6 +59,7 @@ pub fn load_with<R: Reads>(
     load: LoadMachine,
 ) -> Result<Loaded, ReadAnswer>
     ensures answer { Answers (λ loaded. loaded) (R.seen files.old) (R.start files.old) (R.seen files.new) (asks_of load) result }
+    ensures given { Takes (λ loaded. loaded) (R.given files.old) (R.given files.new) (R.seen files.old) (R.start files.old) (R.seen files.new) (asks_of load) result }
     ensures seen { Grows (R.seen files.old) (R.seen files.new) }
     ensures same_start { R.start files.new ≡ R.start files.old }
     ensures still { R.alone ≡ true → R.seen files.new ≡ R.seen files.old }
@@ -74,6 +78,7 @@ pub fn load_with<R: Reads>(
 /// Loads the repository that the files hold, which others may change meanwhile.
 pub fn load<R: Reads>(alloc: Global, files: &mut R) -> Result<Loaded, ReadAnswer>
     ensures answer { Answers (λ loaded. loaded) (R.seen files.old) (R.start files.old) (R.seen files.new) open_asks result }
+    ensures given { Takes (λ loaded. loaded) (R.given files.old) (R.given files.new) (R.seen files.old) (R.start files.old) (R.seen files.new) open_asks result }
     ensures seen { Grows (R.seen files.old) (R.seen files.new) }
     ensures same_start { R.start files.new ≡ R.start files.old }
     ensures still { R.alone ≡ true → R.seen files.new ≡ R.seen files.old }
@@ -91,6 +96,8 @@ pub fn load_again<R: Reads>(
     old: &Loaded,
 ) -> Result<Loaded, ReadAnswer>
     ensures answer { Answers (λ loaded. loaded) (R.seen files.old) (R.start files.old) (R.seen files.new) (refresh_asks old.now) result }
+    ensures given { Takes (λ loaded. loaded) (R.given files.old) (R.given files.new) (R.seen files.old) (R.start files.old) (R.seen files.new) (refresh_asks old.now) result }
+    ensures front { IfOk result (λ loaded. IsPrefixOf old.now.changelog.entries loaded.changelog.entries) }
     ensures seen { Grows (R.seen files.old) (R.seen files.new) }
     ensures same_start { R.start files.new ≡ R.start files.old }
     ensures still { R.alone ≡ true → R.seen files.new ≡ R.seen files.old }

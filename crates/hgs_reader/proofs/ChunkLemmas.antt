@@ -1,6 +1,6 @@
 -- One read of a chunk.
-use Rattle.std.proofs.Common.{◌≡◌, ℕ, List, [], Option, Some, None, Result, Ok, Err, sym, ◌∙◌, ap, subst}
-use Rattle.std.specs.Prelude.{unwrap_or}
+use Rattle.std.proofs.Common.{◌≡◌, ℕ, ◌≤◌, List, [], length, Option, Some, None, Result, Ok, Err, sym, ◌∙◌, ap, subst}
+use Rattle.std.specs.Prelude.{unwrap_or, IfSome}
 use Rattle.std.specs.Option.{option_map}
 use Rattle.hgs_files.specs.declared.op.Op.{Op}
 use Rattle.hgs_files.specs.Tree.{Tree}
@@ -13,6 +13,8 @@ use Rattle.hgs_bytes.specs.Answer.{Gives}
 use Rattle.hgs_load.specs.Answer.{is_of_outside}
 use Rattle.hgs_load.specs.Asks.{Asks, answer, MayAnswerWhereTold, Answers, IsPart}
 use Rattle.hgs_reader.specs.Line.{chunk_asks}
+use Rattle.hgs_load.specs.Given.{RisesBy, size_of, Gave, Takes}
+use Rattle.hgs_load.proofs.GivenLemmas.{gave-read, takes-ended}
 use Rattle.hgs_load.proofs.AskLemmas.{continues-start, continues-read, continues-answer, either}
 
 some_is : {A : Type 0} (x y : A) → Some x ≡ Some y → x ≡ y
@@ -41,3 +43,26 @@ pub chunk_answers : {V A : Type 0} (view : V → A) (before after : Option (List
 chunk_answers view before after start start_new path chunks e given span part bytes (Ok x) s g st p h b r = chunk_read before after start start_new path chunks e given span part bytes (Ok (view x)) s g st p h b r
 chunk_answers view before after start start_new path chunks e given span part bytes (Err f) s g st p h b r =
     either (is_of_outside f) _ _ (λ m. chunk_read before after start start_new path chunks e given span part bytes (Err f) s g st p h b m) r
+
+-- ---- what was given
+
+module _ {A : Type 0} (g0 g1 : ℕ) (before after : Option (List Op)) (start start_new : Tree) (path chunks : List ℕ) where
+  pub chunk_gave : (e : Option Entry) (given : List ℕ → Result A ReadAnswer) (span : Span) (part : Option (List ℕ)) (bytes : List ℕ) →
+      option_map span_of e ≡ Some span → Grows before after → start_new ≡ start → path ≡ chunks → IsPart after start_new path span.from span.len (Ok part) → bytes ≡ unwrap_or part [] → RisesBy g0 g1 (size_of part) → IfSome part (λ b. length b ≤ span.len) →
+      Gave g0 g1 before start after (chunk_asks chunks e given) (answer (given bytes))
+  chunk_gave None given span part bytes s g st p h b rises short = cc
+  chunk_gave (Some e) given span part bytes s g st p h b rises short =
+      let same : span_of e ≡ span = some_is (span_of e) span s in
+      let P : Tree → Type 0 = λ t. IsPart after t path span.from span.len (Ok part) in
+      let Q : List ℕ → Type 0 = λ q. IsPart after start q span.from span.len (Ok part) in
+      let S : Span → Type 0 = λ q. IsPart after start chunks q.from q.len (Ok part) in
+      let L : Span → Type 0 = λ q. IfSome part (λ b. length b ≤ q.len) in
+      let B : List ℕ → Type 0 = λ l. Gave g0 g1 before start after (chunk_asks chunks (Some e) given) (answer (given l)) in
+      subst B (sym b) (gave-read g0 g1 before after start chunks e.offset e.stored (λ chunk. answer (given (unwrap_or chunk []))) part rises g (subst L (sym same) short, subst S (sym same) (subst Q p (subst P st h))))
+
+  -- the same for what a call answered
+  pub chunk_takes : {V : Type 0} (view : V → A) (e : Option Entry) (given : List ℕ → Result A ReadAnswer) (span : Span) (part : Option (List ℕ)) (bytes : List ℕ) (r : Result V ReadAnswer) →
+      option_map span_of e ≡ Some span → Grows before after → start_new ≡ start → path ≡ chunks → IsPart after start_new path span.from span.len (Ok part) → bytes ≡ unwrap_or part [] → RisesBy g0 g1 (size_of part) → IfSome part (λ b. length b ≤ span.len) → Gives is_of_outside view r (given bytes) →
+      Takes view g0 g1 before start after (chunk_asks chunks e given) r
+  chunk_takes view e given span part bytes r s g st p h b rises short h2 =
+      takes-ended view g0 g1 before after start (chunk_asks chunks e given) (given bytes) r (chunk_gave e given span part bytes s g st p h b rises short) h2

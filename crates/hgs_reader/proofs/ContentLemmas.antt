@@ -9,6 +9,7 @@ use Rattle.hgs_index.specs.Manifest.{Row, read_manifest}
 use Rattle.hgs_index.specs.Node.{null_node}
 use Rattle.hgs_load.specs.declared.answer.ReadAnswer.{ReadAnswer}
 use Rattle.hgs_load.specs.Asks.{Asks, answer, then_asks, Answers}
+use Rattle.hgs_load.specs.Given.{Takes}
 use Rattle.hgs_reader.specs.Contents.{manifest_index, manifest_data, rows_answer, rows_asks, file_line, files_text}
 use Rattle.hgs_reader.specs.Find.{text_asks}
 
@@ -25,6 +26,17 @@ module _ (before after : Option (List Op)) (start : Tree) (node : List ℕ) (r :
 
   pub named_rows : same node null_node ≡ false → by false → Answers (λ (rows : List Row). rows) before start after (rows_asks node) r
   named_rows e h = subst by (sym e) h
+
+-- the same of what was given
+module _ (g0 g1 : ℕ) (before after : Option (List Op)) (start : Tree) (node : List ℕ) (r : Result (List Row) ReadAnswer) where
+  abbrev given_by : (b : Bool) → Type 0
+  given_by b = Takes (λ (rows : List Row). rows) g0 g1 before start after (cond b (answer (Ok [])) (read_rows node)) r
+
+  pub null_takes : same node null_node ≡ true → given_by true → Takes (λ (rows : List Row). rows) g0 g1 before start after (rows_asks node) r
+  null_takes e h = subst given_by (sym e) h
+
+  pub named_takes : same node null_node ≡ false → given_by false → Takes (λ (rows : List Row). rows) g0 g1 before start after (rows_asks node) r
+  named_takes e h = subst given_by (sym e) h
 
 some_is : {A : Type 0} (x y : A) → Some x ≡ Some y → x ≡ y
 some_is x y e = cc

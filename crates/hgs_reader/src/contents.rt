@@ -10,6 +10,7 @@ ghost use Rattle.hgs_path.specs.declared.name.Ext.TheVariants.{I, D};
 ghost use Rattle.hgs_revlog.specs.Load.{most_text};
 ghost use Rattle.hgs_load.specs.Answer.{is_of_outside, HasFaultCause, NeverFaults};
 ghost use Rattle.hgs_load.specs.Asks.{answer, then_asks, Answers, AddsAnswer, AddsGiven};
+ghost use Rattle.hgs_load.specs.Given.{Takes, TakesText};
 ghost use Rattle.hgs_reader.specs.Contents.{manifest_index, manifest_data, rows_answer, rows_asks, flag_word, file_line, files_text, file_node, body_answer, body_asks};
 
 use crate::find::{RevlogPaths, text_of_node};
@@ -79,6 +80,7 @@ pub fn manifest_of<R: Reads>(
     node: &Node,
 ) -> Result<Manifest, ReadAnswer>
     ensures answer { Answers (λ rows. rows) (R.seen files.old) (R.start files.old) (R.seen files.new) (rows_asks node.now.0) result }
+    ensures given { Takes (λ rows. rows) (R.given files.old) (R.given files.new) (R.seen files.old) (R.start files.old) (R.seen files.new) (rows_asks node.now.0) result }
     ensures seen { Grows (R.seen files.old) (R.seen files.new) }
     ensures same_start { R.start files.new ≡ R.start files.old }
     ensures still { R.alone ≡ true → R.seen files.new ≡ R.seen files.old }
@@ -186,6 +188,7 @@ fn add_body<R: Reads>(
     into: &mut Vec<u8>,
 ) -> Result<(), ReadAnswer>
     ensures answer { AddsAnswer (R.seen files.old) (R.start files.old) (R.seen files.new) (body_asks path.now node.now.0) into.old.items into.new.items result }
+    ensures given { TakesText (R.given files.old) (R.given files.new) (R.seen files.old) (R.start files.old) (R.seen files.new) (body_asks path.now node.now.0) into.old.items into.new.items result }
     ensures seen { Grows (R.seen files.old) (R.seen files.new) }
     ensures same_start { R.start files.new ≡ R.start files.old }
     ensures still { R.alone ≡ true → R.seen files.new ≡ R.seen files.old }
@@ -207,6 +210,7 @@ pub fn add_file<R: Reads>(
     into: &mut Vec<u8>,
 ) -> Result<(), ReadAnswer>
     ensures answer { AddsAnswer (R.seen files.old) (R.start files.old) (R.seen files.new) (then_asks (answer (file_node path.now manifest.now)) (λ node. body_asks path.now node)) into.old.items into.new.items result }
+    ensures given { TakesText (R.given files.old) (R.given files.new) (R.seen files.old) (R.start files.old) (R.seen files.new) (then_asks (answer (file_node path.now manifest.now)) (λ node. body_asks path.now node)) into.old.items into.new.items result }
     ensures seen { Grows (R.seen files.old) (R.seen files.new) }
     ensures same_start { R.start files.new ≡ R.start files.old }
     ensures still { R.alone ≡ true → R.seen files.new ≡ R.seen files.old }

@@ -9,6 +9,7 @@ ghost use Rattle.hgs_revlog.specs.Log.{place_of};
 ghost use Rattle.hgs_revlog.specs.Text.{text_of};
 ghost use Rattle.hgs_load.specs.Answer.{is_of_outside, HasFaultCause, NeverFaults};
 ghost use Rattle.hgs_load.specs.Asks.{Answers, answer, then_asks};
+ghost use Rattle.hgs_load.specs.Given.{Takes};
 ghost use Rattle.hgs_reader.specs.Find.{has_node, has_item, is_far, more_pieces, bytes_behind, text_answer, text_at_asks, placed_text, inline_text, inline_behind, separate_behind, text_asks};
 ghost use Rattle.hgs_load.specs.View.{log_answer};
 
@@ -126,6 +127,7 @@ fn read_behind<R: Reads>(
     inline: bool,
 ) -> Result<Vec<u8>, ReadAnswer>
     ensures answer { Answers (λ bytes. bytes.items) (R.seen files.old) (R.start files.old) (R.seen files.new) (bytes_behind inline index.now node.now.0 first.now) result }
+    ensures given { Takes (λ bytes. bytes.items) (R.given files.old) (R.given files.new) (R.seen files.old) (R.start files.old) (R.seen files.new) (bytes_behind inline index.now node.now.0 first.now) result }
     ensures seen { Grows (R.seen files.old) (R.seen files.new) }
     ensures same_start { R.start files.new ≡ R.start files.old }
     ensures still { R.alone ≡ true → R.seen files.new ≡ R.seen files.old }
@@ -175,6 +177,7 @@ fn load_behind<R: Reads>(
     first: &[u8],
 ) -> Result<Revlog, ReadAnswer>
     ensures answer { Answers (λ log. log) (R.seen files.old) (R.start files.old) (R.seen files.new) (then_asks (bytes_behind false index.now node.now.0 first.now) (λ bytes. answer (log_answer index.now (loaded (Until (record { 0 = node.now.0 })) bytes)))) result }
+    ensures given { Takes (λ log. log) (R.given files.old) (R.given files.new) (R.seen files.old) (R.start files.old) (R.seen files.new) (then_asks (bytes_behind false index.now node.now.0 first.now) (λ bytes. answer (log_answer index.now (loaded (Until (record { 0 = node.now.0 })) bytes)))) result }
     ensures small { IfOk result (λ log. HaveSmallTexts log.entries) }
     ensures seen { Grows (R.seen files.old) (R.seen files.new) }
     ensures same_start { R.start files.new ≡ R.start files.old }
@@ -219,6 +222,7 @@ pub fn read_text<R: Reads>(
 ) -> Result<StoredText, ReadAnswer>
     requires { rev < length log.now.entries }
     ensures answer { Answers (λ text. text) (R.seen files.old) (R.start files.old) (R.seen files.new) (text_at_asks paths.now.index paths.now.chunks log.now (Some rev)) result }
+    ensures given { Takes (λ text. text) (R.given files.old) (R.given files.new) (R.seen files.old) (R.start files.old) (R.seen files.new) (text_at_asks paths.now.index paths.now.chunks log.now (Some rev)) result }
     ensures small { HaveSmallTexts log.now.entries → IfOk result (λ text. length text ≤ most_text) }
     ensures seen { Grows (R.seen files.old) (R.seen files.new) }
     ensures same_start { R.start files.new ≡ R.start files.old }
@@ -242,6 +246,7 @@ fn text_in_log<R: Reads>(
     node: &Node,
 ) -> Result<StoredText, ReadAnswer>
     ensures answer { Answers (λ text. text) (R.seen files.old) (R.start files.old) (R.seen files.new) (text_at_asks paths.now.index paths.now.chunks log.now (place_of log.now.entries node.now.0)) result }
+    ensures given { Takes (λ text. text) (R.given files.old) (R.given files.new) (R.seen files.old) (R.start files.old) (R.seen files.new) (text_at_asks paths.now.index paths.now.chunks log.now (place_of log.now.entries node.now.0)) result }
     ensures small { HaveSmallTexts log.now.entries → IfOk result (λ text. length text ≤ most_text) }
     ensures seen { Grows (R.seen files.old) (R.seen files.new) }
     ensures same_start { R.start files.new ≡ R.start files.old }
@@ -263,6 +268,7 @@ fn separate_text<R: Reads>(
     first: &[u8],
 ) -> Result<StoredText, ReadAnswer>
     ensures answer { Answers (λ text. text) (R.seen files.old) (R.start files.old) (R.seen files.new) (separate_behind paths.now.index paths.now.chunks node.now.0 first.now) result }
+    ensures given { Takes (λ text. text) (R.given files.old) (R.given files.new) (R.seen files.old) (R.start files.old) (R.seen files.new) (separate_behind paths.now.index paths.now.chunks node.now.0 first.now) result }
     ensures small { IfOk result (λ text. length text ≤ most_text) }
     ensures seen { Grows (R.seen files.old) (R.seen files.new) }
     ensures same_start { R.start files.new ≡ R.start files.old }
@@ -331,6 +337,7 @@ fn inline_text_of<R: Reads>(
     first: &[u8],
 ) -> Result<StoredText, ReadAnswer>
     ensures answer { Answers (λ text. text) (R.seen files.old) (R.start files.old) (R.seen files.new) (inline_behind index.now node.now.0 first.now) result }
+    ensures given { Takes (λ text. text) (R.given files.old) (R.given files.new) (R.seen files.old) (R.start files.old) (R.seen files.new) (inline_behind index.now node.now.0 first.now) result }
     ensures small { IfOk result (λ text. length text ≤ most_text) }
     ensures seen { Grows (R.seen files.old) (R.seen files.new) }
     ensures same_start { R.start files.new ≡ R.start files.old }
@@ -351,6 +358,7 @@ pub fn text_of_node<R: Reads>(
     node: &Node,
 ) -> Result<StoredText, ReadAnswer>
     ensures answer { Answers (λ text. text) (R.seen files.old) (R.start files.old) (R.seen files.new) (text_asks paths.now.index paths.now.chunks node.now.0) result }
+    ensures given { Takes (λ text. text) (R.given files.old) (R.given files.new) (R.seen files.old) (R.start files.old) (R.seen files.new) (text_asks paths.now.index paths.now.chunks node.now.0) result }
     ensures small { IfOk result (λ text. length text ≤ most_text) }
     ensures seen { Grows (R.seen files.old) (R.seen files.new) }
     ensures same_start { R.start files.new ≡ R.start files.old }

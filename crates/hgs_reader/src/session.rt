@@ -38,10 +38,12 @@ impl Model for Session {
 impl Session {
     ghost use Rattle.std.specs.Prelude.{◌≡◌, ◌<◌, ◌≤◌, ◌++◌, true, length, slice_get, Some, IfOk, IfSome, OnOk, OnErr};
     ghost use Rattle.hgs_bytes.specs.Answer.{Gives};
+    ghost use Rattle.hgs_bytes.specs.Bytes.{IsPrefixOf};
     ghost use Rattle.hgs_files.specs.Reads.{Grows};
     ghost use Rattle.hgs_changelog.specs.View.{view_change};
     ghost use Rattle.hgs_load.specs.Answer.{is_of_outside, HasFaultCause, NeverFaults};
     ghost use Rattle.hgs_load.specs.Asks.{Answers, AddsAnswer};
+    ghost use Rattle.hgs_load.specs.Given.{Takes, TakesText, TakesView};
     ghost use Rattle.hgs_reader.specs.Contents.{tree_asks, files_asks, cat_asks};
     ghost use Rattle.hgs_reader.specs.Heads.{heads_text};
     ghost use Rattle.hgs_reader.specs.Line.{change_at, change_asks, line_at, line_asks};
@@ -73,6 +75,7 @@ impl Session {
     /// Loads the repository that the files hold, which others may change meanwhile.
     pub fn open<R: Reads>(alloc: Global, files: &mut R) -> Result<Session, ReadAnswer>
         ensures answer { Answers (λ session. session) (R.seen files.old) (R.start files.old) (R.seen files.new) open_asks result }
+        ensures given { Takes (λ session. session) (R.given files.old) (R.given files.new) (R.seen files.old) (R.start files.old) (R.seen files.new) open_asks result }
         ensures seen { Grows (R.seen files.old) (R.seen files.new) }
         ensures same_start { R.start files.new ≡ R.start files.old }
         ensures still { R.alone ≡ true → R.seen files.new ≡ R.seen files.old }
@@ -93,6 +96,8 @@ impl Session {
     /// changelog where the history does not begin with the one that was loaded.
     pub fn refresh<R: Reads>(&mut self, files: &mut R) -> Result<(), ReadAnswer>
         ensures answer { Refreshes (R.seen files.old) (R.start files.old) (R.seen files.new) (refresh_asks self.old) self.old self.new result }
+        ensures given { TakesView (R.given files.old) (R.given files.new) (R.seen files.old) (R.start files.old) (R.seen files.new) (refresh_asks self.old) self.new result }
+        ensures front { OnOk result (IsPrefixOf self.old.changelog.entries self.new.changelog.entries) }
         ensures seen { Grows (R.seen files.old) (R.seen files.new) }
         ensures same_start { R.start files.new ≡ R.start files.old }
         ensures still { R.alone ≡ true → R.seen files.new ≡ R.seen files.old }
@@ -172,6 +177,7 @@ impl Session {
     ) -> Result<(), ReadAnswer>
         requires { rev < length self.old.changelog.entries }
         ensures answer { AddsAnswer (R.seen files.old) (R.start files.old) (R.seen files.new) (line_asks self.old rev) into.old.items into.new.items result }
+        ensures given { TakesText (R.given files.old) (R.given files.new) (R.seen files.old) (R.start files.old) (R.seen files.new) (line_asks self.old rev) into.old.items into.new.items result }
         ensures kept { self.new ≡ self.old }
         ensures seen { Grows (R.seen files.old) (R.seen files.new) }
         ensures same_start { R.start files.new ≡ R.start files.old }
@@ -192,6 +198,7 @@ impl Session {
     fn change<R: Reads>(&self, files: &mut R, rev: u32) -> Result<ChangeText, ReadAnswer>
         requires { rev < length self.now.changelog.entries }
         ensures answer { Answers view_change (R.seen files.old) (R.start files.old) (R.seen files.new) (change_asks self.now rev) result }
+        ensures given { Takes view_change (R.given files.old) (R.given files.new) (R.seen files.old) (R.start files.old) (R.seen files.new) (change_asks self.now rev) result }
         ensures seen { Grows (R.seen files.old) (R.seen files.new) }
         ensures same_start { R.start files.new ≡ R.start files.old }
         ensures still { R.alone ≡ true → R.seen files.new ≡ R.seen files.old }
@@ -206,6 +213,7 @@ impl Session {
     fn manifest<R: Reads>(&self, files: &mut R, rev: u32) -> Result<Manifest, ReadAnswer>
         requires { rev < length self.now.changelog.entries }
         ensures answer { Answers (λ rows. rows) (R.seen files.old) (R.start files.old) (R.seen files.new) (tree_asks self.now rev) result }
+        ensures given { Takes (λ rows. rows) (R.given files.old) (R.given files.new) (R.seen files.old) (R.start files.old) (R.seen files.new) (tree_asks self.now rev) result }
         ensures seen { Grows (R.seen files.old) (R.seen files.new) }
         ensures same_start { R.start files.new ≡ R.start files.old }
         ensures still { R.alone ≡ true → R.seen files.new ≡ R.seen files.old }
@@ -229,6 +237,7 @@ impl Session {
     ) -> Result<(), ReadAnswer>
         requires { rev < length self.old.changelog.entries }
         ensures answer { AddsAnswer (R.seen files.old) (R.start files.old) (R.seen files.new) (files_asks self.old rev) into.old.items into.new.items result }
+        ensures given { TakesText (R.given files.old) (R.given files.new) (R.seen files.old) (R.start files.old) (R.seen files.new) (files_asks self.old rev) into.old.items into.new.items result }
         ensures kept { self.new ≡ self.old }
         ensures seen { Grows (R.seen files.old) (R.seen files.new) }
         ensures same_start { R.start files.new ≡ R.start files.old }
@@ -257,6 +266,7 @@ impl Session {
     ) -> Result<(), ReadAnswer>
         requires { rev < length self.old.changelog.entries }
         ensures answer { AddsAnswer (R.seen files.old) (R.start files.old) (R.seen files.new) (cat_asks self.old rev path.now) into.old.items into.new.items result }
+        ensures given { TakesText (R.given files.old) (R.given files.new) (R.seen files.old) (R.start files.old) (R.seen files.new) (cat_asks self.old rev path.now) into.old.items into.new.items result }
         ensures kept { self.new ≡ self.old }
         ensures seen { Grows (R.seen files.old) (R.seen files.new) }
         ensures same_start { R.start files.new ≡ R.start files.old }

@@ -34,9 +34,7 @@ ghost use Rattle.hgs_stands.specs.Places.{changelog_index, roots_path};
 ghost use Rattle.hgs_stands.specs.Shows.{Shows};
 ghost use Rattle.hgs_stands.specs.Stands.{HoldsChangesets, Stands, changeset_entries};
 
-use hgs_index::laws::{
-    ancestor_test, held_index_length, inline_taken_apart, nodes_are_counted,
-};
+use hgs_index::laws::{ancestor_test, held_index_length, inline_taken_apart, nodes_are_counted};
 use hgs_index::texts::{change_prints_then_reads, manifest_prints_then_reads};
 use hgs_model::history_laws::{changesets_are_held, histories_go_on, used_paths_have_revisions};
 use hgs_model::laws::{ancestors_of_a_front, changelog_is_whole};

@@ -1,7 +1,8 @@
 use Rattle.std.proofs.Common.{refl, ◌∙◌, arith}
 use Rattle.hgs_load.specs.Load.{asks_of}
 use Rattle.hgs_load.proofs.AskLemmas.{continues-start, grows-refl, grows-trans}
-use Rattle.hgs_load.proofs.StepLemmas.{goes_on, has_ended, is_refused}
+use Rattle.hgs_load.proofs.GivenLemmas.{gave-none}
+use Rattle.hgs_load.proofs.StepLemmas.{goes_on, has_ended, is_refused, gave_on, gave_all, gave_refused}
 use Rattle.hgs_load.proofs.step.load_with.Goals as goal
 
 pub loop-machine-init : goal.loop-machine-init
@@ -10,6 +11,7 @@ loop-machine-init g c =
     let start = g.R.Reads.start c.args.files.now in
     record {
       asked = continues-start seen start (asks_of c.args.load);
+      gave = gave-none (g.R.Reads.given c.args.files.now) (g.R.Reads.given c.args.files.now) seen seen start (asks_of c.args.load) refl (grows-refl seen);
       grown = grows-refl seen;
       same_start = refl;
       still = λ h. refl;
@@ -24,6 +26,7 @@ loop-machine-preserved g c =
     record {
       asked = goes_on (g.R.Reads.seen c.args.files.now) (g.R.Reads.seen c.loop-machine.files) (g.R.Reads.seen c.feed_next.new.files) (g.R.Reads.start c.args.files.now) (g.R.Reads.start c.loop-machine.files) (asks_of c.args.load) (asks_of c.loop-machine.machine) (asks_of c.feed_next.new.machine)
           i.asked i.grown i.same_start c.in-Ok-true.field-0 c.in-Ok-true.field-0-test e.asked;
+      gave = gave_on (g.R.Reads.given c.args.files.now) (g.R.Reads.given c.loop-machine.files) (g.R.Reads.given c.feed_next.new.files) (g.R.Reads.seen c.args.files.now) (g.R.Reads.seen c.loop-machine.files) (g.R.Reads.seen c.feed_next.new.files) (g.R.Reads.start c.args.files.now) (g.R.Reads.start c.loop-machine.files) (asks_of c.args.load) (asks_of c.loop-machine.machine) (asks_of c.feed_next.new.machine) i.same_start i.gave c.in-Ok-true.field-0 c.in-Ok-true.field-0-test e.given;
       grown = grows-trans (g.R.Reads.seen c.args.files.now) (g.R.Reads.seen c.loop-machine.files) (g.R.Reads.seen c.feed_next.new.files) i.grown e.seen;
       same_start = e.same_start ∙ i.same_start;
       still = λ h. e.still h ∙ i.still h;
@@ -46,3 +49,16 @@ returns-in-Err-clause-answer g c =
 pub returns-in-Err-clause-seen : goal.returns-in-Err-clause-seen
 returns-in-Err-clause-seen g c =
     grows-trans (g.R.Reads.seen c.args.files.now) (g.R.Reads.seen c.loop-machine.files) (g.R.Reads.seen c.feed_next.new.files) c.loop-machine.invariant.grown c.in-Err.ensures.seen
+
+pub returns-in-Ok-false-clause-given : goal.returns-in-Ok-false-clause-given
+returns-in-Ok-false-clause-given g c =
+    let i = c.loop-machine.invariant in
+    let e = c.in-Ok-false.ensures in
+    gave_all (g.R.Reads.given c.args.files.now) (g.R.Reads.given c.loop-machine.files) (g.R.Reads.given c.feed_next.new.files) (g.R.Reads.seen c.args.files.now) (g.R.Reads.seen c.loop-machine.files) (g.R.Reads.seen c.feed_next.new.files) (g.R.Reads.start c.args.files.now) (g.R.Reads.start c.loop-machine.files) (asks_of c.args.load) (asks_of c.loop-machine.machine) (asks_of c.feed_next.new.machine) i.same_start i.gave
+    c.in-Ok-false.field-0 c.take.result c.in-Ok-false.field-0-test e.seen e.given e.asked c.take.ensures
+
+pub returns-in-Err-clause-given : goal.returns-in-Err-clause-given
+returns-in-Err-clause-given g c =
+    let i = c.loop-machine.invariant in
+    gave_refused (g.R.Reads.given c.args.files.now) (g.R.Reads.given c.loop-machine.files) (g.R.Reads.given c.feed_next.new.files) (g.R.Reads.seen c.args.files.now) (g.R.Reads.seen c.loop-machine.files) (g.R.Reads.seen c.feed_next.new.files) (g.R.Reads.start c.args.files.now) (g.R.Reads.start c.loop-machine.files) (asks_of c.args.load) (asks_of c.loop-machine.machine) (asks_of c.feed_next.new.machine) i.same_start i.gave
+    c.in-Err.refusal c.in-Err.ensures.given

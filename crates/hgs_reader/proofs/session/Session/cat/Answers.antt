@@ -2,6 +2,7 @@ use Rattle.std.proofs.Common.{List, refl}
 use Rattle.hgs_index.specs.Manifest.{Row}
 use Rattle.hgs_load.specs.Asks.{answer, then_asks}
 use Rattle.hgs_reader.specs.Contents.{tree_asks, file_node, body_asks}
+use Rattle.hgs_load.proofs.GivenLemmas.{text-then, refused-then}
 use Rattle.hgs_load.proofs.AskLemmas.{adds-then, adds-refused}
 use Rattle.hgs_reader.proofs.session.Session.cat.Goals as goal
 
@@ -16,3 +17,14 @@ returns-clause-answer g c =
     adds-then (λ (rows : List Row). rows) (g.R.Reads.seen c.args.files.now) (g.R.Reads.seen c.manifest.new.files) (g.R.Reads.seen c.add_file.new.files) (g.R.Reads.start c.args.files.now) (g.R.Reads.start c.manifest.new.files)
     (tree_asks c.args.self.now c.args.rev) (λ (rows : List Row). then_asks (answer (file_node c.args.path.now rows)) (λ node. body_asks c.args.path.now node)) c.in-Ok.manifest c.args.into.now.items c.add_file.new.into.items c.add_file.result
     c.in-Ok.ensures.seen c.in-Ok.ensures.same_start c.in-Ok.ensures.answer c.add_file.ensures.answer
+
+pub returns-in-Err-clause-given : goal.returns-in-Err-clause-given
+returns-in-Err-clause-given g c =
+    refused-then (g.R.Reads.given c.args.files.now) (g.R.Reads.given c.manifest.new.files) (g.R.Reads.seen c.args.files.now) (g.R.Reads.seen c.manifest.new.files) (g.R.Reads.start c.args.files.now)
+    (tree_asks c.args.self.now c.args.rev) (λ (rows : List Row). then_asks (answer (file_node c.args.path.now rows)) (λ node. body_asks c.args.path.now node)) c.in-Err.refusal c.in-Err.ensures.given
+
+pub returns-clause-given : goal.returns-clause-given
+returns-clause-given g c =
+    text-then (λ (rows : List Row). rows) (g.R.Reads.given c.args.files.now) (g.R.Reads.given c.manifest.new.files) (g.R.Reads.given c.add_file.new.files) (g.R.Reads.seen c.args.files.now) (g.R.Reads.seen c.manifest.new.files) (g.R.Reads.seen c.add_file.new.files) (g.R.Reads.start c.args.files.now) (g.R.Reads.start c.manifest.new.files)
+    (tree_asks c.args.self.now c.args.rev) (λ (rows : List Row). then_asks (answer (file_node c.args.path.now rows)) (λ node. body_asks c.args.path.now node)) c.in-Ok.manifest c.args.into.now.items c.add_file.new.into.items c.add_file.result
+    c.in-Ok.ensures.same_start c.in-Ok.ensures.given c.add_file.ensures.given
