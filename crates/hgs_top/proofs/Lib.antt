@@ -4,6 +4,7 @@ pub mod ContentsLemmas
 pub mod EndedLemmas
 pub mod FitLemmas
 pub mod FoundLemmas
+pub mod GivenLemmas
 pub mod HistoryLemmas
 pub mod InitLemmas
 pub mod InputLemmas

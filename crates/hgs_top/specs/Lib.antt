@@ -1,3 +1,4 @@
+pub mod Given
 pub mod Histories
 pub mod History
 pub mod Orders

@@ -6,6 +6,7 @@ ghost use Rattle.hgs_files.specs.Streams.{IsWritten};
 ghost use Rattle.hgs_files.specs.declared.streams.IoFault.TheVariants.{Failed};
 ghost use Rattle.hgs_load.specs.declared.answer.ReadAnswer.TheVariants.{Fault};
 ghost use Rattle.hgs_load.specs.Answer.{refusal_line, status_of};
+ghost use Rattle.hgs_top.specs.Given.{question_reads, ReadsOnly};
 ghost use Rattle.hgs_top.specs.Run.{IsOneOf, OfReply, IsReplied, Replied, SaysBadWord, Concludes, bad_word_line, EndsLine, status_of_sink};
 ghost use Rattle.hgs_top.specs.Words.{question_of};
 
@@ -117,6 +118,7 @@ fn answer<R: Reads, K: Sink>(
     out: &mut K,
 ) -> Result<Said, Stopped>
     ensures told { R.alone ≡ true → OfReply (question_of command.entry) (R.seen files.old) (R.start files.old) (λ reply. IsReplied reply (K.written out.old) (K.written out.new) result) }
+    ensures given { ReadsOnly (R.given files.old) (R.given files.new) (R.seen files.old) (R.start files.old) (R.seen files.new) (question_reads (question_of command.entry)) }
     ensures same_start { R.start files.new ≡ R.start files.old }
     ensures still { R.alone ≡ true → R.seen files.new ≡ R.seen files.old }
     ensures fault { result ≡ Err (Stopped.Refused Fault) → Rose (R.faults files.old) (R.faults files.new) }
@@ -146,6 +148,7 @@ pub fn run_command<F: Files, K: Sink>(
     ensures says { OfReply (question_of command.entry) (F.log files.old) (F.start files.old) (λ reply. Replied (Rose (F.faults files.old) (F.faults files.new)) reply result (K.written out.old) (K.written out.new)) }
     ensures fault { result ≡ 16 → Rose (F.faults files.old) (F.faults files.new) }
     ensures sink { result ≡ 19 → Rose (K.faults out.old) (K.faults out.new) }
+    ensures given { ReadsOnly (F.given files.old) (F.given files.new) (F.seen files.old) (F.start files.old) (F.seen files.new) (question_reads (question_of command.entry)) }
     ensures log { F.log files.new ≡ F.log files.old }
     ensures same_start { F.start files.new ≡ F.start files.old }
     ensures statuses { IsOneOf (0 ∷ 12 ∷ 15 ∷ 16 ∷ 19 ∷ 20 ∷ 23 ∷ 24 ∷ 27 ∷ 30 ∷ []) result }

@@ -5,6 +5,8 @@ ghost use Rattle.hgs_files.specs.declared.streams.IoFault.TheVariants.{Failed};
 ghost use Rattle.hgs_load.specs.declared.answer.ReadAnswer.TheVariants.{Fault};
 ghost use Rattle.hgs_load.specs.Answer.{HasFaultCause};
 ghost use Rattle.hgs_load.specs.Asks.{AddsAnswer};
+ghost use Rattle.hgs_load.specs.Given.{TakesText};
+ghost use Rattle.hgs_top.specs.Given.{contents_reads, ReadsOnly};
 ghost use Rattle.hgs_top.specs.Outcome.{contents_asks, contents_reply, phase_text, subject_of};
 ghost use Rattle.hgs_top.specs.Run.{OfTree, IsReplied};
 
@@ -47,6 +49,7 @@ fn add_contents<R: Reads>(
 ) -> Result<(), ReadAnswer>
     requires { rev < length session.old.changelog.entries }
     ensures answer { AddsAnswer (R.seen files.old) (R.start files.old) (R.seen files.new) (contents_asks session.old rev (subject_of about.entry)) into.old.items into.new.items result }
+    ensures given { TakesText (R.given files.old) (R.given files.new) (R.seen files.old) (R.start files.old) (R.seen files.new) (contents_asks session.old rev (subject_of about.entry)) into.old.items into.new.items result }
     ensures seen { Grows (R.seen files.old) (R.seen files.new) }
     ensures same_start { R.start files.new ≡ R.start files.old }
     ensures still { R.alone ≡ true → R.seen files.new ≡ R.seen files.old }
@@ -71,6 +74,7 @@ pub fn write_contents<R: Reads, K: Sink>(
     out: &mut K,
 ) -> Result<Said, Stopped>
     ensures told { R.alone ≡ true → OfTree (R.seen files.old) (R.start files.old) (λ t. IsReplied (contents_reply name.now (subject_of about.entry) t) (K.written out.old) (K.written out.new) result) }
+    ensures given { ReadsOnly (R.given files.old) (R.given files.new) (R.seen files.old) (R.start files.old) (R.seen files.new) (contents_reads name.now (subject_of about.entry)) }
     ensures same_start { R.start files.new ≡ R.start files.old }
     ensures still { R.alone ≡ true → R.seen files.new ≡ R.seen files.old }
     ensures later { R.faults files.old ≤ R.faults files.new }

@@ -3,6 +3,7 @@ ghost use Rattle.std.specs.Prelude.{◌≡◌, ◌≤◌, ◌++◌, Err, true, O
 ghost use Rattle.hgs_files.specs.Reads.{Grows, Rose};
 ghost use Rattle.hgs_files.specs.declared.streams.IoFault.TheVariants.{Failed};
 ghost use Rattle.hgs_load.specs.declared.answer.ReadAnswer.TheVariants.{Fault};
+ghost use Rattle.hgs_top.specs.Given.{listing_reads, ReadsOnly};
 ghost use Rattle.hgs_top.specs.Outcome.{listing_outcome, listing_text};
 ghost use Rattle.hgs_top.specs.Run.{OfTree, IsTold};
 
@@ -44,6 +45,7 @@ pub fn write_listing<R: Reads, K: Sink>(
     out: &mut K,
 ) -> Result<(), Stopped>
     ensures told { R.alone ≡ true → OfTree (R.seen files.old) (R.start files.old) (λ t. IsTold (listing_outcome listing t) (K.written out.old) (K.written out.new) result) }
+    ensures given { ReadsOnly (R.given files.old) (R.given files.new) (R.seen files.old) (R.start files.old) (R.seen files.new) listing_reads }
     ensures seen { Grows (R.seen files.old) (R.seen files.new) }
     ensures same_start { R.start files.new ≡ R.start files.old }
     ensures still { R.alone ≡ true → R.seen files.new ≡ R.seen files.old }

@@ -1,9 +1,10 @@
 //! The command `log`.
-ghost use Rattle.std.specs.Prelude.{◌≡◌, ◌≤◌, Err, true, List, ℕ, [], ◌++◌, OnOk, OnErr, IfErr, IsErr, IsErrOf};
+ghost use Rattle.std.specs.Prelude.{◌≡◌, ◌≤◌, Err, true, List, ℕ, length, [], ◌++◌, OnOk, OnErr, IfErr, IsErr, IsErrOf};
 ghost use Rattle.hgs_files.specs.Streams.{IsWritten};
 ghost use Rattle.hgs_files.specs.Reads.{Grows, Rose};
 ghost use Rattle.hgs_files.specs.declared.streams.IoFault.TheVariants.{Failed};
 ghost use Rattle.hgs_load.specs.declared.answer.ReadAnswer.TheVariants.{Fault};
+ghost use Rattle.hgs_top.specs.Given.{lines_reads, log_reads, ReadsOnly};
 ghost use Rattle.hgs_top.specs.Outcome.{log_outcome, lines_of_view};
 ghost use Rattle.hgs_top.specs.Run.{OfTree, IsTold, IsCut, IsGathered, IsUnwritten, StopsAt};
 
@@ -46,6 +47,7 @@ fn gather_lines<R: Reads, K: Sink>(
 ) -> Result<(), Stopped>
     requires { gathered.old.items ≡ [] }
     ensures gathered { R.alone ≡ true → OfTree (R.seen files.old) (R.start files.old) (λ t. IsGathered (lines_of_view t session.old) (K.written out.old) (K.written out.new) gathered.new.items result) }
+    ensures given { ReadsOnly (R.given files.old) (R.given files.new) (R.seen files.old) (R.start files.old) (R.seen files.new) (lines_reads session.old (length session.old.changelog.entries)) }
     ensures seen { Grows (R.seen files.old) (R.seen files.new) }
     ensures same_start { R.start files.new ≡ R.start files.old }
     ensures still { R.alone ≡ true → R.seen files.new ≡ R.seen files.old }
@@ -102,6 +104,7 @@ pub fn write_log<R: Reads, K: Sink>(
     out: &mut K,
 ) -> Result<(), Stopped>
     ensures told { R.alone ≡ true → OfTree (R.seen files.old) (R.start files.old) (λ t. IsTold (log_outcome t) (K.written out.old) (K.written out.new) result) }
+    ensures given { ReadsOnly (R.given files.old) (R.given files.new) (R.seen files.old) (R.start files.old) (R.seen files.new) log_reads }
     ensures seen { Grows (R.seen files.old) (R.seen files.new) }
     ensures same_start { R.start files.new ≡ R.start files.old }
     ensures still { R.alone ≡ true → R.seen files.new ≡ R.seen files.old }

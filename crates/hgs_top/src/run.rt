@@ -4,6 +4,7 @@ ghost use Rattle.std.specs.String.{string_bytes};
 ghost use Rattle.hgs_files.specs.Reads.{Rose};
 ghost use Rattle.hgs_files.specs.Yard.{IfWhole};
 ghost use Rattle.hgs_files.specs.declared.op.Op.{Op};
+ghost use Rattle.hgs_top.specs.Given.{ReadsAsked};
 ghost use Rattle.hgs_top.specs.Histories.{MakesHistory};
 ghost use Rattle.hgs_top.specs.Orders.{KeepsInput, Obeys};
 ghost use Rattle.hgs_top.specs.Repository.{SaysOfRepository};
@@ -45,6 +46,7 @@ fn run_words<F: Files, S: Source, K: Sink>(
     ensures sink { result ≡ 19 → Rose (K.faults out.old) (K.faults out.new) }
     ensures orders { Obeys (request_of_words (map string_bytes words.now)) (S.left input.old) (F.log files.old) (F.log files.new) (F.start files.old) result (K.written out.old) (K.written out.new) }
     ensures input { KeepsInput (request_of_words (map string_bytes words.now)) (S.left input.old) (S.left input.new) (S.faults input.old) (S.faults input.new) }
+    ensures given { ReadsAsked (request_of_words (map string_bytes words.now)) (F.given files.old) (F.given files.new) (F.seen files.old) (F.start files.old) (F.seen files.new) }
     ensures same_start { F.start files.new ≡ F.start files.old }
 {
     replies_of_repository();
@@ -76,6 +78,7 @@ pub fn run<T, Y: Yard, S: Source, K: Sink>(
     ensures sink { result.status ≡ 19 → Rose (K.faults out.old) (K.faults out.new) }
     ensures orders { IfWhole result.left (λ y. Obeys (request_of_words (map string_bytes words.now)) (S.left input.old) (Y.A.log (Y.files yard)) (Y.A.log (Y.files y)) (Y.A.start (Y.files yard)) result.status (K.written out.old) (K.written out.new)) }
     ensures history { IfWhole result.left (λ y. MakesHistory (map string_bytes words.now) (S.left input.old) (Y.A.log (Y.files yard)) (Y.A.log (Y.files y)) (Y.A.start (Y.files yard))) }
+    ensures given { IfWhole result.left (λ y. ReadsAsked (request_of_words (map string_bytes words.now)) (Y.A.given (Y.files yard)) (Y.A.given (Y.files y)) (Y.A.seen (Y.files yard)) (Y.A.start (Y.files yard)) (Y.A.seen (Y.files y))) }
     ensures same_start { IfWhole result.left (λ y. Y.A.start (Y.files y) ≡ Y.A.start (Y.files yard)) }
     ensures input { KeepsInput (request_of_words (map string_bytes words.now)) (S.left input.old) (S.left input.new) (S.faults input.old) (S.faults input.new) }
 {

@@ -13,6 +13,9 @@ use Rattle.hgs_top.specs.declared.listing.Listing.TheVariants.{Heads, Bookmarks,
 use Rattle.hgs_top.specs.Pages.{page_outcome, page_text}
 use Rattle.hgs_top.specs.Run.{OfReply, IsTold, IsCut, IsUnwritten, IsReplied}
 use Rattle.hgs_top.specs.Words.{question_of}
+use Rattle.hgs_load.proofs.AskLemmas.{grows-refl}
+use Rattle.hgs_top.specs.Given.{question_reads, ReadsOnly}
+use Rattle.hgs_top.proofs.GivenLemmas.{only-none}
 use Rattle.hgs_top.proofs.LogLemmas.{of_each}
 use Rattle.hgs_top.proofs.command.answer.Goals as goal
 
@@ -92,3 +95,45 @@ returns-in-Phase-clause-told g c = λ alone.
     let new = g.K.Sink.written c.write_contents-in-Phase.new.out in
     let P : Command → Type 0 = λ k. OfReply (question_of k) seen start (λ reply. IsReplied reply old new c.write_contents-in-Phase.result) in
     subst P (sym c.in-Phase.is) (c.write_contents-in-Phase.ensures.told alone)
+
+pub returns-in-Log-clause-given : goal.returns-in-Log-clause-given
+returns-in-Log-clause-given g c =
+    let P : Command → Type 0 = λ k. ReadsOnly (g.R.Reads.given c.args.files.now) (g.R.Reads.given c.write_log.new.files) (g.R.Reads.seen c.args.files.now) (g.R.Reads.start c.args.files.now) (g.R.Reads.seen c.write_log.new.files) (question_reads (question_of k)) in
+    subst P (sym c.in-Log.is) c.write_log.ensures.given
+
+pub returns-in-Heads-clause-given : goal.returns-in-Heads-clause-given
+returns-in-Heads-clause-given g c =
+    let P : Command → Type 0 = λ k. ReadsOnly (g.R.Reads.given c.args.files.now) (g.R.Reads.given c.write_listing.new.files) (g.R.Reads.seen c.args.files.now) (g.R.Reads.start c.args.files.now) (g.R.Reads.seen c.write_listing.new.files) (question_reads (question_of k)) in
+    subst P (sym c.in-Heads.is) c.write_listing.ensures.given
+
+pub returns-in-Bookmarks-clause-given : goal.returns-in-Bookmarks-clause-given
+returns-in-Bookmarks-clause-given g c =
+    let P : Command → Type 0 = λ k. ReadsOnly (g.R.Reads.given c.args.files.now) (g.R.Reads.given c.write_listing-in-Bookmarks.new.files) (g.R.Reads.seen c.args.files.now) (g.R.Reads.start c.args.files.now) (g.R.Reads.seen c.write_listing-in-Bookmarks.new.files) (question_reads (question_of k)) in
+    subst P (sym c.in-Bookmarks.is) c.write_listing-in-Bookmarks.ensures.given
+
+pub returns-in-Parents-clause-given : goal.returns-in-Parents-clause-given
+returns-in-Parents-clause-given g c =
+    let P : Command → Type 0 = λ k. ReadsOnly (g.R.Reads.given c.args.files.now) (g.R.Reads.given c.write_listing-in-Parents.new.files) (g.R.Reads.seen c.args.files.now) (g.R.Reads.start c.args.files.now) (g.R.Reads.seen c.write_listing-in-Parents.new.files) (question_reads (question_of k)) in
+    subst P (sym c.in-Parents.is) c.write_listing-in-Parents.ensures.given
+
+pub returns-in-Files-clause-given : goal.returns-in-Files-clause-given
+returns-in-Files-clause-given g c =
+    let P : Command → Type 0 = λ k. ReadsOnly (g.R.Reads.given c.args.files.now) (g.R.Reads.given c.write_contents.new.files) (g.R.Reads.seen c.args.files.now) (g.R.Reads.start c.args.files.now) (g.R.Reads.seen c.write_contents.new.files) (question_reads (question_of k)) in
+    subst P (sym c.in-Files.is) c.write_contents.ensures.given
+
+pub returns-in-Cat-clause-given : goal.returns-in-Cat-clause-given
+returns-in-Cat-clause-given g c =
+    let P : Command → Type 0 = λ k. ReadsOnly (g.R.Reads.given c.args.files.now) (g.R.Reads.given c.write_contents-in-Cat.new.files) (g.R.Reads.seen c.args.files.now) (g.R.Reads.start c.args.files.now) (g.R.Reads.seen c.write_contents-in-Cat.new.files) (question_reads (question_of k)) in
+    subst P (sym c.in-Cat.is) c.write_contents-in-Cat.ensures.given
+
+pub returns-in-Phase-clause-given : goal.returns-in-Phase-clause-given
+returns-in-Phase-clause-given g c =
+    let P : Command → Type 0 = λ k. ReadsOnly (g.R.Reads.given c.args.files.now) (g.R.Reads.given c.write_contents-in-Phase.new.files) (g.R.Reads.seen c.args.files.now) (g.R.Reads.start c.args.files.now) (g.R.Reads.seen c.write_contents-in-Phase.new.files) (question_reads (question_of k)) in
+    subst P (sym c.in-Phase.is) c.write_contents-in-Phase.ensures.given
+
+pub returns-in-Shown-clause-given : goal.returns-in-Shown-clause-given
+returns-in-Shown-clause-given g c =
+    let given = g.R.Reads.given c.args.files.now in
+    let seen = g.R.Reads.seen c.args.files.now in
+    let start = g.R.Reads.start c.args.files.now in
+    only-none given seen start (question_reads (question_of c.args.command)) (grows-refl seen)

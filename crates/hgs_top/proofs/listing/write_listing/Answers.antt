@@ -1,9 +1,12 @@
-use Rattle.std.proofs.Common.{List, ℕ, OnOk, ◌++◌, ◌∙◌, ap, refl, subst}
+use Rattle.std.proofs.Common.{List, ℕ, Ok, OnOk, ◌++◌, ◌∙◌, ap, refl, subst}
 use Rattle.std.specs.Prelude.{IfErr}
 use Rattle.hgs_files.specs.Streams.{IsWritten}
 use Rattle.hgs_top.specs.Outcome.{listing_text, listing_of_load}
 use Rattle.hgs_top.specs.Run.{IsCut, IsUnwritten}
 use Rattle.hgs_top.proofs.LogLemmas.{unopened}
+use Rattle.hgs_load.specs.Asks.{answer}
+use Rattle.hgs_load.specs.Open.{open_asks}
+use Rattle.hgs_top.proofs.GivenLemmas.{only-refused, only-first}
 use Rattle.hgs_top.proofs.ListingLemmas.{listing_told, listing_lost}
 use Rattle.hgs_top.proofs.listing.write_listing.Goals as goal
 
@@ -25,3 +28,12 @@ returns-in-Ok-add_listing-clause-told g c = λ alone.
 
 pub returns-clause-told : goal.returns-clause-told
 returns-clause-told g c = λ alone. listing_lost c.args.listing (g.R.Reads.seen c.args.files.now) (g.R.Reads.start c.args.files.now) (g.K.Sink.written c.args.out.now)
+
+pub returns-in-Err-clause-given : goal.returns-in-Err-clause-given
+returns-in-Err-clause-given g c = only-refused (g.R.Reads.given c.args.files.now) (g.R.Reads.given c.open.new.files) (g.R.Reads.seen c.args.files.now) (g.R.Reads.seen c.open.new.files) (g.R.Reads.start c.args.files.now) open_asks (λ view. answer (Ok tt)) c.in-Err.refusal c.in-Err.ensures.given
+
+pub returns-in-Ok-add_listing-clause-given : goal.returns-in-Ok-add_listing-clause-given
+returns-in-Ok-add_listing-clause-given g c = only-first (g.R.Reads.given c.args.files.now) (g.R.Reads.given c.open.new.files) (g.R.Reads.seen c.args.files.now) (g.R.Reads.seen c.open.new.files) (g.R.Reads.start c.args.files.now) open_asks (λ view. answer (Ok tt)) c.in-Ok.session c.in-Ok.ensures.given
+
+pub returns-clause-given : goal.returns-clause-given
+returns-clause-given g c = only-first (g.R.Reads.given c.args.files.now) (g.R.Reads.given c.open.new.files) (g.R.Reads.seen c.args.files.now) (g.R.Reads.seen c.open.new.files) (g.R.Reads.start c.args.files.now) open_asks (λ view. answer (Ok tt)) c.in-Ok.session c.in-Ok.ensures.given

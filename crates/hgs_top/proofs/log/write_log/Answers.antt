@@ -1,4 +1,4 @@
-use Rattle.std.proofs.Common.{List, ℕ, ◌++◌, Option, Some, None, Err, OnOk, refl, ◌∙◌, ap, subst, append_assoc}
+use Rattle.std.proofs.Common.{List, ℕ, length, ◌++◌, Option, Some, None, Err, OnOk, refl, ◌∙◌, ap, subst, append_assoc}
 use Rattle.std.specs.Prelude.{IfErr}
 use Rattle.hgs_files.specs.Reads.{Grows}
 use Rattle.hgs_files.specs.Streams.{IsWritten}
@@ -7,6 +7,10 @@ use Rattle.hgs_top.specs.declared.stopped.Stopped.{Stopped}
 use Rattle.hgs_top.specs.declared.stopped.Stopped.TheVariants.{Unwritten}
 use Rattle.hgs_top.specs.Outcome.{lines_of_view, log_of_view}
 use Rattle.hgs_top.specs.Run.{OfTree, IsTold, IsCut, IsGathered, IsUnwritten, StopsAt}
+use Rattle.hgs_load.specs.Open.{open_asks}
+use Rattle.hgs_load.specs.View.{View}
+use Rattle.hgs_top.specs.Given.{lines_reads}
+use Rattle.hgs_top.proofs.GivenLemmas.{only-refused, only-behind}
 use Rattle.hgs_top.proofs.LogLemmas.{opened, unopened, last_told, before_told, of_each}
 use Rattle.hgs_top.proofs.log.write_log.Goals as goal
 
@@ -67,3 +71,21 @@ returns-in-Ok-gather_lines-clause-seen g c = grows_on (g.R.Reads.seen c.args.fil
 
 pub returns-in-Ok-gather_lines-clause-still : goal.returns-in-Ok-gather_lines-clause-still
 returns-in-Ok-gather_lines-clause-still g c = λ alone. c.in-Ok-gather_lines.ensures.still alone ∙ c.in-Ok.ensures.still alone
+
+pub returns-in-Err-clause-given : goal.returns-in-Err-clause-given
+returns-in-Err-clause-given g c = only-refused (g.R.Reads.given c.args.files.now) (g.R.Reads.given c.open.new.files) (g.R.Reads.seen c.args.files.now) (g.R.Reads.seen c.open.new.files) (g.R.Reads.start c.args.files.now) open_asks (λ (view : View). lines_reads view (length view.changelog.entries)) c.in-Err.refusal c.in-Err.ensures.given
+
+pub returns-in-Ok-gather_lines-clause-given : goal.returns-in-Ok-gather_lines-clause-given
+returns-in-Ok-gather_lines-clause-given g c = only-behind (g.R.Reads.given c.args.files.now) (g.R.Reads.given c.open.new.files) (g.R.Reads.given c.gather_lines.new.files) (g.R.Reads.seen c.args.files.now) (g.R.Reads.seen c.open.new.files) (g.R.Reads.seen c.gather_lines.new.files) (g.R.Reads.start c.args.files.now) (g.R.Reads.start c.open.new.files) open_asks (λ (view : View). lines_reads view (length view.changelog.entries)) c.in-Ok.session c.in-Ok.ensures.same_start c.in-Ok.ensures.given c.gather_lines.ensures.given
+
+pub returns-in-Err-Refused-clause-given : goal.returns-in-Err-Refused-clause-given
+returns-in-Err-Refused-clause-given g c = only-behind (g.R.Reads.given c.args.files.now) (g.R.Reads.given c.open.new.files) (g.R.Reads.given c.gather_lines.new.files) (g.R.Reads.seen c.args.files.now) (g.R.Reads.seen c.open.new.files) (g.R.Reads.seen c.gather_lines.new.files) (g.R.Reads.start c.args.files.now) (g.R.Reads.start c.open.new.files) open_asks (λ (view : View). lines_reads view (length view.changelog.entries)) c.in-Ok.session c.in-Ok.ensures.same_start c.in-Ok.ensures.given c.gather_lines.ensures.given
+
+pub returns-clause-given : goal.returns-clause-given
+returns-clause-given g c = only-behind (g.R.Reads.given c.args.files.now) (g.R.Reads.given c.open.new.files) (g.R.Reads.given c.gather_lines.new.files) (g.R.Reads.seen c.args.files.now) (g.R.Reads.seen c.open.new.files) (g.R.Reads.seen c.gather_lines.new.files) (g.R.Reads.start c.args.files.now) (g.R.Reads.start c.open.new.files) open_asks (λ (view : View). lines_reads view (length view.changelog.entries)) c.in-Ok.session c.in-Ok.ensures.same_start c.in-Ok.ensures.given c.gather_lines.ensures.given
+
+pub returns-in-Err-Refused-clause-seen : goal.returns-in-Err-Refused-clause-seen
+returns-in-Err-Refused-clause-seen g c = grows_on (g.R.Reads.seen c.args.files.now) (g.R.Reads.seen c.open.new.files) (g.R.Reads.seen c.gather_lines.new.files) c.in-Ok.ensures.seen c.gather_lines.ensures.seen
+
+pub returns-clause-seen : goal.returns-clause-seen
+returns-clause-seen g c = grows_on (g.R.Reads.seen c.args.files.now) (g.R.Reads.seen c.open.new.files) (g.R.Reads.seen c.gather_lines.new.files) c.in-Ok.ensures.seen c.gather_lines.ensures.seen

@@ -1,0 +1,81 @@
+-- What a question reads, one part after another.
+use Rattle.std.proofs.Common.{◌≡◌, ℕ, zero, suc, ◌-◌, ◌<◌, Bool, true, false, List, length, Option, Some, None, Result, Ok, Err, refl, sym, ap, subst, arith}
+use Rattle.std.specs.Bool.{MatchBool}
+use Rattle.hgs_files.specs.declared.op.Op.{Op}
+use Rattle.hgs_files.specs.Reads.{Grows}
+use Rattle.hgs_files.specs.Tree.{Tree}
+use Rattle.hgs_load.specs.declared.answer.ReadAnswer.{ReadAnswer}
+use Rattle.hgs_load.specs.Answer.{is_of_outside}
+use Rattle.hgs_load.specs.Asks.{Asks, answer, then_asks}
+use Rattle.hgs_load.specs.Given.{Gave, GaveRefused, TakesText}
+use Rattle.hgs_load.specs.Open.{open_asks}
+use Rattle.hgs_load.specs.View.{View}
+use Rattle.hgs_load.proofs.GivenLemmas.{gave-none, gave-then, gave-both}
+use Rattle.hgs_reader.specs.Line.{line_asks}
+use Rattle.hgs_reader.specs.Names.{named}
+use Rattle.hgs_top.specs.Given.{lines_reads, reads_of_rev, contents_reads, ReadsOnly}
+use Rattle.hgs_top.specs.Outcome.{Subject, contents_asks}
+
+-- a refusal left something of the question
+abbrev left_of : {B : Type 0} → ℕ → ℕ → Option (List Op) → Tree → Option (List Op) → Asks (Result B ReadAnswer) → Type 0
+left_of {B} g0 g1 before start after q = (left : Asks (Result B ReadAnswer)) × Gave g0 g1 before start after q left
+
+refused-left : {B : Type 0} (b : Bool) (g0 g1 : ℕ) (before after : Option (List Op)) (start : Tree) (q : Asks (Result B ReadAnswer)) (e : ReadAnswer) → MatchBool b (left_of g0 g1 before start after q) (Gave g0 g1 before start after q (answer (Err e))) → left_of g0 g1 before start after q
+refused-left true g0 g1 before after start q e m = m
+refused-left false g0 g1 before after start q e m = (answer (Err e), m)
+
+-- the first part was refused
+pub only-refused : {A : Type 0} (g0 g1 : ℕ) (before after : Option (List Op)) (start : Tree) (q : Asks (Result A ReadAnswer)) (more : A → Asks (Result Unit ReadAnswer)) (e : ReadAnswer) → GaveRefused g0 g1 before start after q e → ReadsOnly g0 g1 before start after (then_asks q more)
+only-refused g0 g1 before after start q more e h =
+    let l = refused-left (is_of_outside e) g0 g1 before after start q e h in
+    (then_asks l.0 more, gave-then g0 g1 before after start q l.0 more l.1)
+
+-- the first part was answered, and what is behind it was not asked
+pub only-first : {A : Type 0} (g0 g1 : ℕ) (before after : Option (List Op)) (start : Tree) (q : Asks (Result A ReadAnswer)) (more : A → Asks (Result Unit ReadAnswer)) (x : A) → Gave g0 g1 before start after q (answer (Ok x)) → ReadsOnly g0 g1 before start after (then_asks q more)
+only-first g0 g1 before after start q more x h = (more x, gave-then g0 g1 before after start q (answer (Ok x)) more h)
+
+-- the first part was answered, and what is behind it was asked
+pub only-behind : {A : Type 0} (g0 g1 g2 : ℕ) (before now next : Option (List Op)) (start start_now : Tree) (q : Asks (Result A ReadAnswer)) (more : A → Asks (Result Unit ReadAnswer)) (x : A) → start_now ≡ start → Gave g0 g1 before start now q (answer (Ok x)) → ReadsOnly g1 g2 now start_now next (more x) → ReadsOnly g0 g2 before start next (then_asks q more)
+only-behind g0 g1 g2 before now next start start_now q more x s h k =
+    (k.0, gave-both g0 g1 g2 before now next start start_now (then_asks q more) (more x) k.0 s (gave-then g0 g1 before now start q (answer (Ok x)) more h) k.1)
+
+pub only-none : (given : ℕ) (seen : Option (List Op)) (start : Tree) (q : Asks (Result Unit ReadAnswer)) → Grows seen seen → ReadsOnly given given seen start seen q
+only-none given seen start q g = (q, gave-none given given seen seen start q refl g)
+
+text-only : (g0 g1 : ℕ) (before after : Option (List Op)) (start : Tree) (q : Asks (Result (List ℕ) ReadAnswer)) (more : List ℕ → Asks (Result Unit ReadAnswer)) (old new : List ℕ) (r : Result Unit ReadAnswer) → TakesText g0 g1 before start after q old new r → ReadsOnly g0 g1 before start after (then_asks q more)
+text-only g0 g1 before after start q more old new (Ok u) h = only-first g0 g1 before after start q more h.0 h.2
+text-only g0 g1 before after start q more old new (Err e) h = only-refused g0 g1 before after start q more e h
+
+-- what is asked of a changeset that a name names
+pub contents-only : (g0 g1 g2 : ℕ) (before now next : Option (List Op)) (start start_now : Tree) (view : View) (name : List ℕ) (subject : Subject) (rev : ℕ) (old new : List ℕ) (r : Result Unit ReadAnswer) → start_now ≡ start → Gave g0 g1 before start now open_asks (answer (Ok view)) → Some rev ≡ named view name
+    → TakesText g1 g2 now start_now next (contents_asks view rev subject) old new r → ReadsOnly g0 g2 before start next (contents_reads name subject)
+contents-only g0 g1 g2 before now next start start_now view name subject rev old new r s opened found h =
+    let P : Option ℕ → Type 0 = λ o. ReadsOnly g1 g2 now start_now next (reads_of_rev view subject o) in
+    only-behind g0 g1 g2 before now next start start_now open_asks (λ view. reads_of_rev view subject (named view name)) view s opened
+    (subst P found (text-only g1 g2 now next start_now (contents_asks view rev subject) (λ text. answer (Ok tt)) old new r h))
+
+-- ---- lines
+
+none : 0 < 0 → ⊥
+none h = omega (arith, h)
+
+module _ (g0 g1 g2 : ℕ) (before now next : Option (List Op)) (start start_now : Tree) (whole : Asks (Result Unit ReadAnswer)) (view session : View) (same : session ≡ view) (begun : start_now ≡ start) (old new : List ℕ) where
+  pub line-on : (left : ℕ) (u : Unit) → 0 < left → Gave g0 g1 before start now whole (lines_reads view left) → TakesText g1 g2 now start_now next (line_asks session (left - 1)) old new (Ok u) → Gave g0 g2 before start next whole (lines_reads view (left - 1))
+  line-on zero u some gave h = absurd (none some)
+  line-on (suc left) u some gave h =
+      let less : suc left - 1 ≡ left = omega arith in
+      let V : View → Type 0 = λ v. TakesText g1 g2 now start_now next (line_asks v (suc left - 1)) old new (Ok u) in
+      let N : ℕ → Type 0 = λ n. TakesText g1 g2 now start_now next (line_asks view n) old new (Ok u) in
+      let asked = subst N less (subst V same h) in
+      let Q : ℕ → Type 0 = λ n. Gave g0 g2 before start next whole (lines_reads view n) in
+      subst Q (sym less)
+      (gave-both g0 g1 g2 before now next start start_now whole (lines_reads view (suc left)) (lines_reads view left) begun gave (gave-then g1 g2 now next start_now (line_asks view left) (answer (Ok asked.0)) (λ line. lines_reads view left) asked.2))
+
+  pub line-refused : (left : ℕ) (e : ReadAnswer) → 0 < left → Gave g0 g1 before start now whole (lines_reads view left) → TakesText g1 g2 now start_now next (line_asks session (left - 1)) old new (Err e) → ReadsOnly g0 g2 before start next whole
+  line-refused zero e some gave h = absurd (none some)
+  line-refused (suc left) e some gave h =
+      let less : suc left - 1 ≡ left = omega arith in
+      let V : View → Type 0 = λ v. TakesText g1 g2 now start_now next (line_asks v (suc left - 1)) old new (Err e) in
+      let N : ℕ → Type 0 = λ n. TakesText g1 g2 now start_now next (line_asks view n) old new (Err e) in
+      let l = only-refused g1 g2 now next start_now (line_asks view left) (λ line. lines_reads view left) e (subst N less (subst V same h)) in
+      (l.0, gave-both g0 g1 g2 before now next start start_now whole (lines_reads view (suc left)) l.0 begun gave l.1)
