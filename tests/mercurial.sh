@@ -13,13 +13,6 @@ trap 'rm -rf "$work"' EXIT
 passed=0 failed=0 missing=0
 declare -A waiting
 
-# Whether the question reads a filelog of the current folder's store that keeps its texts in its index, which is not
-# read yet: its bit 16 stands in the first 4 bytes. A path whose letters are all plain has its own name in the store.
-reads_inline() { # KIND REV PATH
-    local index=.hg/store/data/${3:-}.i
-    [ "$1" = cat ] && [ -f "$index" ] && [ "$(head -c 2 "$index" | od -An -tx1)" != ' 00 00' ]
-}
-
 # Asks one question of the store in the current folder.
 ask() { # STORE NUMBER STATUS WORDS..
     local store=$1 number=$2 want=$3 status
@@ -49,9 +42,6 @@ for folder in "${folders[@]}"; do
         kind=${question[2]}
         if [[ $built != *" $kind "* ]]; then
             waiting["$kind"]=$((${waiting["$kind"]:-0} + 1))
-            missing=$((missing + 1))
-        elif reads_inline "${question[@]:2}"; then
-            waiting["$kind of an inline filelog"]=$((${waiting["$kind of an inline filelog"]:-0} + 1))
             missing=$((missing + 1))
         else
             ask "$store" "${question[@]}"

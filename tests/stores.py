@@ -34,6 +34,13 @@ def revlog(*texts):
     return (b"\0\0\0\x01" + index[4:] if index else b""), data
 
 
+def inline(*texts):
+    """The index of the same revlog with each chunk behind its entry."""
+    index, _ = revlog(*texts)
+    whole = b"".join(index[64 * rev : 64 * rev + 64] + b"u" + text for rev, text in enumerate(texts))
+    return b"\0\1" + whole[2:]
+
+
 def changeset(manifest, seconds, files, words):
     return b"%s\ntest\n%d 0\n%s\n%s" % (manifest.hex().encode(), seconds, b"".join(b"%s\n" % path for path in files), words)
 
@@ -80,7 +87,8 @@ def with_file(name, text):
 
 TWO = store(FIRST, SECOND)
 WHOLE = store(FIRST, manifest=[MANIFEST], filelog=[BODY])
-INDEX, DATA = "store/00changelog.i", "store/00changelog.d"
+INDEX, DATA, FILE = "store/00changelog.i", "store/00changelog.d", "store/data/a.i"
+INLINE = {**WHOLE, "store/00manifest.i": inline(MANIFEST), "store/00manifest.d": b"u", FILE: inline(BODY), "store/data/a.d": b"ub\n"}
 
 
 def damage(what, path=INDEX):
@@ -143,6 +151,16 @@ ROWS = [
     (store(changeset(node(TURNED), 0, [b"a", b"b"], b"a"), manifest=[TURNED]), "files 0", damage("manifest 2 2", "store/00manifest.i"), 15),
     (store(FIRST), "cat 0 a", damage("revlog 15 0", "store/00manifest.i"), 15),
     (store(changeset(NULL, 0, [], b"a")), "files 0", "", 0),
+    # revlogs whose chunks stand in the index; what stands beside it is not looked at
+    (INLINE, "files 0", FILES, 0),
+    (INLINE, "cat tip a", "a\n", 0),
+    (behind(INLINE, b"\xff" * 100), "cat tip a", "a\n", 0),
+    ({**INLINE, FILE: inline(BODY, b"b\n")[:-1]}, "cat 0 a", "a\n", 0),  # a chunk that is cut, behind the node and at it
+    ({**INLINE, FILE: inline(BODY)[:-1]}, "cat 0 a", damage("revlog 15 0", FILE), 15),
+    (changed({**INLINE, FILE: inline(BODY)[:-1]}, FILE, 3, 2), "cat 0 a", damage("revlog 1 0", FILE), 15),
+    (changed(INLINE, FILE, 8, 0x80), "cat 0 a", damage("revlog 1 0", FILE), 15),
+    (changed(INLINE, FILE, 64, 0x78), "cat 0 a", damage("revlog 2 0", FILE), 15),
+    (changed(INLINE, FILE, 65, ord("b")), "cat 0 a", damage("revlog 7 0", FILE), 15),
     # the words of `requires`
     (with_file("requires", "dotencode\nfncache\ntreemanifest\n"), "log", "abort: requirement treemanifest\n", 27),
     (with_file("requires", "fncache\nrevlogv1\nstore\n"), "heads", "abort: requirement dotencode\n", 27),

@@ -40,7 +40,7 @@ holds laws revisions has before = record {
   fits = has.room;
   different = has.different;
   not_null = has.not_null;
-  separate = refl;
+  form = refl;
   index_is = refl;
   data_is = refl;
 }

@@ -1,9 +1,9 @@
 use hgs_index::entry::{EntryFault, Header};
 use hgs_index::head::header;
 
-const fn with_generaldelta(generaldelta: bool) -> Header {
+const fn header_with(inline: bool, generaldelta: bool) -> Header {
     Header {
-        inline: false,
+        inline,
         generaldelta,
     }
 }
@@ -11,9 +11,10 @@ const fn with_generaldelta(generaldelta: bool) -> Header {
 #[test]
 fn headers(rt: HostRuntime) {
     for (bytes, want) in [
-        ([0, 0, 0, 1], Ok(with_generaldelta(false))),
-        ([0, 2, 0, 1], Ok(with_generaldelta(true))),
-        ([0, 1, 0, 1], Err(EntryFault::HeaderFlags)),
+        ([0, 0, 0, 1], Ok(header_with(false, false))),
+        ([0, 2, 0, 1], Ok(header_with(false, true))),
+        ([0, 1, 0, 1], Ok(header_with(true, false))),
+        ([0, 3, 0, 1], Ok(header_with(true, true))),
         ([0, 4, 0, 1], Err(EntryFault::HeaderFlags)),
         ([0, 4, 0, 2], Err(EntryFault::Version)),
     ] {

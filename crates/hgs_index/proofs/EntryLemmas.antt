@@ -70,10 +70,11 @@ module _ (e : Entry) (fits : Fits e None) where
   pub later_again : (rev : ℕ) → (rev == 0) ≡ false → entry_at (entry_bytes e None) rev ≡ Ok e
   later_again rev later = no_fault _ _ _ _ _ (rw later) (rw later) negatives (padding rev later) ∙ ap (λ x. Ok x) (fields rev later)
 
-bits_taken : (a b : Bool) → a ≡ false → has_bad_header (from_be_bytes w16 (0 ∷ (bit a + 2 * bit b) ∷ [])) ≡ false
-bits_taken true b h = cc
-bits_taken false true h = refl
-bits_taken false false h = refl
+bits_taken : (a b : Bool) → has_bad_header (from_be_bytes w16 (0 ∷ (bit a + 2 * bit b) ∷ [])) ≡ false
+bits_taken true true = refl
+bits_taken true false = refl
+bits_taken false true = refl
+bits_taken false false = refl
 
 module _ (e : Entry) (h : Header) (fits : Fits e (Some h)) where
   negatives_first : has_negative (entry_bytes e (Some h)) ≡ false
@@ -95,20 +96,21 @@ module _ (e : Entry) (h : Header) (fits : Fits e (Some h)) where
       (ap parent_of (from_be_bytes-to_be_bytes_4 (parent_number e.p2) (parent_back e.p2 fits.p2).2) ∙ (parent_back e.p2 fits.p2).0)
       (take_at e.node.0 (replicate 12 0) 20 fits.node)
 
-  pub first_again : h.inline ≡ false → entry_at (entry_bytes e (Some h)) 0 ≡ Ok e
-  first_again separate = no_fault _ _ _ _ _ refl (bits_taken h.inline h.generaldelta separate) negatives_first padding_first ∙ ap (λ x. Ok x) fields_first
+  pub first_again : entry_at (entry_bytes e (Some h)) 0 ≡ Ok e
+  first_again = no_fault _ _ _ _ _ refl (bits_taken h.inline h.generaldelta) negatives_first padding_first ∙ ap (λ x. Ok x) fields_first
 
 none_there : IsSome {T = Header} None → ⊥
 none_there h = cc
 
-pub entry_again : (e : Entry) (h : Option Header) (rev : ℕ) → Fits e h → IfSome h (λ x. x.inline ≡ false) → (IsSome h → rev ≡ 0) → (rev ≡ 0 → IsSome h) → entry_at (entry_bytes e h) rev ≡ Ok e
-entry_again e None rev fits separate a b = later_again e fits rev (elim (cases_eq rev 0) [ inl same ↦ absurd (none_there (b same)) | inr apart ↦ apart_test rev apart ])
-entry_again e (Some h) rev fits separate a b = ap (entry_at (entry_bytes e (Some h))) (a refl) ∙ first_again e h fits separate
+pub entry_again : (e : Entry) (h : Option Header) (rev : ℕ) → Fits e h → (IsSome h → rev ≡ 0) → (rev ≡ 0 → IsSome h) → entry_at (entry_bytes e h) rev ≡ Ok e
+entry_again e None rev fits a b = later_again e fits rev (elim (cases_eq rev 0) [ inl same ↦ absurd (none_there (b same)) | inr apart ↦ apart_test rev apart ])
+entry_again e (Some h) rev fits a b = ap (entry_at (entry_bytes e (Some h))) (a refl) ∙ first_again e h fits
 
-header_back : (a b : Bool) → a ≡ false → header_at (0 ∷ (bit a + 2 * bit b) ∷ 0 ∷ 1 ∷ []) ≡ Ok (record { inline = a; generaldelta = b })
-header_back true b h = cc
-header_back false true h = refl
-header_back false false h = refl
+header_back : (a b : Bool) → header_at (0 ∷ (bit a + 2 * bit b) ∷ 0 ∷ 1 ∷ []) ≡ Ok (record { inline = a; generaldelta = b })
+header_back true true = refl
+header_back true false = refl
+header_back false true = refl
+header_back false false = refl
 
-pub header_again : (e : Entry) (h : Header) → h.inline ≡ false → header_at (take 4 (entry_bytes e (Some h))) ≡ Ok h
-header_again e h separate = header_back h.inline h.generaldelta separate
+pub header_again : (e : Entry) (h : Header) → header_at (take 4 (entry_bytes e (Some h))) ≡ Ok h
+header_again e h = header_back h.inline h.generaldelta

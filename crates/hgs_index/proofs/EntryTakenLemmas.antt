@@ -100,16 +100,15 @@ six_parts (a ∷ b ∷ c ∷ d ∷ []) h = absurd (omega arith)
 six_parts (a ∷ b ∷ c ∷ d ∷ e ∷ []) h = absurd (omega arith)
 six_parts (a ∷ b ∷ c ∷ d ∷ e ∷ f ∷ xs) h = refl
 
-header_cases : (n : ℕ) → has_bad_header n ≡ false → (n ≡ 0) ⊎ (n ≡ 2)
-header_cases n h = elim (cases_eq n 0) [ inl e ↦ inl e | inr e ↦ inr (two n h e) ]
-  where
-    two : (m : ℕ) → has_bad_header m ≡ false → (m ≡ 0 → ⊥) → m ≡ 2
-    two m b e = grind arith
-
 head_is : (n : ℕ) → has_bad_header n ≡ false → to_be_bytes w16 n ++ (to_be_bytes w16 1 ++ (0 ∷ 0 ∷ [])) ≡ head_bytes 0 (Some (header_of n))
-head_is n h =
-    let P : ℕ → Type 0 = λ m. to_be_bytes w16 m ++ (to_be_bytes w16 1 ++ (0 ∷ 0 ∷ [])) ≡ head_bytes 0 (Some (header_of m)) in
-    elim (header_cases n h) [ inl e ↦ subst P (sym e) refl | inr e ↦ subst P (sym e) refl ]
+head_is zero h = refl
+head_is (suc zero) h = refl
+head_is (suc (suc zero)) h = refl
+head_is (suc (suc (suc zero))) h = refl
+head_is (suc (suc (suc (suc n)))) h = absurd (above n h)
+  where
+    above : (n : ℕ) → has_bad_header (suc (suc (suc (suc n)))) ≡ false → ⊥
+    above n h = grind arith
 
 version_is : (n : ℕ) → not (n == 1) ≡ false → n ≡ 1
 version_is n h = grind arith

@@ -114,7 +114,7 @@ held-front index data_bytes front more h =
         fits = all-front (λ (i : Item). Fits i.entry None) (items two.first) later (subst (AllByRecursion (λ (i : Item). Fits i.entry None)) parted h.fits);
         different = different-front (nodes front) nodes_in.0 (ap all_different (sym nodes_in.1) ∙ h.different);
         not_null = among-front null_node (nodes front) nodes_in.0 (ap (among null_node) (sym nodes_in.1) ∙ h.not_null);
-        separate = h.separate;
+        form = h.form;
         index_is = refl;
         data_is = refl;
       };
@@ -127,7 +127,7 @@ held-front index data_bytes front more h =
 -- where nothing is held yet, any header will do
 with_header : (index data_bytes : List ℕ) (revisions : List Revision) (k : Header) → k.inline ≡ false → (h : HoldsRevisions index data_bytes revisions)
     → (g : HoldsRevisions index data_bytes revisions) × (g.stored ≡ h.stored) × (next_header revisions k ≡ next_header revisions g.header)
-with_header index data_bytes [] k e h = (record h { header = k; separate = e; index_is = empty h.stored h.these (h.index_is) }, refl, refl)
+with_header index data_bytes [] k e h = (record h { header = k; form = e; index_is = empty h.stored h.these (h.index_is) }, refl, refl)
   where
     empty : (stored : List Stored) → revisions_of stored ≡ [] → index ≡ index_bytes h.header (items stored) → index ≡ index_bytes k (items stored)
     empty [] these is = is
@@ -161,7 +161,7 @@ held-one-more index data_bytes revisions s k held separate text p1 p2 fits new =
     let more = held-more index data_bytes revisions h (s ∷ []) (text, tt) (p1, p2, tt) (fits, tt)
     (ap all_different (nodes-last revisions s.revision) ∙ different-last (nodes revisions) node h.different apart.1)
     (ap (among null_node) (nodes-last revisions s.revision) ∙ among-both null_node (nodes revisions) (node ∷ []) h.not_null (ap (λ b. b || false) (same-swap node null_node apart.0))) in
-    let index_same = ap (λ l. index ++ l) (one_behind h.header h.stored revisions (entry_after (length data_bytes) (nodes revisions) s) s.chunk h.separate h.these ∙ ap (entry_bytes (entry_after (length data_bytes) (nodes revisions) s)) (sym g.2)) in
+    let index_same = ap (λ l. index ++ l) (one_behind h.header h.stored revisions (entry_after (length data_bytes) (nodes revisions) s) s.chunk h.form h.these ∙ ap (entry_bytes (entry_after (length data_bytes) (nodes revisions) s)) (sym g.2)) in
     let data_same = ap (λ l. data_bytes ++ l) (append-nil s.chunk) in
     subst (HeldAs (index ++ entry_bytes (entry_after (length data_bytes) (nodes revisions) s) (next_header revisions k)) (data_bytes ++ s.chunk) (revisions ++ s.revision ∷ [])) (ap (λ l. l ++ s ∷ []) g.1)
     (subst (λ l. HeldAs l (data_bytes ++ s.chunk) (revisions ++ s.revision ∷ []) stored) index_same

@@ -41,7 +41,7 @@ length-revisions (s ∷ stored) = ap suc (length-revisions stored)
 -- an index has 64 bytes for each revision
 pub length-held : (index data_bytes : List ℕ) (revisions : List Revision) → HoldsRevisions index data_bytes revisions → length index ≡ 64 * length revisions
 length-held index data_bytes revisions h =
-    omega (arith, ap length h.index_is, length-index_bytes h.header (items h.stored) h.separate h.fits, length-items 0 [] h.stored, ap length h.these, length-revisions h.stored)
+    omega (arith, ap length h.index_is, length-index_bytes h.header (items h.stored) h.form h.fits, length-items 0 [] h.stored, ap length h.these, length-revisions h.stored)
 
 -- what holds the revisions begins with bytes that hold them
 pub held-begins : (index data_bytes : List ℕ) (revisions : List Revision) → HoldsRevisions index data_bytes revisions → BeginsWithRevisions index data_bytes revisions
@@ -74,7 +74,7 @@ held-none = record {
   fits = tt;
   different = refl;
   not_null = refl;
-  separate = refl;
+  form = refl;
   index_is = refl;
   data_is = refl;
 }
@@ -162,7 +162,7 @@ held-more index data_bytes revisions h more texts earlier fits different not_nul
         fits = subst (AllByRecursion (λ (i : Item). Fits i.entry None)) (sym split) (all-append _ (items h.stored) _ h.fits fits);
         different = different;
         not_null = not_null;
-        separate = h.separate;
+        form = h.form;
         index_is = ap (λ l. l ++ entries_behind h.header (items h.stored) (items_from (length data_bytes) (nodes revisions) more)) h.index_is ∙ sym (index_bytes-append h.header (items h.stored) _) ∙ ap (index_bytes h.header) (sym split);
         data_is = ap (λ l. l ++ chunks_of more) h.data_is ∙ sym (concat-append (map (λ s. s.chunk) h.stored) (map (λ s. s.chunk) more)) ∙ ap concat (sym (map-append (λ (s : Stored). s.chunk) h.stored more));
       },

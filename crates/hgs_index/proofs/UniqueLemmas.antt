@@ -37,7 +37,7 @@ drop_front (x ∷ xs) ys zero e = absurd (omega arith)
 drop_front (x ∷ xs) ys (suc n) e = drop_front xs ys n (omega arith)
 
 -- chunks of the same length at the front of the same data are the same
-chunk-same : (c d x y : List ℕ) → length c ≡ length d → c ++ x ≡ d ++ y → (c ≡ d) × (x ≡ y)
+pub chunk-same : (c d x y : List ℕ) → length c ≡ length d → c ++ x ≡ d ++ y → (c ≡ d) × (x ≡ y)
 chunk-same c d x y len e = (sym (take_front c x (length c) refl) ∙ ap (take (length c)) e ∙ take_front d y (length c) (sym len), sym (drop_front c x (length c) refl) ∙ ap (drop (length c)) e ∙ drop_front d y (length c) (sym len))
 
 -- the revisions of two stored ones whose entries have the same numbers and whose chunks are the same
@@ -78,16 +78,16 @@ held-unique index data_bytes r q a b = sym a.these ∙ by a.stored b.stored a.te
         → index_bytes a.header (items xs) ≡ index_bytes b.header (items ys) → chunks_of xs ≡ chunks_of ys → revisions_of xs ≡ revisions_of ys
     by [] [] tx ty fx fy is ds = refl
     by [] (y ∷ ys) tx ty fx fy is ds =
-        no_bytes (entry_after 0 [] y) (Some b.header) _ fy.0 (is ∙ ap (λ l. l ++ flat_map (item_bytes b.header None) (items_from (0 + length y.chunk) (node_after [] y.revision ∷ []) ys)) (plain b.header (Some b.header) (record { entry = entry_after 0 [] y; chunk = y.chunk }) b.separate))
+        no_bytes (entry_after 0 [] y) (Some b.header) _ fy.0 (is ∙ ap (λ l. l ++ flat_map (item_bytes b.header None) (items_from (0 + length y.chunk) (node_after [] y.revision ∷ []) ys)) (plain b.header (Some b.header) (record { entry = entry_after 0 [] y; chunk = y.chunk }) b.form))
     by (x ∷ xs) [] tx ty fx fy is ds =
-        no_bytes (entry_after 0 [] x) (Some a.header) _ fx.0 (sym is ∙ ap (λ l. l ++ flat_map (item_bytes a.header None) (items_from (0 + length x.chunk) (node_after [] x.revision ∷ []) xs)) (plain a.header (Some a.header) (record { entry = entry_after 0 [] x; chunk = x.chunk }) a.separate))
+        no_bytes (entry_after 0 [] x) (Some a.header) _ fx.0 (sym is ∙ ap (λ l. l ++ flat_map (item_bytes a.header None) (items_from (0 + length x.chunk) (node_after [] x.revision ∷ []) xs)) (plain a.header (Some a.header) (record { entry = entry_after 0 [] x; chunk = x.chunk }) a.form))
     by (x ∷ xs) (y ∷ ys) tx ty fx fy is ds =
         let n = first_same a.header b.header (entry_after 0 [] x) (entry_after 0 [] y) _ _ fx.0 fy.0
-        (ap (λ l. l ++ flat_map (item_bytes a.header None) (items_from (0 + length x.chunk) (node_after [] x.revision ∷ []) xs)) (sym (plain a.header (Some a.header) (record { entry = entry_after 0 [] x; chunk = x.chunk }) a.separate)) ∙ is
-        ∙ ap (λ l. l ++ flat_map (item_bytes b.header None) (items_from (0 + length y.chunk) (node_after [] y.revision ∷ []) ys)) (plain b.header (Some b.header) (record { entry = entry_after 0 [] y; chunk = y.chunk }) b.separate)) in
+        (ap (λ l. l ++ flat_map (item_bytes a.header None) (items_from (0 + length x.chunk) (node_after [] x.revision ∷ []) xs)) (sym (plain a.header (Some a.header) (record { entry = entry_after 0 [] x; chunk = x.chunk }) a.form)) ∙ is
+        ∙ ap (λ l. l ++ flat_map (item_bytes b.header None) (items_from (0 + length y.chunk) (node_after [] y.revision ∷ []) ys)) (plain b.header (Some b.header) (record { entry = entry_after 0 [] y; chunk = y.chunk }) b.form)) in
         let c = chunk-same x.chunk y.chunk (chunks_of xs) (chunks_of ys) n.stored ds in
         let r = stored-same 0 0 [] [] x y _ _ n c.0 tx.0 ty.0 in
         let back : items_from (0 + length y.chunk) (node_after [] y.revision ∷ []) ys ≡ items_from (0 + length x.chunk) (node_after [] x.revision ∷ []) ys =
         ap (λ q. items_from (0 + length q) (node_after [] y.revision ∷ []) ys) (sym c.0) ∙ ap (λ q. items_from (0 + length x.chunk) (node_after [] q ∷ []) ys) (sym r) in
-        λ i. r i ∷ rest-same a.header b.header a.separate b.separate (0 + length x.chunk) (node_after [] x.revision ∷ []) xs ys tx.1 ty.1 fx.1 (subst (AllByRecursion (λ (i : Item). Fits i.entry None)) back fy.1)
+        λ i. r i ∷ rest-same a.header b.header a.form b.form (0 + length x.chunk) (node_after [] x.revision ∷ []) xs ys tx.1 ty.1 fx.1 (subst (AllByRecursion (λ (i : Item). Fits i.entry None)) back fy.1)
         (n.rest ∙ ap (flat_map (item_bytes b.header None)) back) c.1 i

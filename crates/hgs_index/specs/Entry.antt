@@ -73,9 +73,9 @@ fields_of bytes rev =
       node = record { 0 = part 32 20 bytes };
     }
 
--- of the header's high bits only bit 17, generaldelta, may be set; bit 16, inline data, is not read yet
+-- of the header's high bits only 16, inline data, and 17, generaldelta, may be set
 abbrev pub has_bad_header : ℕ → Bool
-has_bad_header flags = not (flags == 0) && not (flags == 2)
+has_bad_header flags = nat_le 4 flags
 
 -- the low two of the header's high bits: 16, inline data, and 17, generaldelta
 abbrev pub header_of : ℕ → Header

@@ -3,6 +3,7 @@ pub mod ChangeText
 pub mod Entry
 pub mod FileText
 pub mod Hex
+pub mod Inline
 pub mod Limit
 pub mod Manifest
 pub mod MarkName

@@ -71,10 +71,14 @@ abbrev pub next_header : List Revision → Header → Option Header
 next_header [] h = Some h
 next_header (r ∷ revisions) h = None
 
--- The index bytes are the entries of these revisions and nothing else, and the data bytes are their chunks and nothing
--- else. A chunk may be spelled in any way that stands for its text. No two revisions have one node, and none has the
--- null node. Inline revlogs are not read yet.
-pub record HoldsRevisions (index data_bytes : List ℕ) (revisions : List Revision) : Type 0 where
+-- The data bytes are the chunks and nothing else; of an inline revlog, whose chunks stand in the index, nothing is said.
+abbrev pub IsDataOf : Bool → List Stored → List ℕ → Type 0
+IsDataOf true stored data_bytes = Unit {0}
+IsDataOf false stored data_bytes = data_bytes ≡ concat (map (λ s. s.chunk) stored)
+
+-- The index bytes are the entries of these revisions, in an inline revlog each with its chunk, and nothing else. A chunk
+-- may be spelled in any way that stands for its text. No two revisions have one node, and none has the null node.
+pub record Holds (inline : Bool) (index data_bytes : List ℕ) (revisions : List Revision) : Type 0 where
   pub header : Header
   pub stored : List Stored
   pub these : map (λ s. s.revision) stored ≡ revisions
@@ -83,14 +87,21 @@ pub record HoldsRevisions (index data_bytes : List ℕ) (revisions : List Revisi
   pub fits : AllByRecursion (λ (i : Item). Fits i.entry None) (items stored)
   pub different : all_different (nodes revisions) ≡ true
   pub not_null : among null_node (nodes revisions) ≡ false
-  pub separate : header.inline ≡ false
+  pub form : header.inline ≡ inline
   pub index_is : index ≡ index_bytes header (items stored)
-  pub data_is : data_bytes ≡ concat (map (λ s. s.chunk) stored)
+  pub data_is : IsDataOf inline stored data_bytes
 
 -- the index and the data begin with bytes that hold these revisions
-pub record BeginsWithRevisions (index data_bytes : List ℕ) (revisions : List Revision) : Type 0 where
+pub record Begins (inline : Bool) (index data_bytes : List ℕ) (revisions : List Revision) : Type 0 where
   pub index_front : List ℕ
   pub data_front : List ℕ
-  pub held : HoldsRevisions index_front data_front revisions
+  pub held : Holds inline index_front data_front revisions
   pub index_begins : IsPrefixOf index_front index
   pub data_begins : IsPrefixOf data_front data_bytes
+
+-- the same of a separate revlog, which is the one that is written
+abbrev pub HoldsRevisions : List ℕ → List ℕ → List Revision → Type 0
+HoldsRevisions = Holds false
+
+abbrev pub BeginsWithRevisions : List ℕ → List ℕ → List Revision → Type 0
+BeginsWithRevisions = Begins false

@@ -9,12 +9,13 @@ use crate::fields::u16_at;
 pub(crate) fn has_bad_flags(flags: u16) -> bool
     ensures { result ≡ has_bad_header flags }
 {
-    flags != 0 && flags != 2
+    flags > 3
 }
 
 /// The header that an index begins with, or its first fault.
 ///
-/// Only `Version` and `HeaderFlags` come. Bit 17, generaldelta, changes nothing for texts that are stored whole.
+/// Only `Version` and `HeaderFlags` come. Bit 16 is inline data; bit 17, generaldelta, changes nothing for texts that are
+/// stored whole.
 pub fn header(bytes: &[u8; 4]) -> Result<Header, EntryFault>
     ensures { result ≡ header_at bytes.now }
 {

@@ -8,13 +8,14 @@ ghost use Rattle.hgs_index.specs.Ancestor.{IsAncestor, is_ancestor};
 ghost use Rattle.hgs_index.specs.Entry.{Fits, entry_at, entry_bytes, header_at, header_within};
 ghost use Rattle.hgs_index.specs.FileText.{IsBlock, marker, plain_prefix, prefix_of, body_of, unpacked};
 ghost use Rattle.hgs_index.specs.Hex.{hex, node_at};
+ghost use Rattle.hgs_index.specs.Inline.{chunks_apart, index_apart, is_inline};
 ghost use Rattle.hgs_index.specs.Node.{IsNode, null_node};
 ghost use Rattle.hgs_index.specs.Revision.{Parents, ParentsBefore, Revision, node_after, nodes};
-ghost use Rattle.hgs_index.specs.Revlog.{BeginsWithRevisions, HoldsRevisions, Stored, all_different, chunk_of, chunk_text, entry_after, next_header};
+ghost use Rattle.hgs_index.specs.Revlog.{BeginsWithRevisions, Holds, HoldsRevisions, Stored, all_different, chunk_of, chunk_text, entry_after, next_header};
 
 /// An entry that is written is read again.
 pub fn encode_then_decode()
-    ensures { (e : Entry) (h : Option Header) (rev : ℕ) → Fits e h → IfSome h (λ x. x.inline ≡ false) → (IsSome h → rev ≡ 0) → (rev ≡ 0 → IsSome h) → entry_at (entry_bytes e h) rev ≡ Ok e }
+    ensures { (e : Entry) (h : Option Header) (rev : ℕ) → Fits e h → (IsSome h → rev ≡ 0) → (rev ≡ 0 → IsSome h) → entry_at (entry_bytes e h) rev ≡ Ok e }
 {}
 
 /// Bytes that read as an entry are the bytes that are written of it.
@@ -24,7 +25,7 @@ pub fn decode_then_encode()
 
 /// The header of an index that is written is read again.
 pub fn encode_then_header()
-    ensures { (e : Entry) (h : Header) → h.inline ≡ false → header_at (take 4 (entry_bytes e (Some h))) ≡ Ok h }
+    ensures { (e : Entry) (h : Header) → header_at (take 4 (entry_bytes e (Some h))) ≡ Ok h }
 {}
 
 /// Prefix and body are the whole text, and the prefix is empty or a whole metadata block.
@@ -69,6 +70,17 @@ pub fn held_fronts()
 pub fn nodes_written_then_read()
     ensures back { (node : List ℕ) → IsNode node → node_at (hex node) ≡ Some node }
     ensures found { (digits node : List ℕ) → node_at digits ≡ Some node → (digits ≡ hex node) × IsNode node }
+{}
+
+/// An inline index holds the revisions that it is taken apart into, with no byte left over, and no others; whatever stands
+/// beside it. The index of a separate revlog with a revision does not say that it is inline, and no
+/// front of one that does not says so.
+pub fn inline_taken_apart()
+    ensures apart { (index data_bytes : List ℕ) (revisions : List Revision) → Holds true index data_bytes revisions → HoldsRevisions (index_apart index) (chunks_apart index) revisions }
+    ensures back { (index data_bytes used left : List ℕ) (revisions : List Revision) → is_inline index ≡ true → HoldsRevisions (index_apart index) used revisions → chunks_apart index ≡ used ++ left → Holds true index data_bytes revisions }
+    ensures separate { (index data_bytes more : List ℕ) (first : Revision) (revisions : List Revision) → HoldsRevisions index data_bytes (first ∷ revisions) → is_inline (index ++ more) ≡ false }
+    ensures fronts { (size : ℕ) (index : List ℕ) → is_inline index ≡ false → is_inline (take size index) ≡ false }
+    ensures one { (index data_bytes other_data : List ℕ) (revisions others : List Revision) → Holds true index data_bytes revisions → Holds true index other_data others → revisions ≡ others }
 {}
 
 /// There is a node for each revision.

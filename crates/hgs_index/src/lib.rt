@@ -4,6 +4,7 @@
 pub mod entry;
 mod fields;
 pub mod head;
+pub mod inline;
 pub mod kinds;
 pub mod laws;
 pub mod node;

@@ -6,13 +6,12 @@ use Rattle.std.proofs.lemmas.List.{length-take, drop-take}
 use Rattle.hgs_index.specs.declared.entry.Entry.{Entry}
 use Rattle.hgs_index.specs.declared.entry.EntryFault.{EntryFault}
 use Rattle.hgs_index.specs.declared.kinds.Which.TheVariants.{Changesets, Text, Data}
-use Rattle.hgs_index.specs.Entry.{entry_at}
 use Rattle.hgs_revlog.specs.declared.fault.RevFault.{RevFault}
 use Rattle.hgs_revlog.specs.declared.fault.RevFault.TheVariants as faults
 use Rattle.hgs_revlog.specs.declared.fault.Tail.TheVariants.{Ignore}
 use Rattle.hgs_revlog.specs.Fault.{fault_place, is_memory}
 use Rattle.hgs_revlog.specs.Log.{Log, with_entry}
-use Rattle.hgs_revlog.specs.Load.{most_revisions, unless, checked, entry_behind, after, load_from, loaded}
+use Rattle.hgs_revlog.specs.Load.{most_revisions, unless, checked, separate_at, entry_behind, after, load_from, loaded}
 use Rattle.hgs_judge.specs.Read.{AreBehind, behind, AreFirst, IsEnd, IsRefused, is_refusal}
 use Rattle.hgs_judge.proofs.Basics.{never}
 
@@ -128,9 +127,9 @@ fault-place before bytes fault h none = by (nat_le most_revisions (length before
     checked_at (Err f) k = ap fault_place (sym (is (faults.Entry (length before) f) k))
     checked_at (Ok e) k = first_of e _ _ _ _ _ k
 
-    by : (b : Bool) → cond b (Err (faults.Limit Changesets)) (checked before (entry_at bytes (length before))) ≡ Err fault → fault_place fault ≡ length before
+    by : (b : Bool) → cond b (Err (faults.Limit Changesets)) (checked before (separate_at bytes (length before))) ≡ Err fault → fault_place fault ≡ length before
     by true k = limit (faults.Limit Changesets) refl (is (faults.Limit Changesets) k)
-    by false k = checked_at (entry_at bytes (length before)) k
+    by false k = checked_at (separate_at bytes (length before)) k
 
 -- ---- what an index ends with
 

@@ -11,13 +11,12 @@ use Rattle.hgs_bytes.specs.Bytes.{same}
 use Rattle.hgs_index.specs.declared.entry.Entry.{Entry}
 use Rattle.hgs_index.specs.declared.entry.EntryFault.{EntryFault}
 use Rattle.hgs_index.specs.declared.kinds.Which.TheVariants.{Changesets, Text, Data}
-use Rattle.hgs_index.specs.Entry.{entry_at}
 use Rattle.hgs_index.specs.Node.{null_node, node_hash}
 use Rattle.hgs_index.specs.Revision.{Revision, parent_node}
 use Rattle.hgs_index.specs.Revlog.{chunk_text}
 use Rattle.hgs_revlog.specs.declared.fault.RevFault.{RevFault}
 use Rattle.hgs_revlog.specs.declared.fault.RevFault.TheVariants as faults
-use Rattle.hgs_revlog.specs.Load.{most_revisions, most_text, most_data, is_above, is_taken, unless, checked, entry_behind}
+use Rattle.hgs_revlog.specs.Load.{most_revisions, most_text, most_data, is_above, is_taken, unless, checked, separate_at, entry_behind}
 use Rattle.hgs_revlog.specs.Log.{nodes_of, stored_sum}
 use Rattle.hgs_revlog.specs.Text.{node_with, fitting_text, entry_text, text_at, text_of}
 use Rattle.hgs_revlog.specs.Held.{chunk_in, with_text, read_from}
@@ -63,9 +62,9 @@ parents-before before bytes e h = by (nat_le most_revisions (length before)) h
     checked_at (Err f) k = no (faults.Entry (length before) f) k
     checked_at (Ok x) k = tests x _ (is_above (length before) x.p1 || is_above (length before) x.p2) _ _ _ refl k
 
-    by : (b : Bool) → cond b (Err (faults.Limit Changesets)) (checked before (entry_at bytes (length before))) ≡ Ok e → IfSome e.p1 (λ p. p < length before) × IfSome e.p2 (λ p. p < length before)
+    by : (b : Bool) → cond b (Err (faults.Limit Changesets)) (checked before (separate_at bytes (length before))) ≡ Ok e → IfSome e.p1 (λ p. p < length before) × IfSome e.p2 (λ p. p < length before)
     by true k = no (faults.Limit Changesets) k
-    by false k = checked_at (entry_at bytes (length before)) k
+    by false k = checked_at (separate_at bytes (length before)) k
 
 -- and a text within the limit
 pub size-small : (before : List Entry) (bytes : List ℕ) (e : Entry) → entry_behind before bytes ≡ Ok e → e.size ≤ most_text
@@ -92,9 +91,9 @@ size-small before bytes e h = by (nat_le most_revisions (length before)) h
     checked_at (Err f) k = no (faults.Entry (length before) f) k
     checked_at (Ok x) k = tests x (not (x.offset == stored_sum before)) (is_above (length before) x.p1 || is_above (length before) x.p2) (is_taken before x.node.0) (nat_lt most_text x.size) (faults.Offset (length before)) (faults.Parent (length before)) (faults.Twice (length before)) (faults.Limit Text) (cond (nat_lt most_data (x.offset + x.stored)) (Some (faults.Limit Data)) None) refl k
 
-    by : (b : Bool) → cond b (Err (faults.Limit Changesets)) (checked before (entry_at bytes (length before))) ≡ Ok e → e.size ≤ most_text
+    by : (b : Bool) → cond b (Err (faults.Limit Changesets)) (checked before (separate_at bytes (length before))) ≡ Ok e → e.size ≤ most_text
     by true k = no (faults.Limit Changesets) k
-    by false k = checked_at (entry_at bytes (length before)) k
+    by false k = checked_at (separate_at bytes (length before)) k
 
 length-nodes_of : (entries : List Entry) → length (nodes_of entries) ≡ length entries
 length-nodes_of entries = length-map entries (λ (e : Entry). e.node.0)

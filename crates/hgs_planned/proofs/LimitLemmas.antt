@@ -13,7 +13,6 @@ use Rattle.hgs_index.specs.Entry.{Fits, entry_bytes}
 use Rattle.hgs_index.specs.Node.{null_node}
 use Rattle.hgs_index.specs.Revision.{ParentsBefore, Revision, node_after, nodes, nodes_from}
 use Rattle.hgs_index.specs.Revlog.{HoldsRevisions, Item, Stored, all_different, entry_after, index_bytes, item_bytes, items, items_from}
-use Rattle.hgs_index.proofs.EntryLemmas.{entry_again}
 use Rattle.hgs_index.proofs.EntryPartLemmas.{length-entry_bytes}
 use Rattle.hgs_index.proofs.RevisionLemmas.{nodes_from-prefix}
 use Rattle.hgs_index.proofs.RevlogLemmas.{map-append}
@@ -22,7 +21,7 @@ use Rattle.hgs_revlog.specs.declared.fault.RevFault.TheVariants as faults
 use Rattle.hgs_revlog.specs.declared.fault.Tail.TheVariants.{Refuse}
 use Rattle.hgs_revlog.specs.Load.{after, checked, entry_behind, fault_of, is_above, is_taken, load_from, loaded, most_data, most_revisions, most_text, unless}
 use Rattle.hgs_revlog.specs.Log.{Log, nodes_of, place_of, stored_sum, with_entry}
-use Rattle.hgs_revlog.proofs.AddedLemmas.{not_above}
+use Rattle.hgs_revlog.proofs.AddedLemmas.{not_above, written-read}
 use Rattle.hgs_revlog.proofs.HeldLemmas.{among_none, swap_same}
 use Rattle.hgs_revlog.proofs.LoadLemmas.{neither}
 use Rattle.hgs_revlog.proofs.LogLemmas.{sum_push}
@@ -169,7 +168,7 @@ limits-from before first (s ∷ stored) more h separate a b =
 
     tested : after (entry_behind before.entries (entry_bytes (next-of before.entries s) first)) on ≡ limit (nat_le most_revisions (length before.entries)) (nat_lt most_text (next-of before.entries s).size) (nat_lt most_data (stored_sum before.entries + length s.chunk))
     tested =
-        ap (λ r. after (cond (nat_le most_revisions (length before.entries)) (Err (faults.Limit Changesets)) (checked before.entries r)) on) (entry_again (next-of before.entries s) first (length before.entries) fits separate a b)
+        ap (λ r. after (cond (nat_le most_revisions (length before.entries)) (Err (faults.Limit Changesets)) (checked before.entries r)) on) (written-read (next-of before.entries s) first (length before.entries) fits separate a b)
         ∙ ap (λ o. after (cond (nat_le most_revisions (length before.entries)) (Err (faults.Limit Changesets)) (unless o (next-of before.entries s))) on) (fault-is before.entries s (stored ++ more) h)
 
     by : (few text data_end : Bool) → HasOnlyLimits (load_from Refuse (length stored) (with_entry before (next-of before.entries s)) rest) → HasOnlyLimits (limit few text data_end)
@@ -219,7 +218,7 @@ pub held-limited : (index data_bytes : List ℕ) (revisions : List Revision) (k 
 held-limited index data_bytes revisions k h =
     let stored = h.stored in
     let empty : Log = record { inline = false; entries = [] } in
-    let spelled : index ≡ bytes-from (Some h.header) (items stored) = h.index_is ∙ all-bytes h.header (items stored) h.separate in
+    let spelled : index ≡ bytes-from (Some h.header) (items stored) = h.index_is ∙ all-bytes h.header (items stored) h.form in
     let front = front-bytes (Some h.header) 0 [] stored k h.fits in
     let bytes : take (64 * k) index ≡ bytes-from (Some h.header) (items (take k stored)) = ap (take (64 * k)) spelled ∙ front.0 in
     let whole : List Stored = take k stored ++ drop k stored in
@@ -231,4 +230,4 @@ held-limited index data_bytes revisions k h =
     } in
     let count : length (bytes-from (Some h.header) (items (take k stored))) / 64 ≡ length (take k stored) = omega (arith, front.1) in
     subst HasOnlyLimits (sym (ap (loaded Refuse) bytes ∙ ap (λ n. load_from Refuse n empty (bytes-from (Some h.header) (items (take k stored)))) count))
-    (limits-from empty (Some h.header) (take k stored) (drop k stored) (subst (AreNext []) is next) h.separate (λ some. refl) (λ none. refl))
+    (limits-from empty (Some h.header) (take k stored) (drop k stored) (subst (AreNext []) is next) h.form (λ some. refl) (λ none. refl))

@@ -14,11 +14,12 @@ use Rattle.hgs_index.specs.declared.node.Node.{Node}
 use Rattle.hgs_index.specs.Revision.{Revision}
 use Rattle.hgs_index.specs.Revlog.{BeginsWithRevisions}
 use Rattle.hgs_index.specs.declared.kinds.Which.TheVariants.{Changesets}
-use Rattle.hgs_index.specs.Entry.{part, entry_at, fields_of, has_bad_header, has_negative, has_padding}
+use Rattle.hgs_index.specs.Entry.{part, entry_at, fields_of, has_bad_header, has_negative, has_padding, header_at}
+use Rattle.hgs_index.specs.Inline.{says_inline}
 use Rattle.hgs_revlog.specs.declared.fault.RevFault.{RevFault}
 use Rattle.hgs_revlog.specs.declared.fault.RevFault.TheVariants.{Limit}
 use Rattle.hgs_revlog.specs.declared.fault.Tail.TheVariants.{Until}
-use Rattle.hgs_revlog.specs.Load.{most_revisions, fault_of, unless, checked, entry_behind, after, load_from, loaded}
+use Rattle.hgs_revlog.specs.Load.{most_revisions, fault_of, unless, checked, separate_at, entry_behind, after, load_from, loaded}
 use Rattle.hgs_revlog.specs.Held.{AreWithinLimits, EndsFirstAt, chunk_in, read_from, revision_of}
 use Rattle.hgs_revlog.specs.Log.{Log, with_entry, place_of}
 use Rattle.hgs_revlog.specs.Text.{text_of}
@@ -27,7 +28,7 @@ use Rattle.hgs_revlog.proofs.TailHeldLemmas.{front-until}
 use Rattle.hgs_revlog.proofs.TailLemmas.{refuse-until, until-refuse}
 use Rattle.hgs_load.specs.declared.answer.ReadAnswer.{ReadAnswer}
 use Rattle.hgs_load.specs.Asks.{Asks, answer, part_of, at_rest}
-use Rattle.hgs_reader.specs.Find.{has_node, is_last_of, bytes_until, log_until, text_answer, text_at_asks, text_asks}
+use Rattle.hgs_reader.specs.Find.{has_node, is_last_of, bytes_until, log_until, text_answer, text_at_asks, separate_asks}
 use Rattle.hgs_reader.specs.Line.{chunk_asks}
 use Rattle.hgs_load.specs.View.{piece_length, most_pieces, log_answer}
 use Rattle.hgs_reader.proofs.FindLemmas.{front_node, take_less}
@@ -122,10 +123,14 @@ node_read before bytes e h = by (nat_le most_revisions (length before)) h
     checked_is (Err f) h = cc
     checked_is (Ok x) h = ap (λ y. Ok y) (unless_is x (fault_of before x) h)
 
-    by : (b : Bool) → cond b (Err (Limit Changesets)) (checked before (entry_at bytes (length before))) ≡ Ok e → e.node.0 ≡ take 20 (drop 32 bytes)
+    separate_is : (s : Bool) (r : Result index_entry.Entry EntryFault) → cond s (Err HeaderFlags) r ≡ Ok e → r ≡ Ok e
+    separate_is true r h = cc
+    separate_is false r h = h
+
+    by : (b : Bool) → cond b (Err (Limit Changesets)) (checked before (separate_at bytes (length before))) ≡ Ok e → e.node.0 ≡ take 20 (drop 32 bytes)
     by true h = cc
     by false h =
-        let is : fields_of bytes (length before) ≡ e = entry_fields bytes (length before) e (checked_is (entry_at bytes (length before)) h) in
+        let is : fields_of bytes (length before) ≡ e = entry_fields bytes (length before) e (separate_is (length before == 0 && says_inline (header_at bytes)) (entry_at bytes (length before)) (checked_is (separate_at bytes (length before)) h)) in
         ap (λ (x : index_entry.Entry). x.node.0) (sym is)
 
 -- how many entries stand behind those of the log, up to the one with the node
@@ -300,7 +305,7 @@ read_length all (x ∷ entries) data_bytes first revisions texts =
     ap length w.4 ∙ ap suc (read_length all entries data_bytes (suc first) w.1 w.3)
 
 module _ (t : Tree) (index chunks : List ℕ) (revisions : List Revision) (last : Revision) (node : List ℕ) (held : BeginsWithRevisions (bytes_at t index) (bytes_at t chunks) revisions) (ends : EndsFirstAt node revisions) (limits : AreWithinLimits revisions held.data_front) (is_last : slice_get revisions (length revisions - 1) ≡ Some last) where
-  pub held-text : at_rest t (text_asks index chunks node) ≡ Ok last.text
+  pub held-text : at_rest t (separate_asks index chunks node) ≡ Ok last.text
   held-text =
       let named : Node = record { 0 = node } in
       let h = front-until (bytes_at t index) (bytes_at t chunks) revisions named held ends limits in

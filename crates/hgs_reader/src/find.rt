@@ -1,32 +1,37 @@
 //! Texts that are known by their nodes.
-ghost use Rattle.std.specs.Prelude.{◌≡◌, ◌<◌, ◌≤◌, ◌/◌, [], true, length, slice_get, unwrap_or, Some, IfOk, IfSome};
+ghost use Rattle.std.specs.Prelude.{◌≡◌, ◌<◌, ◌≤◌, ◌/◌, [], false, true, length, take, drop, slice_get, unwrap_or, Some, IfOk, IfSome};
 ghost use Rattle.hgs_bytes.specs.Answer.{Gives};
 ghost use Rattle.hgs_files.specs.Reads.{Grows};
 ghost use Rattle.hgs_revlog.specs.declared.fault.Tail.TheVariants.{Until};
-ghost use Rattle.hgs_revlog.specs.Load.{loaded, most_text};
+ghost use Rattle.hgs_revlog.specs.Load.{loaded, loaded_either, most_text};
 ghost use Rattle.hgs_revlog.specs.Loaded.{HaveSmallTexts};
 ghost use Rattle.hgs_revlog.specs.Log.{place_of};
 ghost use Rattle.hgs_revlog.specs.Text.{text_of};
 ghost use Rattle.hgs_load.specs.Answer.{is_of_outside, HasFaultCause, NeverFaults};
-ghost use Rattle.hgs_load.specs.Asks.{Answers};
+ghost use Rattle.hgs_load.specs.Asks.{Answers, answer, then_asks};
 ghost use Rattle.hgs_load.specs.Given.{Takes};
-ghost use Rattle.hgs_reader.specs.Find.{has_node, is_last_of, bytes_until, log_until, text_answer, text_at_asks, text_asks};
-ghost use Rattle.hgs_load.specs.View.{most_pieces, log_answer};
+ghost use Rattle.hgs_reader.specs.Find.{has_node, has_item, is_far, more_pieces, bytes_behind, text_answer, text_at_asks, placed_text, inline_text, inline_behind, separate_behind, text_asks};
+ghost use Rattle.hgs_load.specs.View.{log_answer};
 
 use hgs_bytes::bytes::Bytes;
-use hgs_bytes::parts::{equal, past};
+use hgs_bytes::parts::{equal, front, past};
 use hgs_files::files::Reads;
 use hgs_files::path::StorePath;
+use hgs_index::inline::{is_inline, whole_item};
+use hgs_index::kinds::Span;
 use hgs_index::node::Node;
 use hgs_load::answer::ReadAnswer;
 use hgs_load::ask::{bytes_of, read_part};
 use hgs_load::pieces::{MOST_PIECES, PIECE};
 use hgs_load::refusal::of_revlog;
 use hgs_revlog::fault::{RevFault, Tail};
-use hgs_revlog::laws::loaded_entries;
+use hgs_revlog::laws::{either_form, loaded_entries};
 use hgs_revlog::revlog::Revlog;
-use std::alloc::Global;
+use std::alloc::{AllocError, Global};
 use std::marker::Model;
+
+/// As many pieces hold more than the chunks and the entries that a revlog may have.
+const MOST_INLINE_PIECES: u64 = 0x2_0000_0000;
 
 /// The two files of a revlog.
 #[derive(Drop)]
@@ -73,34 +78,71 @@ fn has_node(piece: &[u8], node: &Node) -> bool
     false
 }
 
-// Whether no piece behind this one is read.
-fn is_last(piece: &[u8], node: &Node) -> bool
-    ensures { result ≡ is_last_of node.now.0 piece.now }
+// Whether a whole entry of an inline index has this node.
+fn has_item(bytes: &[u8], node: &Node) -> bool
+    ensures { result ≡ has_item node.now.0 (length bytes.now) bytes.now }
 {
-    (piece.len() as u64) < PIECE || has_node(piece, node)
+    let mut rest = bytes;
+    while let Some((entry, behind)) = whole_item(rest) {
+        if equal(&entry[32..52], &node.0) {
+            return true;
+        }
+        rest = behind;
+    }
+    false
 }
 
-// Reads the pieces of an index up to the one that has the node.
-fn read_until<R: Reads>(
+// Whether no piece is read behind these bytes, of which the last piece is this.
+fn is_far(inline: bool, bytes: &[u8], piece: &[u8], node: &Node) -> bool
+    ensures { result ≡ is_far inline node.now.0 bytes.now piece.now }
+{
+    if (piece.len() as u64) < PIECE {
+        return true;
+    }
+    if inline {
+        has_item(bytes, node)
+    } else {
+        has_node(piece, node)
+    }
+}
+
+// How many pieces are read behind the first.
+fn more_pieces(inline: bool) -> u64
+    ensures { result ≡ more_pieces inline }
+{
+    if inline {
+        MOST_INLINE_PIECES
+    } else {
+        MOST_PIECES as u64 - 1
+    }
+}
+
+// Reads the pieces of an index behind the first, up to the one that has the node.
+fn read_behind<R: Reads>(
     alloc: Global,
     files: &mut R,
     index: &StorePath,
     node: &Node,
+    first: &[u8],
+    inline: bool,
 ) -> Result<Vec<u8>, ReadAnswer>
-    ensures answer { Answers (λ bytes. bytes.items) (R.seen files.old) (R.start files.old) (R.seen files.new) (bytes_until index.now node.now.0 most_pieces []) result }
-    ensures given { Takes (λ bytes. bytes.items) (R.given files.old) (R.given files.new) (R.seen files.old) (R.start files.old) (R.seen files.new) (bytes_until index.now node.now.0 most_pieces []) result }
+    ensures answer { Answers (λ bytes. bytes.items) (R.seen files.old) (R.start files.old) (R.seen files.new) (bytes_behind inline index.now node.now.0 first.now) result }
+    ensures given { Takes (λ bytes. bytes.items) (R.given files.old) (R.given files.new) (R.seen files.old) (R.start files.old) (R.seen files.new) (bytes_behind inline index.now node.now.0 first.now) result }
     ensures seen { Grows (R.seen files.old) (R.seen files.new) }
     ensures same_start { R.start files.new ≡ R.start files.old }
     ensures still { R.alone ≡ true → R.seen files.new ≡ R.seen files.old }
     ensures cause { HasFaultCause (R.faults files.old) (R.faults files.new) (R.denied files.old) (R.denied files.new) result }
 {
-    let mut bytes = Vec::new(alloc);
-    let mut left = MOST_PIECES;
+    let mut bytes = Vec::from_slice(alloc, first)?;
+    if is_far(inline, first, first, node) {
+        return Ok(bytes);
+    }
+    let mut left = more_pieces(inline);
     while left > 0 {
         let part = read_part(alloc, files, index, bytes.len() as u64, PIECE)?;
         let piece = bytes_of(&part);
         bytes.extend_from_slice(piece)?;
-        if is_last(piece, node) {
+        if is_far(inline, &bytes, piece, node) {
             return Ok(bytes);
         }
         left -= 1;
@@ -126,22 +168,23 @@ fn log_from(
     }
 }
 
-// Reads an index up to the node, and no further.
-fn load_until<R: Reads>(
+// Reads a separate index, of which the first piece was read, up to the node, and no further.
+fn load_behind<R: Reads>(
     alloc: Global,
     files: &mut R,
     index: &StorePath,
     node: &Node,
+    first: &[u8],
 ) -> Result<Revlog, ReadAnswer>
-    ensures answer { Answers (λ log. log) (R.seen files.old) (R.start files.old) (R.seen files.new) (log_until index.now node.now.0) result }
-    ensures given { Takes (λ log. log) (R.given files.old) (R.given files.new) (R.seen files.old) (R.start files.old) (R.seen files.new) (log_until index.now node.now.0) result }
+    ensures answer { Answers (λ log. log) (R.seen files.old) (R.start files.old) (R.seen files.new) (then_asks (bytes_behind false index.now node.now.0 first.now) (λ bytes. answer (log_answer index.now (loaded (Until (record { 0 = node.now.0 })) bytes)))) result }
+    ensures given { Takes (λ log. log) (R.given files.old) (R.given files.new) (R.seen files.old) (R.start files.old) (R.seen files.new) (then_asks (bytes_behind false index.now node.now.0 first.now) (λ bytes. answer (log_answer index.now (loaded (Until (record { 0 = node.now.0 })) bytes)))) result }
     ensures small { IfOk result (λ log. HaveSmallTexts log.entries) }
     ensures seen { Grows (R.seen files.old) (R.seen files.new) }
     ensures same_start { R.start files.new ≡ R.start files.old }
     ensures still { R.alone ≡ true → R.seen files.new ≡ R.seen files.old }
     ensures cause { HasFaultCause (R.faults files.old) (R.faults files.new) (R.denied files.old) (R.denied files.new) result }
 {
-    match read_until(alloc, files, index, node) {
+    match read_behind(alloc, files, index, node, first, false) {
         Ok(bytes) => log_from(alloc, index, &bytes, node),
         Err(refusal) => Err(refusal),
     }
@@ -216,7 +259,98 @@ fn text_in_log<R: Reads>(
     }
 }
 
-/// Reads the text with this node: the index up to the node, and its chunk.
+// Reads the text with this node of a separate revlog, of whose index the first piece was read.
+fn separate_text<R: Reads>(
+    alloc: Global,
+    files: &mut R,
+    paths: &RevlogPaths,
+    node: &Node,
+    first: &[u8],
+) -> Result<StoredText, ReadAnswer>
+    ensures answer { Answers (λ text. text) (R.seen files.old) (R.start files.old) (R.seen files.new) (separate_behind paths.now.index paths.now.chunks node.now.0 first.now) result }
+    ensures given { Takes (λ text. text) (R.given files.old) (R.given files.new) (R.seen files.old) (R.start files.old) (R.seen files.new) (separate_behind paths.now.index paths.now.chunks node.now.0 first.now) result }
+    ensures small { IfOk result (λ text. length text ≤ most_text) }
+    ensures seen { Grows (R.seen files.old) (R.seen files.new) }
+    ensures same_start { R.start files.new ≡ R.start files.old }
+    ensures still { R.alone ≡ true → R.seen files.new ≡ R.seen files.old }
+    ensures cause { HasFaultCause (R.faults files.old) (R.faults files.new) (R.denied files.old) (R.denied files.new) result }
+{
+    match load_behind(alloc, files, &paths.index, node, first) {
+        Ok(log) => text_in_log(alloc, files, paths, &log, node),
+        Err(refusal) => Err(refusal),
+    }
+}
+
+// The chunk of a revision in the bytes of an inline index.
+fn chunk_placed(alloc: Global, bytes: &[u8], span: Span) -> Result<Bytes, AllocError>
+    ensures chunk { IfOk result (λ chunk. chunk ≡ take span.len (drop span.from bytes.now)) }
+{
+    let behind = past(bytes, span.from as usize);
+    Bytes::from_slice(alloc, front(behind, span.len as usize))
+}
+
+// The text of a revision in the bytes of an inline index.
+fn placed_text(
+    alloc: Global,
+    index: &StorePath,
+    bytes: &[u8],
+    log: &Revlog,
+    rev: u32,
+) -> Result<StoredText, ReadAnswer>
+    requires { rev < length log.now.entries }
+    ensures text { Gives is_of_outside (λ text. text) result (placed_text index.now bytes.now log.now (Some rev)) }
+    ensures small { HaveSmallTexts log.now.entries → IfOk result (λ text. length text ≤ most_text) }
+    ensures inner { NeverFaults result }
+{
+    let chunk = chunk_placed(alloc, bytes, log.span_in_file(rev))?;
+    text_in(alloc, index, log, rev, Some(chunk))
+}
+
+// The text with this node in the bytes of an inline index.
+fn inline_text(
+    alloc: Global,
+    index: &StorePath,
+    bytes: &[u8],
+    node: &Node,
+) -> Result<StoredText, ReadAnswer>
+    ensures text { Gives is_of_outside (λ text. text) result (inline_text index.now node.now.0 bytes.now (loaded_either (Until (record { 0 = node.now.0 })) bytes.now)) }
+    ensures small { IfOk result (λ text. length text ≤ most_text) }
+    ensures inner { NeverFaults result }
+{
+    either_form();
+    let log = match Revlog::load_either(alloc, bytes, Tail::Until(*node)) {
+        Ok(log) => log,
+        Err(fault) => return Err(of_revlog(alloc, index, fault)),
+    };
+    match log.rev_of(node) {
+        Some(rev) => placed_text(alloc, index, bytes, &log, rev),
+        None => Err(of_revlog(alloc, index, RevFault::Missing)),
+    }
+}
+
+// Reads the text with this node of an inline revlog, of whose index the first piece was read.
+fn inline_text_of<R: Reads>(
+    alloc: Global,
+    files: &mut R,
+    index: &StorePath,
+    node: &Node,
+    first: &[u8],
+) -> Result<StoredText, ReadAnswer>
+    ensures answer { Answers (λ text. text) (R.seen files.old) (R.start files.old) (R.seen files.new) (inline_behind index.now node.now.0 first.now) result }
+    ensures given { Takes (λ text. text) (R.given files.old) (R.given files.new) (R.seen files.old) (R.start files.old) (R.seen files.new) (inline_behind index.now node.now.0 first.now) result }
+    ensures small { IfOk result (λ text. length text ≤ most_text) }
+    ensures seen { Grows (R.seen files.old) (R.seen files.new) }
+    ensures same_start { R.start files.new ≡ R.start files.old }
+    ensures still { R.alone ≡ true → R.seen files.new ≡ R.seen files.old }
+    ensures cause { HasFaultCause (R.faults files.old) (R.faults files.new) (R.denied files.old) (R.denied files.new) result }
+{
+    match read_behind(alloc, files, index, node, first, true) {
+        Ok(bytes) => inline_text(alloc, index, &bytes, node),
+        Err(refusal) => Err(refusal),
+    }
+}
+
+/// Reads the text with this node: the index up to the node, and its chunk, which in an inline revlog stands in the index.
 pub fn text_of_node<R: Reads>(
     alloc: Global,
     files: &mut R,
@@ -231,8 +365,17 @@ pub fn text_of_node<R: Reads>(
     ensures still { R.alone ≡ true → R.seen files.new ≡ R.seen files.old }
     ensures cause { HasFaultCause (R.faults files.old) (R.faults files.new) (R.denied files.old) (R.denied files.new) result }
 {
-    match load_until(alloc, files, &paths.index, node) {
-        Ok(log) => text_in_log(alloc, files, paths, &log, node),
-        Err(refusal) => Err(refusal),
+    let part = read_part(alloc, files, &paths.index, 0, PIECE)?;
+    let first = bytes_of(&part);
+    if is_inline(first) {
+        match inline_text_of(alloc, files, &paths.index, node, first) {
+            Ok(text) => Ok(text),
+            Err(refusal) => Err(refusal),
+        }
+    } else {
+        match separate_text(alloc, files, paths, node, first) {
+            Ok(text) => Ok(text),
+            Err(refusal) => Err(refusal),
+        }
     }
 }

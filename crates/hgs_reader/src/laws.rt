@@ -1,12 +1,15 @@
 //! What the definitions of this crate imply. Each function is one law; none does anything.
-ghost use Rattle.std.specs.Prelude.{◌≡◌, ◌+◌, ◌*◌, ◌≤◌, ◌/◌, ℕ, suc, Bool, List, Ok, Err, Some, None, true, false, length, take, drop, slice_get};
+ghost use Rattle.std.specs.Prelude.{◌≡◌, ◌+◌, ◌*◌, ◌≤◌, ◌/◌, ℕ, suc, Bool, List, Result, Ok, Err, Some, None, true, false, length, take, drop, slice_get};
 ghost use Rattle.hgs_bytes.specs.Bytes.{same};
-ghost use Rattle.hgs_files.specs.Tree.{Tree, bytes_at};
+ghost use Rattle.hgs_bytes.specs.Bytes.{IsPrefixOf};
+ghost use Rattle.hgs_files.specs.declared.op.Op.{Op};
+ghost use Rattle.hgs_files.specs.Tree.{Tree, after_all, bytes_at};
 ghost use Rattle.hgs_index.specs.declared.kinds.Flag.{Flag};
 ghost use Rattle.hgs_index.specs.declared.entry.Entry.{Entry};
 ghost use Rattle.hgs_index.specs.declared.node.Node.{Node};
 ghost use Rattle.hgs_index.specs.ChangeText.{Change, read_change};
 ghost use Rattle.hgs_index.specs.FileText.{body_of};
+ghost use Rattle.hgs_index.specs.Inline.{is_inline};
 ghost use Rattle.hgs_index.specs.Manifest.{Row, AreRows, manifest_text};
 ghost use Rattle.hgs_index.specs.Node.{null_node};
 ghost use Rattle.hgs_index.specs.Revision.{Revision};
@@ -22,10 +25,11 @@ ghost use Rattle.hgs_revlog.specs.declared.fault.Tail.TheVariants.{Until};
 ghost use Rattle.hgs_revlog.specs.Load.{loaded, most_revisions};
 ghost use Rattle.hgs_revlog.specs.Log.{Log};
 ghost use Rattle.hgs_revlog.specs.Text.{text_of};
+ghost use Rattle.hgs_load.specs.declared.answer.ReadAnswer.{ReadAnswer};
 ghost use Rattle.hgs_load.specs.declared.answer.ReadAnswer.TheVariants.{UnknownPath};
-ghost use Rattle.hgs_load.specs.Asks.{at_rest};
+ghost use Rattle.hgs_load.specs.Asks.{at_rest, MayAnswer};
 ghost use Rattle.hgs_reader.specs.Contents.{manifest_index, manifest_data, most_files, most_file_text, tree_asks, files_text, files_asks, cat_asks};
-ghost use Rattle.hgs_reader.specs.Find.{has_node, text_asks};
+ghost use Rattle.hgs_reader.specs.Find.{has_node, separate_asks, text_asks};
 ghost use Rattle.hgs_reader.specs.Held.{HasText};
 ghost use Rattle.hgs_reader.specs.Line.{change_asks};
 ghost use Rattle.hgs_load.specs.Marks.{Nodes, Working, bookmarks_answer, bookmarks_path, dirstate_answer, dirstate_path, roots_answer, roots_path, working_answer};
@@ -34,10 +38,25 @@ ghost use Rattle.hgs_load.specs.Refresh.{first_changed, refresh_asks};
 ghost use Rattle.hgs_load.specs.Requirements.{requires_answer};
 ghost use Rattle.hgs_load.specs.View.{View, changelog_data, changelog_index};
 
+use hgs_index::laws::inline_taken_apart;
+
 /// Where a revlog has a text with a node, that is what is found, whatever a writer has appended behind it.
 pub fn text_of_node_held()
     ensures { (t : Tree) (index chunks node text : List ℕ) → HasText t index chunks node text → at_rest t (text_asks index chunks node) ≡ Ok text }
-{}
+{
+    inline_taken_apart();
+}
+
+/// Of a separate index the first piece says so; then the text with a node is asked for as that of a separate revlog, whatever
+/// the moments of the reads.
+pub fn separate_texts_are_asked()
+    ensures found { (t : Tree) (index chunks node text : List ℕ) → HasText t index chunks node text → at_rest t (separate_asks index chunks node) ≡ Ok text }
+    ensures rest { (t : Tree) (index chunks node : List ℕ) → is_inline (bytes_at t index) ≡ false → at_rest t (text_asks index chunks node) ≡ at_rest t (separate_asks index chunks node) }
+    ensures moments { (start : Tree) (from last : List Op) (index chunks node : List ℕ) (y : Result (List ℕ) ReadAnswer) → ((now : List Op) → IsPrefixOf from now → IsPrefixOf now last → is_inline (bytes_at (after_all now start) index) ≡ false) →
+        MayAnswer start from (text_asks index chunks node) last y → MayAnswer start from (separate_asks index chunks node) last y }
+{
+    inline_taken_apart();
+}
 
 /// Where the manifest's revlog has the text of some rows with the node that a changeset names, these rows are its files,
 /// and `files` writes their lines.
@@ -45,7 +64,9 @@ pub fn files_of_manifest_held()
     ensures tree { (t : Tree) (view : View) (rev : ℕ) (change : Change) (rows : List Row) → at_rest t (change_asks view rev) ≡ Ok change → same change.manifest null_node ≡ false → HasText t manifest_index manifest_data change.manifest (manifest_text rows) → AreRows rows →
         length rows ≤ most_files → at_rest t (tree_asks view rev) ≡ Ok rows }
     ensures files { (t : Tree) (view : View) (rev : ℕ) (rows : List Row) → at_rest t (tree_asks view rev) ≡ Ok rows → at_rest t (files_asks view rev) ≡ Ok (files_text rows) }
-{}
+{
+    inline_taken_apart();
+}
 
 /// Where the filelog of a path has a text with the node that the path's row names, `cat` writes the body in it; where no
 /// row has the path, it is unknown.
@@ -53,7 +74,9 @@ pub fn body_of_file_held()
     ensures body { (t : Tree) (view : View) (rev : ℕ) (rows : List Row) (path node text : List ℕ) (flag : Flag) → at_rest t (tree_asks view rev) ≡ Ok rows → checked path ≡ Ok tt → found_in path rows ≡ Some (node, flag) →
         HasText t (store_name path I) (store_name path D) node text → length (body_of text) ≤ most_file_text → at_rest t (cat_asks view rev path) ≡ Ok (body_of text) }
     ensures unknown { (t : Tree) (view : View) (rev : ℕ) (rows : List Row) (path : List ℕ) → at_rest t (tree_asks view rev) ≡ Ok rows → checked path ≡ Ok tt → found_in path rows ≡ None → at_rest t (cat_asks view rev path) ≡ Err UnknownPath }
-{}
+{
+    inline_taken_apart();
+}
 
 /// No row has the path, which may be any: it is unknown.
 pub fn paths_without_row()

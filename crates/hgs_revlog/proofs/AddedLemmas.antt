@@ -1,12 +1,14 @@
 -- What is written of a new revision, appended, holds it last.
-use Rattle.std.proofs.Common.{◌≡◌, ℕ, ◌+◌, ◌^◌, ◌<◌, ◌≤◌, Bool, true, false, cond, ◌||◌, List, [], ◌∷◌, ◌++◌, length, Option, Some, None, Result, Ok, Err, refl, sym, ◌∙◌, ap, subst, arith}
+use Rattle.std.proofs.Common.{◌≡◌, ℕ, ◌+◌, ◌^◌, ◌<◌, ◌≤◌, Bool, true, false, cond, ◌&&◌, ◌||◌, List, [], ◌∷◌, ◌++◌, length, Option, Some, None, Result, Ok, Err, refl, sym, ◌∙◌, ap, subst, arith}
 use Rattle.std.specs.Prelude.{◌==◌, nat_le, nat_lt, is_some, IfSome, IsSome, IsOk, unwrap_or}
 use Rattle.hgs_bytes.specs.Bytes.{same}
 use Rattle.hgs_index.specs.declared.entry.Entry.{Entry}
 use Rattle.hgs_index.specs.declared.entry.Header.{Header}
 use Rattle.hgs_index.specs.declared.node.Node.{Node}
 use Rattle.hgs_index.specs.declared.kinds.Which.TheVariants.{Changesets}
-use Rattle.hgs_index.specs.Entry.{entry_bytes, entry_at, Fits}
+use Rattle.hgs_index.specs.declared.entry.EntryFault.TheVariants.{HeaderFlags}
+use Rattle.hgs_index.specs.Entry.{entry_bytes, entry_at, header_at, Fits}
+use Rattle.hgs_index.specs.Inline.{says_inline}
 use Rattle.hgs_index.specs.Node.{null_node}
 use Rattle.hgs_index.specs.Revision.{Revision, parent_node}
 use Rattle.hgs_index.specs.Revlog.{chunk_of, next_header}
@@ -17,7 +19,7 @@ use Rattle.hgs_revlog.specs.declared.add.Added.TheVariants.{Old, New}
 use Rattle.hgs_revlog.specs.declared.fault.RevFault.{RevFault}
 use Rattle.hgs_revlog.specs.declared.fault.RevFault.TheVariants as faults
 use Rattle.hgs_revlog.specs.Log.{Log, with_entry, new_header, place_of, stored_sum, nodes_of}
-use Rattle.hgs_revlog.specs.Load.{most_revisions, most_text, most_data, is_above, fault_of, unless, checked, entry_behind, after, pushed}
+use Rattle.hgs_revlog.specs.Load.{most_revisions, most_text, most_data, is_above, fault_of, unless, checked, separate_at, entry_behind, after, pushed}
 use Rattle.hgs_revlog.specs.Text.{text_of}
 use Rattle.hgs_revlog.specs.Add.{next_entry, added_new, matched, added_at, added}
 use Rattle.hgs_revlog.specs.Held.{Agrees}
@@ -48,12 +50,36 @@ no_fault before e f =
 room : (n : ℕ) → n < most_revisions → nat_le most_revisions n ≡ false
 room n h = grind arith
 
+-- the header of an entry that is written of a separate revlog says so
+says_plain : (e : Entry) (h : Option Header) (rev : ℕ) → IfSome h (λ x. x.inline ≡ false) → (rev ≡ 0 → IsSome h) → (rev == 0 && says_inline (header_at (entry_bytes e h))) ≡ false
+says_plain e None rev separate first = by (rev == 0) refl
+  where
+    none : IsSome {T = Header} None → ⊥
+    none n = cc
+
+    zero_when : (n : ℕ) → (n == 0) ≡ true → n ≡ 0
+    zero_when n h = grind arith
+
+    by : (b : Bool) → (rev == 0) ≡ b → (b && says_inline (header_at (entry_bytes e None))) ≡ false
+    by true t = absurd (none (first (zero_when rev t)))
+    by false t = refl
+says_plain e (Some h) rev separate first = by (rev == 0) h.inline h.generaldelta separate
+  where
+    by : (b i g : Bool) → i ≡ false → (b && says_inline (header_at (entry_bytes e (Some (record { inline = i; generaldelta = g }))))) ≡ false
+    by b true g h = cc
+    by true false true h = refl
+    by true false false h = refl
+    by false false g h = refl
+
+pub written-read : (e : Entry) (h : Option Header) (rev : ℕ) → Fits e h → IfSome h (λ x. x.inline ≡ false) → (IsSome h → rev ≡ 0) → (rev ≡ 0 → IsSome h) → separate_at (entry_bytes e h) rev ≡ Ok e
+written-read e h rev fits separate a b = ap (λ x. cond x (Err HeaderFlags) (entry_at (entry_bytes e h) rev)) (says_plain e h rev separate b) ∙ entry_again e h rev fits a b
+
 -- the bytes of an entry without fault, behind the others, are taken as this entry
 pub taken_again : (before : List Entry) (e : Entry) (h : Option Header) → length before < most_revisions → IsFaultless before e → Fits e h → IfSome h (λ x. x.inline ≡ false)
     → (IsSome h → length before ≡ 0) → (length before ≡ 0 → IsSome h) → entry_behind before (entry_bytes e h) ≡ Ok e
 taken_again before e h few f fits separate a b =
-    ap (λ x. cond x (Err (faults.Limit Changesets)) (checked before (entry_at (entry_bytes e h) (length before)))) (room (length before) few)
-    ∙ ap (checked before) (entry_again e h (length before) fits separate a b)
+    ap (λ x. cond x (Err (faults.Limit Changesets)) (checked before (separate_at (entry_bytes e h) (length before)))) (room (length before) few)
+    ∙ ap (checked before) (written-read e h (length before) fits separate a b)
     ∙ ap (λ o. unless o e) (no_fault before e f)
 
 -- ---- what a new revision is

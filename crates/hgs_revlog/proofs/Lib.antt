@@ -1,6 +1,8 @@
 pub mod AddLemmas
 pub mod AddedLemmas
+pub mod ApartLemmas
 pub mod EntriesLemmas
+pub mod FormLemmas
 pub mod HeldLemmas
 pub mod LoadLemmas
 pub mod LoadedLemmas

@@ -7,7 +7,6 @@ use Rattle.hgs_bytes.specs.Bytes.{same}
 use Rattle.hgs_index.specs.declared.entry.Entry as index_entry
 use Rattle.hgs_index.specs.declared.entry.EntryFault.{EntryFault}
 use Rattle.hgs_index.specs.declared.kinds.Which.TheVariants.{Changesets}
-use Rattle.hgs_index.specs.Entry.{entry_at}
 use Rattle.hgs_index.specs.Node.{null_node}
 use Rattle.hgs_revlog.specs.declared.fault.RevFault.{RevFault}
 use Rattle.hgs_revlog.specs.declared.fault.RevFault.TheVariants.{Entry, Compressed, Delta, Flagged, Short, Length, Hash, Parent, Collision, Limit, Memory, Offset, Twice, Tail, Missing}
@@ -15,7 +14,7 @@ use Rattle.hgs_revlog.specs.declared.fault.Tail as tails
 use Rattle.hgs_revlog.specs.Fault.{is_memory}
 use Rattle.hgs_revlog.specs.Log.{Log, with_entry, place_of, stored_sum}
 use Rattle.hgs_revlog.proofs.TestLemmas.{same_number, at_most}
-use Rattle.hgs_revlog.specs.Load.{most_revisions, most_text, most_data, is_above, fault_of, unless, checked, entry_behind, ends_at, at_end, after, load_from}
+use Rattle.hgs_revlog.specs.Load.{most_revisions, most_text, most_data, is_above, fault_of, unless, checked, separate_at, entry_behind, ends_at, at_end, after, load_from}
 
 -- tests one after another that pick no fault all fail
 all_false : (a b c d e : Bool) (v w x y z : RevFault) → cond a (Some v) (cond b (Some w) (cond c (Some x) (cond d (Some y) (cond e (Some z) None)))) ≡ None → (a ≡ false) × (b ≡ false) × (c ≡ false) × (d ≡ false) × (e ≡ false)
@@ -132,6 +131,6 @@ taken_entry before bytes e h = by (nat_le most_revisions (length before)) refl h
     below : (n : ℕ) → nat_le most_revisions n ≡ false → n < most_revisions
     below n h = grind arith
 
-    by : (b : Bool) → nat_le most_revisions (length before) ≡ b → cond b (Err (Limit Changesets)) (checked before (entry_at bytes (length before))) ≡ Ok e → (length before < most_revisions) × (fault_of before e ≡ None)
+    by : (b : Bool) → nat_le most_revisions (length before) ≡ b → cond b (Err (Limit Changesets)) (checked before (separate_at bytes (length before))) ≡ Ok e → (length before < most_revisions) × (fault_of before e ≡ None)
     by true t h = cc
-    by false t h = (below (length before) t, checked_is (entry_at bytes (length before)) h)
+    by false t h = (below (length before) t, checked_is (separate_at bytes (length before)) h)

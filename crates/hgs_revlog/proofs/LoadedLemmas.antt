@@ -27,7 +27,7 @@ use Rattle.hgs_revlog.proofs.ReadLemmas.{bytes_take, bytes_drop, read_entry}
 ok_is : (x y : Log) → (let a : Result Log RevFault = Ok x in a) ≡ Ok y → x ≡ y
 ok_is x y e = cc
 
-end_is : (tail : tails.Tail) (log new : Log) (rest : List ℕ) → at_end tail log rest ≡ Ok new → log ≡ new
+pub end_is : (tail : tails.Tail) (log new : Log) (rest : List ℕ) → at_end tail log rest ≡ Ok new → log ≡ new
 end_is Ignore log new rest e = ok_is log new e
 end_is Refuse log new rest e = by (length rest == 0) e
   where
@@ -52,15 +52,15 @@ module _ (Holds : Log → Type 0) (IsTaken : List ℕ → Type 0)
       by true k = subst Holds (ok_is (with_entry log x) new k) one
       by false k = behind (with_entry log x) one k
 
-  from : (tail : tails.Tail) (n : ℕ) (log new : Log) (bytes : List ℕ) → ((k : ℕ) → k < n → IsTaken (take 64 (drop (64 * k) bytes))) → Holds log → load_from tail n log bytes ≡ Ok new → Holds new
-  from tail zero log new bytes taken holds e = subst Holds (end_is tail log new bytes e) holds
-  from tail (suc n) log new bytes taken holds e =
+  pub load_holds : (tail : tails.Tail) (n : ℕ) (log new : Log) (bytes : List ℕ) → ((k : ℕ) → k < n → IsTaken (take 64 (drop (64 * k) bytes))) → Holds log → load_from tail n log bytes ≡ Ok new → Holds new
+  load_holds tail zero log new bytes taken holds e = subst Holds (end_is tail log new bytes e) holds
+  load_holds tail (suc n) log new bytes taken holds e =
       let first : IsTaken (take 64 bytes) = taken 0 (omega arith) in
       let behind : (k : ℕ) → k < n → IsTaken (take 64 (drop (64 * k) (drop 64 bytes))) = (λ k lt. subst (λ bs. IsTaken (take 64 bs)) ((let q : 64 * suc k ≡ 64 + 64 * k = omega arith in ap (λ m. drop m bytes) q) ∙ sym (drop-drop (64 * k) 64 bytes)) (taken (suc k) (omega (arith, lt)))) in
-      step tail log new (take 64 bytes) (λ next. load_from tail n next (drop 64 bytes)) (entry_behind log.entries (take 64 bytes)) first refl holds (λ next before h. from tail n next new (drop 64 bytes) behind before h) e
+      step tail log new (take 64 bytes) (λ next. load_from tail n next (drop 64 bytes)) (entry_behind log.entries (take 64 bytes)) first refl holds (λ next before h. load_holds tail n next new (drop 64 bytes) behind before h) e
 
   pub loaded_holds : (tail : tails.Tail) (index : List ℕ) (log : Log) → ((k : ℕ) → k < length index / 64 → IsTaken (take 64 (drop (64 * k) index))) → Holds (record { inline = false; entries = [] }) → loaded tail index ≡ Ok log → Holds log
-  loaded_holds tail index log taken none e = from tail (length index / 64) (record { inline = false; entries = [] }) log index taken none e
+  loaded_holds tail index log taken none e = load_holds tail (length index / 64) (record { inline = false; entries = [] }) log index taken none e
 
   pub pushed_holds : (log new : Log) (bytes : List ℕ) → IsTaken bytes → Holds log → pushed log bytes ≡ Ok new → Holds new
   pushed_holds log new bytes taken holds e = by (entry_behind log.entries bytes) refl e
@@ -77,7 +77,7 @@ taken_is log bytes e h = faultless log.entries e (taken_entry log.entries bytes 
 
 -- ---- lists with one more
 
-get-push : {A : Type 0} (xs : List A) (y : A) (i : ℕ) (x : A) → slice_get (xs ++ y ∷ []) i ≡ Some x → ((slice_get xs i ≡ Some x) × (i < length xs)) ⊎ ((i ≡ length xs) × (y ≡ x))
+pub get-push : {A : Type 0} (xs : List A) (y : A) (i : ℕ) (x : A) → slice_get (xs ++ y ∷ []) i ≡ Some x → ((slice_get xs i ≡ Some x) × (i < length xs)) ⊎ ((i ≡ length xs) × (y ≡ x))
 get-push [] y zero x e = inr (refl, is e)
   where
     is : Some y ≡ Some x → y ≡ x
@@ -85,6 +85,21 @@ get-push [] y zero x e = inr (refl, is e)
 get-push [] y (suc i) x e = cc
 get-push (z ∷ xs) y zero x e = inl (e, omega arith)
 get-push (z ∷ xs) y (suc i) x e = elim (get-push xs y i x e) [ inl b ↦ inl (b.0, (let lt = b.1 in omega (arith, lt))) | inr b ↦ inr (ap suc b.0, b.1) ]
+
+pub get-kept : (entries more : List index_entry.Entry) (i : ℕ) (e : index_entry.Entry) → slice_get entries i ≡ Some e → slice_get (entries ++ more) i ≡ Some e
+get-kept [] more i e h = cc
+get-kept (x ∷ entries) more zero e h = h
+get-kept (x ∷ entries) more (suc i) e h = get-kept entries more i e h
+
+abbrev pub AreLow : List index_entry.Entry → Type 0
+AreLow entries = (rev : ℕ) (e : index_entry.Entry) → slice_get entries rev ≡ Some e → e.offset ≤ most_data
+
+-- entries with no offset past the limit, with one more
+pub low-push : (old new : List index_entry.Entry) (entry : index_entry.Entry) → new ≡ old ++ entry ∷ [] → AreLow old → entry.offset ≤ most_data → AreLow new
+low-push old new entry is low fits rev e there = elim (get-push old entry rev e (ap (λ es. slice_get es rev) (sym is) ∙ there)) [
+  | inl b ↦ low rev e b.0
+  | inr b ↦ subst (λ (x : index_entry.Entry). x.offset ≤ most_data) b.1 fits
+]
 
 all-push : {A : Type 0} (P : A → Type 0) (xs : List A) (y : A) → AllByRecursion P xs → P y → AllByRecursion P (xs ++ y ∷ [])
 all-push P [] y h p = (p, tt)

@@ -13,7 +13,8 @@ use Rattle.hgs_index.specs.declared.entry.EntryFault.{EntryFault}
 use Rattle.hgs_index.specs.declared.entry.EntryFault.TheVariants.{Version, HeaderFlags, Negative, Padding}
 use Rattle.hgs_index.specs.declared.entry.Header.{Header}
 use Rattle.hgs_index.specs.declared.kinds.Which.TheVariants.{Changesets}
-use Rattle.hgs_index.specs.Entry.{entry_bytes, entry_at, Fits, part, has_bad_header, has_negative, has_padding, header_of, header_within, fields_of}
+use Rattle.hgs_index.specs.Entry.{entry_bytes, entry_at, Fits, part, has_bad_header, has_negative, has_padding, header_of, header_at, header_within, fields_of}
+use Rattle.hgs_index.specs.Inline.{says_inline}
 use Rattle.hgs_index.specs.Node.{null_node, node_hash}
 use Rattle.hgs_index.specs.Revision.{Revision, parent_node}
 use Rattle.hgs_index.specs.Revlog.{chunk_text, next_header}
@@ -23,7 +24,7 @@ use Rattle.hgs_revlog.specs.declared.fault.RevFault.{RevFault}
 use Rattle.hgs_revlog.specs.declared.fault.RevFault.TheVariants as faults
 use Rattle.hgs_revlog.specs.declared.fault.Tail.TheVariants.{Refuse}
 use Rattle.hgs_revlog.specs.Log.{Log, with_entry, stored_sum, nodes_of}
-use Rattle.hgs_revlog.specs.Load.{most_revisions, fault_of, checked, unless, entry_behind, load_from, loaded}
+use Rattle.hgs_revlog.specs.Load.{most_revisions, fault_of, checked, unless, separate_at, entry_behind, load_from, loaded}
 use Rattle.hgs_revlog.specs.Text.{text_of, text_at, entry_text, fitting_text, node_with}
 use Rattle.hgs_revlog.specs.Held.{Agrees, revision_of, chunk_in, with_text, read_from, read_all}
 use Rattle.hgs_revlog.proofs.LogLemmas.{equal_from_same, length-nodes_of}
@@ -81,29 +82,29 @@ parent_among before more (Some a) h =
 
 -- ---- headers
 
-no_bad_inline : (f : ℕ) → has_bad_header f ≡ false → (f % 2 == 1) ≡ false
-no_bad_inline f h = ⊎_elim (λ (z : f ≡ 0). ap (λ n. n % 2 == 1) z) (λ (nz : f ≡ 0 → ⊥). ⊎_elim (λ (t : f ≡ 2). ap (λ n. n % 2 == 1) t) (λ (nt : f ≡ 2 → ⊥). absurd (clash nz nt)) (cases_eq f 2)) (cases_eq f 0)
-  where
-    off : (n m : ℕ) → (n ≡ m → ⊥) → (n == m) ≡ false
-    off n m h = grind arith
-
-    clash : (f ≡ 0 → ⊥) → (f ≡ 2 → ⊥) → ⊥
-    clash nz nt = (let no : true ≡ false = sym (ap (λ b. not b && not (f == 2)) (off f 0 nz) ∙ ap (λ b. true && not b) (off f 2 nt)) ∙ h in cc)
-
-entry_tests : (a b c d : Bool) (x e : Entry) → cond a (Err Version) (cond b (Err HeaderFlags) (cond c (Err Negative) (cond d (Err Padding) (Ok x)))) ≡ Ok e → b ≡ false
+entry_tests : (a b c d : Bool) (x e : Entry) → cond a (Err Version) (cond b (Err HeaderFlags) (cond c (Err Negative) (cond d (Err Padding) (Ok x)))) ≡ Ok e → (a ≡ false) × (b ≡ false)
 entry_tests true b c d x e h = cc
 entry_tests false true c d x e h = cc
-entry_tests false false c d x e h = refl
+entry_tests false false c d x e h = (refl, refl)
 
--- the header that an entry which reads begins with
-pub step_header : (cell : List ℕ) (e : Entry) (rev : ℕ) (revisions : List Revision) → entry_at cell rev ≡ Ok e → rev ≡ length revisions
+says_header : (a b : Bool) (h : Header) → a ≡ false → b ≡ false → says_inline (cond a (Err Version) (cond b (Err HeaderFlags) (Ok h))) ≡ false → h.inline ≡ false
+says_header true b h x y s = cc
+says_header false true h x y s = cc
+says_header false false h x y s = s
+
+-- the header that an entry which reads begins with, where it says that the index is separate
+pub step_header : (cell : List ℕ) (e : Entry) (rev : ℕ) (revisions : List Revision) → entry_at cell rev ≡ Ok e → rev ≡ length revisions → (rev == 0 && says_inline (header_at cell)) ≡ false
     → (h : Header) × (h.inline ≡ false) × (header_within cell rev ≡ next_header revisions h)
-step_header cell e rev [] is len =
+step_header cell e rev [] is len plain =
     let first : (rev == 0) ≡ true = grind arith in
-    let bad = entry_tests _ _ (has_negative cell) (has_padding cell rev) (fields_of cell rev) e is in
-    let good : has_bad_header (from_be_bytes w16 (part 0 2 cell)) ≡ false = ap (λ b. b && has_bad_header (from_be_bytes w16 (part 0 2 cell))) (sym first) ∙ bad in
-    (header_of (from_be_bytes w16 (part 0 2 cell)), no_bad_inline (from_be_bytes w16 (part 0 2 cell)) good, ap (λ b. cond b (Some (header_of (from_be_bytes w16 (part 0 2 cell)))) None) first)
-step_header cell e rev (r ∷ revisions) is len =
+    let old = not (from_be_bytes w16 (part 2 2 cell) == 1) in
+    let bad = has_bad_header (from_be_bytes w16 (part 0 2 cell)) in
+    let tests = entry_tests _ _ (has_negative cell) (has_padding cell rev) (fields_of cell rev) e is in (
+      header_of (from_be_bytes w16 (part 0 2 cell)),
+      says_header old bad (header_of (from_be_bytes w16 (part 0 2 cell))) (ap (λ b. b && old) (sym first) ∙ tests.0) (ap (λ b. b && bad) (sym first) ∙ tests.1) (ap (λ b. b && says_inline (header_at cell)) (sym first) ∙ plain),
+      ap (λ b. cond b (Some (header_of (from_be_bytes w16 (part 0 2 cell)))) None) first,
+    )
+step_header cell e rev (r ∷ revisions) is len plain =
     let later : (rev == 0) ≡ false = grind arith in
     (record { inline = false; generaldelta = false }, refl, ap (λ b. cond b (Some (header_of (from_be_bytes w16 (part 0 2 cell)))) None) later)
 
@@ -126,13 +127,25 @@ checked_is before (Ok x) e h = by (fault_of before x) h
         same_entry h = cc
     by (Some f) h = cc
 
+separate_ok : (s : Bool) (r : Result Entry EntryFault) (e : Entry) → cond s (Err HeaderFlags) r ≡ Ok e → (s ≡ false) × (r ≡ Ok e)
+separate_ok true r e h = cc
+separate_ok false r e h = (refl, h)
+
 -- an entry that is taken reads
 pub read_entry : (before : List Entry) (cell : List ℕ) (e : Entry) → entry_behind before cell ≡ Ok e → entry_at cell (length before) ≡ Ok e
 read_entry before cell e h = by (nat_le most_revisions (length before)) h
   where
-    by : (b : Bool) → cond b (Err (faults.Limit Changesets)) (checked before (entry_at cell (length before))) ≡ Ok e → entry_at cell (length before) ≡ Ok e
+    by : (b : Bool) → cond b (Err (faults.Limit Changesets)) (checked before (separate_at cell (length before))) ≡ Ok e → entry_at cell (length before) ≡ Ok e
     by true h = cc
-    by false h = checked_is before (entry_at cell (length before)) e h
+    by false h = (separate_ok (length before == 0 && says_inline (header_at cell)) (entry_at cell (length before)) e (checked_is before (separate_at cell (length before)) e h)).1
+
+-- and its header says that the index is separate
+pub read_plain : (before : List Entry) (cell : List ℕ) (e : Entry) → entry_behind before cell ≡ Ok e → (length before == 0 && says_inline (header_at cell)) ≡ false
+read_plain before cell e h = by (nat_le most_revisions (length before)) h
+  where
+    by : (b : Bool) → cond b (Err (faults.Limit Changesets)) (checked before (separate_at cell (length before))) ≡ Ok e → (length before == 0 && says_inline (header_at cell)) ≡ false
+    by true h = cc
+    by false h = (separate_ok (length before == 0 && says_inline (header_at cell)) (entry_at cell (length before)) e (checked_is before (separate_at cell (length before)) e h)).0
 
 pub with_text_ok : (e : Entry) (text : Result (List ℕ) RevFault) (more : Result (List Revision) RevFault) (revisions : List Revision) → with_text e text more ≡ Ok revisions
     → (t : List ℕ) × (rest : List Revision) × (text ≡ Ok t) × (more ≡ Ok rest) × (revisions ≡ revision_of e t ∷ rest)
@@ -240,7 +253,7 @@ held_from (suc n) before end index bytes front rest revisions more entries h are
     (ap (λ es. text_of es (length before.entries) c) (sym there) ∙ ap (text_of end.entries (length before.entries)) (sym chunk) ∙ w.2) in
     let reads = read_entry before.entries cell e s.1 in
     let ent = entry_taken cell (length before.entries) e (bytes_take 64 bytes are) (let l = length-take 64 bytes in omega (arith, l)) reads in
-    let hd = step_header cell e (length before.entries) revisions reads (length-agrees index front before.entries revisions h) in
+    let hd = step_header cell e (length before.entries) revisions reads (length-agrees index front before.entries revisions h) (read_plain before.entries cell e s.1) in
     let spelled : entry_bytes e (next_header revisions hd.0) ≡ cell = ap (entry_bytes e) (sym hd.2) ∙ sym ent.0 in
     let next = subst (λ b. Agrees (index ++ b) (front ++ c) (before.entries ++ e ∷ []) (revisions ++ revision_of e t ∷ [])) spelled
     (agrees_on index front before.entries revisions e c t hd.0 h f ok (fits_none e (header_within cell (length before.entries)) ent.1) hd.1) in

@@ -236,12 +236,12 @@ held-loaded index data_bytes rest revisions h limits =
       texts = subst (AllByRecursion (λ (r : Revision). length r.text ≤ most_text)) (sym h.these) limits.texts;
       data_end = (let room = limits.data_end in omega (arith, room, data_len));
     } in
-    let spelled : index ≡ bytes_from (Some h.header) is = h.index_is ∙ all_bytes h.header is h.separate in
+    let spelled : index ≡ bytes_from (Some h.header) is = h.index_is ∙ all_bytes h.header is h.form in
     let entries_count : length index / 64 ≡ length stored = (let l = length-held index data_bytes revisions h in omega (arith, l, count)) in
     let load : loaded Refuse index ≡ Ok log =
     ap (λ n. load_from Refuse n (record { inline = false; entries = [] }) index) entries_count
     ∙ ap (load_from Refuse (length stored) (record { inline = false; entries = [] })) spelled
-    ∙ loads_from (record { inline = false; entries = [] }) (Some h.header) stored next h.separate (λ s. refl) (λ z. refl) in
+    ∙ loads_from (record { inline = false; entries = [] }) (Some h.header) stored next h.form (λ s. refl) (λ z. refl) in
     let read : read_all (entries_of is) (data_bytes ++ rest) ≡ Ok revisions =
     ap (λ d. read_all (entries_of is) (d ++ rest)) h.data_is ∙ reads_from [] [] rest stored refl earlier h.texts ∙ ap (λ rs. Ok rs) h.these in
     (log, load, read, record { held = h; entries_are = refl })

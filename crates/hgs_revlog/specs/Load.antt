@@ -1,10 +1,12 @@
 -- The entries of an index, or its first fault.
-use Rattle.std.specs.Prelude.{ℕ, zero, suc, ◌+◌, ◌-◌, ◌/◌, ◌^◌, Bool, false, ◌||◌, ◌==◌, not, nat_le, nat_lt, is_some, List, [], length, take, drop, Option, Some, None, Result, Ok, Err, if◌then◌else◌}
+use Rattle.std.specs.Prelude.{ℕ, zero, suc, ◌+◌, ◌-◌, ◌/◌, ◌^◌, Bool, true, false, ◌&&◌, ◌||◌, ◌==◌, not, nat_le, nat_lt, is_some, List, [], length, take, drop, Option, Some, None, Result, Ok, Err, if◌then◌else◌}
 use Rattle.hgs_bytes.specs.Bytes.{same}
 use Rattle.hgs_index.specs.declared.entry.Entry as index_entry
 use Rattle.hgs_index.specs.declared.entry.EntryFault.{EntryFault}
 use Rattle.hgs_index.specs.declared.kinds.Which.TheVariants.{Changesets, Text, Data}
-use Rattle.hgs_index.specs.Entry.{entry_at}
+use Rattle.hgs_index.specs.declared.entry.EntryFault.TheVariants.{HeaderFlags}
+use Rattle.hgs_index.specs.Entry.{entry_at, header_at}
+use Rattle.hgs_index.specs.Inline.{is_inline, says_inline, without_inline, index_apart}
 use Rattle.hgs_index.specs.Node.{null_node}
 use Rattle.hgs_revlog.specs.declared.fault.RevFault.{RevFault}
 use Rattle.hgs_revlog.specs.declared.fault.RevFault.TheVariants.{Entry, Offset, Parent, Twice, Limit, Tail, Missing}
@@ -48,9 +50,13 @@ abbrev pub checked : List index_entry.Entry → Result index_entry.Entry EntryFa
 checked before (Err f) = Err (Entry (length before) f)
 checked before (Ok e) = unless (fault_of before e) e
 
+-- the entry of a separate index, whose header has no bit 16
+abbrev pub separate_at : List ℕ → ℕ → Result index_entry.Entry EntryFault
+separate_at bytes rev = if rev == 0 && says_inline (header_at bytes) then Err HeaderFlags else entry_at bytes rev
+
 -- the entry that 64 bytes are behind these, or their first fault
 abbrev pub entry_behind : List index_entry.Entry → List ℕ → Result index_entry.Entry RevFault
-entry_behind before bytes = if nat_le most_revisions (length before) then Err (Limit Changesets) else checked before (entry_at bytes (length before))
+entry_behind before bytes = if nat_le most_revisions (length before) then Err (Limit Changesets) else checked before (separate_at bytes (length before))
 
 -- whether nothing behind this entry is looked at
 abbrev pub ends_at : tails.Tail → index_entry.Entry → Bool
@@ -75,9 +81,22 @@ load_from tail (suc n) log bytes =
     after (entry_behind log.entries (take 64 bytes)) (λ e.
     if ends_at tail e then Ok (with_entry log e) else load_from tail n (with_entry log e) (drop 64 bytes))
 
--- the revlog that an index is, or its first fault
+-- the revlog that a separate index is, or its first fault
 abbrev pub loaded : tails.Tail → List ℕ → Result Log RevFault
 loaded tail index = load_from tail (length index / 64) (record { inline = false; entries = [] }) index
+
+abbrev pub in_form : Bool → Result Log RevFault → Result Log RevFault
+in_form inline (Err f) = Err f
+in_form inline (Ok log) = Ok (record { inline = inline; entries = log.entries })
+
+-- The revlog that an index of either form is, or its first fault. An inline one has the entries of the separate index that
+-- it is taken apart into: one whose chunk is cut is no whole entry, but its header is looked at.
+abbrev pub loaded_either : tails.Tail → List ℕ → Result Log RevFault
+loaded_either tail index = in_form (is_inline index) (loaded tail (index_apart index))
+
+-- an entry of an inline index as the next one of a separate index: the first one without the flag of its header
+abbrev pub cell_of : List index_entry.Entry → List ℕ → List ℕ
+cell_of before bytes = if length before == 0 then without_inline bytes else bytes
 
 -- the revlog with the entry that these 64 bytes are
 abbrev pub pushed : Log → List ℕ → Result Log RevFault

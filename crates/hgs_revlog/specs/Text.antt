@@ -1,5 +1,5 @@
 -- The text that a chunk stands for, or its first fault.
-use Rattle.std.specs.Prelude.{ℕ, ◌==◌, not, nat_lt, List, length, Option, Some, None, Result, Ok, Err, slice_get, if◌then◌else◌}
+use Rattle.std.specs.Prelude.{ℕ, suc, ◌+◌, ◌*◌, Bool, true, false, ◌==◌, not, nat_lt, List, length, Option, Some, None, Result, Ok, Err, slice_get, if◌then◌else◌}
 use Rattle.hgs_bytes.specs.Bytes.{same}
 use Rattle.hgs_index.specs.declared.entry.Entry.{Entry}
 use Rattle.hgs_index.specs.declared.kinds.Span.{Span}
@@ -13,6 +13,11 @@ use Rattle.hgs_revlog.specs.Log.{nodes_of}
 -- where the chunk of an entry stands in the data file
 abbrev pub span_of : Entry → Span
 span_of e = record { from = e.offset; len = e.stored }
+
+-- the same in either form: in an inline index it stands behind its entry, and so behind one more than come before it
+abbrev pub span_in : Bool → ℕ → Entry → Span
+span_in false rev e = span_of e
+span_in true rev e = record { from = e.offset + 64 * suc rev; len = e.stored }
 
 -- the node of a text with the parents of an entry
 abbrev pub node_with : List Entry → Entry → List ℕ → List ℕ

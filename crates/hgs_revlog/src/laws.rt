@@ -1,11 +1,14 @@
 //! What the definitions of this crate imply. Each function is one law; none does anything.
-ghost use Rattle.std.specs.Prelude.{◌≡◌, ◌⊎◌, ◌+◌, ◌*◌, ◌/◌, ◌<◌, ◌≤◌, ◌^◌, ◌&&◌, false, List, ℕ, [], ◌∷◌, ◌++◌, length, take, slice_get, Option, Some, None, IfSome, if◌then◌else◌, map, position, IsOk};
+ghost use Rattle.std.specs.Prelude.{◌≡◌, ◌⊎◌, ◌+◌, ◌*◌, ◌/◌, ◌<◌, ◌≤◌, ◌^◌, ◌&&◌, true, false, List, ℕ, [], ◌∷◌, ◌++◌, length, take, drop, slice_get, Option, Some, None, IfSome, IsSome, if◌then◌else◌, map, position, IsOk};
 ghost use Rattle.hex.specs.Hex.{IsBytes};
 ghost use Rattle.hgs_bytes.specs.Bytes.{same};
 ghost use Rattle.hgs_index.specs.declared.entry.Entry.{Entry};
+ghost use Rattle.hgs_index.specs.declared.entry.Header.{Header};
 ghost use Rattle.hgs_index.specs.declared.node.Node.{Node};
+ghost use Rattle.hgs_index.specs.Entry.{Fits, entry_bytes};
+ghost use Rattle.hgs_index.specs.Inline.{chunks_apart, index_apart, is_inline};
 ghost use Rattle.hgs_index.specs.Revision.{Parents, Revision, nodes, same_parents, ParentsBefore};
-ghost use Rattle.hgs_index.specs.Revlog.{HoldsRevisions, BeginsWithRevisions, chunk_of};
+ghost use Rattle.hgs_index.specs.Revlog.{Holds, HoldsRevisions, BeginsWithRevisions, chunk_of};
 ghost use Rattle.hgs_index.specs.Node.{null_node};
 ghost use Rattle.hgs_revlog.specs.declared.add.Added.TheVariants.{New, Old};
 ghost use Rattle.hgs_revlog.specs.declared.fault.RevFault.{RevFault};
@@ -13,10 +16,13 @@ ghost use Rattle.hgs_revlog.specs.declared.fault.RevFault.TheVariants.{Collision
 ghost use Rattle.hgs_revlog.specs.declared.fault.Tail.{Tail};
 ghost use Rattle.hgs_revlog.specs.declared.fault.Tail.TheVariants.{Ignore, Refuse, Until};
 ghost use Rattle.hgs_revlog.specs.Log.{Log, nodes_of, place_of, stored_sum, with_entry};
-ghost use Rattle.hgs_revlog.specs.Load.{loaded, pushed, entry_behind};
+ghost use Rattle.hgs_revlog.specs.Load.{loaded, loaded_either, separate_at, pushed, entry_behind};
 ghost use Rattle.hgs_revlog.specs.Loaded.{AreEntries, HaveNodes, HaveOwnNodes, parents_in};
 ghost use Rattle.hgs_revlog.specs.Add.{added, next_entry};
 ghost use Rattle.hgs_revlog.specs.Held.{Agrees, AreWithinLimits, EndsFirstAt, chunk_in, read_all};
+ghost use Rattle.hgs_revlog.specs.Text.{span_in};
+
+use hgs_index::laws::inline_taken_apart;
 
 /// Within the limits, and with no byte of data past the last chunk, an index loads whole and its texts read exactly
 /// where the bytes hold a list of revisions, and as that list and its entries.
@@ -32,6 +38,30 @@ pub fn ignored_rest()
     ensures front { (index : List ℕ) → loaded Ignore index ≡ loaded Refuse (take (64 * (length index / 64)) index) }
     ensures holds { (index data_bytes : List ℕ) (log : Log) (revisions : List Revision) → IsBytes index → loaded Ignore index ≡ Ok log → read_all log.entries data_bytes ≡ Ok revisions → (begins : BeginsWithRevisions index data_bytes revisions) × Agrees begins.index_front begins.data_front log.entries revisions × (length revisions ≡ length index / 64) }
     ensures loads { (index data_bytes : List ℕ) (revisions : List Revision) → (begins : BeginsWithRevisions index data_bytes revisions) → length revisions ≡ length index / 64 → AreWithinLimits revisions begins.data_front → (log : Log) × (loaded Ignore index ≡ Ok log) × (read_all log.entries data_bytes ≡ Ok revisions) × Agrees begins.index_front begins.data_front log.entries revisions }
+{}
+
+/// An index of either form loads in the form that its header says: a separate one as `loaded` says. In both, the entries are
+/// those of an index, and where it is bytes, each node is 20 bytes.
+pub fn either_form()
+    ensures separate { (tail : Tail) (index : List ℕ) → is_inline index ≡ false → loaded_either tail index ≡ loaded tail index }
+    ensures form { (tail : Tail) (index : List ℕ) (log : Log) → loaded_either tail index ≡ Ok log → log.inline ≡ is_inline index }
+    ensures entries { (tail : Tail) (index : List ℕ) (log : Log) → loaded_either tail index ≡ Ok log → AreEntries log.entries }
+    ensures nodes { (tail : Tail) (index : List ℕ) (log : Log) → IsBytes index → loaded_either tail index ≡ Ok log → HaveNodes log.entries }
+{}
+
+/// An inline index loads whole and its texts read exactly where it holds a list of revisions, and as that list, from the
+/// chunks that it is taken apart into; and these are what stands in the index at the places of `span_in`.
+pub fn inline_index()
+    ensures holds { (index data_bytes : List ℕ) (log : Log) (revisions : List Revision) → IsBytes index → loaded_either Refuse index ≡ Ok log → log.inline ≡ true → read_all log.entries (chunks_apart index) ≡ Ok revisions → Holds true index data_bytes revisions }
+    ensures loads { (index data_bytes : List ℕ) (revisions : List Revision) → Holds true index data_bytes revisions → AreWithinLimits revisions (chunks_apart index) → (log : Log) × (loaded_either Refuse index ≡ Ok log) × (read_all log.entries (chunks_apart index) ≡ Ok revisions) × Agrees (index_apart index) (chunks_apart index) log.entries revisions }
+    ensures places { (tail : Tail) (index : List ℕ) (log : Log) (rev : ℕ) (e : Entry) → loaded_either tail index ≡ Ok log → log.inline ≡ true → slice_get log.entries rev ≡ Some e → take e.stored (drop (span_in true rev e).from index) ≡ chunk_in (chunks_apart index) e }
+{
+    inline_taken_apart();
+}
+
+/// An entry that is written of a separate revlog is read again as the one of a separate index.
+pub fn written_entries_read()
+    ensures { (e : Entry) (h : Option Header) (rev : ℕ) → Fits e h → IfSome h (λ x. x.inline ≡ false) → (IsSome h → rev ≡ 0) → (rev ≡ 0 → IsSome h) → separate_at (entry_bytes e h) rev ≡ Ok e }
 {}
 
 /// The entries of a list have its nodes and its parents, and are as many.

@@ -1,19 +1,21 @@
 //! A loaded index.
-ghost use Rattle.std.specs.Prelude.{◌≡◌, ◌<◌, ◌≤◌, not, [], length, slice_get, IfSome, IfOk, IfErr, IsOk, OnOk, OnErr};
+ghost use Rattle.std.specs.Prelude.{◌≡◌, ◌<◌, ◌≤◌, true, not, [], length, slice_get, IfSome, IfOk, IfErr, IsOk, OnOk, OnErr};
 ghost use Rattle.std.specs.Option.{option_map};
 ghost use Rattle.std.specs.Result.{result_map_both};
 ghost use Rattle.hgs_bytes.specs.Answer.{Gives};
 ghost use Rattle.hgs_bytes.specs.Bytes.{same};
+ghost use Rattle.hgs_index.specs.Inline.{is_inline};
 ghost use Rattle.hgs_index.specs.Revision.{parent_node};
 ghost use Rattle.hgs_index.specs.Revlog.{chunk_text};
 ghost use Rattle.hgs_revlog.specs.declared.fault.RevFault.TheVariants.{Memory};
 ghost use Rattle.hgs_revlog.specs.Fault.{is_memory};
 ghost use Rattle.hgs_revlog.specs.Log.{place_of, nodes_of, new_header, stored_sum, with_entry};
-ghost use Rattle.hgs_revlog.specs.Load.{loaded, is_taken, entry_behind, fault_of, is_above, ends_at, at_end, most_data, most_revisions, pushed};
-ghost use Rattle.hgs_revlog.specs.Text.{span_of, node_with, text_of};
+ghost use Rattle.hgs_revlog.specs.Load.{loaded, loaded_either, cell_of, separate_at, is_taken, entry_behind, fault_of, is_above, ends_at, at_end, most_data, most_revisions, pushed};
+ghost use Rattle.hgs_revlog.specs.Text.{span_in, span_of, node_with, text_of};
 
 use crate::fault::{RevFault, Tail};
-use hgs_index::entry::{Entry, Header, decode};
+use hgs_index::entry::{Entry, EntryFault, Header, decode};
+use hgs_index::inline::{is_inline, whole_item, without_inline};
 use hgs_index::kinds::{Span, Which};
 use hgs_index::node::{Node, node_of};
 use std::alloc::{AllocError, Global};
@@ -81,9 +83,10 @@ impl Revlog {
         }
     }
 
-    /// The revlog of an index whose chunks stand in a data file, or its first fault in the order of revisions.
+    /// The revlog of a separate index, or its first fault in the order of revisions.
     ///
-    /// The index is not copied. The time is that of a search among the nodes for each entry.
+    /// An inline one is refused for its header. The index is not copied. The time is that of a search among the nodes for
+    /// each entry.
     pub fn load(alloc: Global, index: &[u8], tail: Tail) -> Result<Revlog, RevFault>
         ensures { Gives is_memory (λ log. log) result (loaded tail index.now) }
     {
@@ -101,6 +104,50 @@ impl Revlog {
             rest = behind;
         }
         log.ended(tail, rest)
+    }
+
+    /// The revlog of an index of either form, as its header says. An entry whose chunk is cut is no whole one.
+    pub fn load_either(alloc: Global, index: &[u8], tail: Tail) -> Result<Revlog, RevFault>
+        ensures { Gives is_memory (λ log. log) result (loaded_either tail index.now) }
+    {
+        if is_inline(index) {
+            Revlog::load_inline(alloc, index, tail)
+        } else {
+            Revlog::load(alloc, index, tail)
+        }
+    }
+
+    // The revlog of an inline index.
+    fn load_inline(alloc: Global, index: &[u8], tail: Tail) -> Result<Revlog, RevFault>
+        requires { is_inline index.now ≡ true }
+        ensures { Gives is_memory (λ log. log) result (loaded_either tail index.now) }
+    {
+        let mut log = Revlog::empty(alloc, true);
+        let mut rest = index;
+        while let Some((bytes, behind)) = whole_item(rest) {
+            let cell = log.cell(bytes);
+            let entry = match log.next_entry(&cell) {
+                Ok(entry) => entry,
+                Err(fault) => return Err(fault),
+            };
+            log.append(entry)?;
+            if ends(&tail, &entry) {
+                return Ok(log);
+            }
+            rest = behind;
+        }
+        Revlog::ended(log, tail, rest)
+    }
+
+    // An entry of an inline index as the next one of a separate index.
+    fn cell(&self, bytes: &[u8; 64]) -> [u8; 64]
+        ensures { result ≡ cell_of self.now.entries bytes.now }
+    {
+        if self.entries.is_empty() {
+            without_inline(bytes)
+        } else {
+            *bytes
+        }
     }
 
     // What is answered where no whole entry is left.
@@ -199,7 +246,14 @@ impl Revlog {
         self.revs.get(&node.0).copied()
     }
 
-    /// Where the chunk of a revision stands in the data file, in bytes.
+    /// Whether the chunks stand in the index, each behind its entry.
+    pub fn is_inline(&self) -> bool
+        ensures { result ≡ self.now.inline }
+    {
+        self.inline
+    }
+
+    /// Where the chunk of a revision stands among all chunks, and so in the data file of a separate revlog, in bytes.
     pub fn text_span(&self, rev: u32) -> Span
         requires { rev < length self.now.entries }
         ensures { option_map span_of (slice_get self.now.entries rev) ≡ Some result }
@@ -207,6 +261,19 @@ impl Revlog {
         let entry = self.entry(rev);
         Span {
             from: entry.offset,
+            len: entry.stored as u64,
+        }
+    }
+
+    /// Where the chunk of a revision stands in its file, in bytes: in the data file, or in the index of an inline revlog.
+    pub fn span_in_file(&self, rev: u32) -> Span
+        requires { rev < length self.now.entries }
+        ensures { option_map (span_in self.now.inline rev) (slice_get self.now.entries rev) ≡ Some result }
+    {
+        let entry = self.entry(rev);
+        let entries = if self.inline { rev as u64 + 1 } else { 0 };
+        Span {
+            from: entry.offset + 64 * entries,
             len: entry.stored as u64,
         }
     }
@@ -324,7 +391,7 @@ impl Revlog {
         if rev >= MOST_REVISIONS {
             return Err(RevFault::Limit(Which::Changesets));
         }
-        let entry = match decode(bytes, rev) {
+        let entry = match separate_entry(bytes, rev) {
             Ok(entry) => entry,
             Err(fault) => return Err(RevFault::Entry(rev, fault)),
         };
@@ -333,6 +400,16 @@ impl Revlog {
             Some(fault) => Err(fault),
         }
     }
+}
+
+// The entry of a separate index, whose header has no bit 16.
+fn separate_entry(bytes: &[u8; 64], rev: u32) -> Result<Entry, EntryFault>
+    ensures { result ≡ separate_at bytes.now rev }
+{
+    if rev == 0 && is_inline(bytes) {
+        return Err(EntryFault::HeaderFlags);
+    }
+    decode(bytes, rev)
 }
 
 // The text in a chunk, none where it is compressed.

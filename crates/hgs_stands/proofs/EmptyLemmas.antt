@@ -26,7 +26,7 @@ nothing = record {
   fits = tt;
   different = refl;
   not_null = refl;
-  separate = refl;
+  form = refl;
   index_is = refl;
   data_is = refl;
 }

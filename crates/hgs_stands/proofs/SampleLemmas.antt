@@ -64,7 +64,7 @@ holds laws t index data_path revisions before fits different none i d = record {
   fits = fits;
   different = different;
   not_null = none;
-  separate = refl;
+  form = refl;
   index_is = i;
   data_is = d;
 }

@@ -6,11 +6,11 @@ use Rattle.std.proofs.lemmas.List.{length-map}
 use Rattle.hgs_index.specs.declared.entry.Entry.{Entry}
 use Rattle.hgs_index.specs.declared.entry.Header.{Header}
 use Rattle.hgs_index.specs.declared.kinds.Which.TheVariants.{Changesets}
-use Rattle.hgs_index.specs.Entry.{Fits, entry_at, entry_bytes, head_bytes}
+use Rattle.hgs_index.specs.Entry.{Fits, entry_bytes, head_bytes}
 use Rattle.hgs_index.specs.Revision.{Revision, node_after}
 use Rattle.hgs_index.specs.Revlog.{HoldsRevisions, Item, Stored, index_bytes, item_bytes, items, items_from}
 use Rattle.hgs_revlog.specs.Held.{Agrees}
-use Rattle.hgs_revlog.specs.Load.{after, checked, entry_behind, fault_of, load_from, loaded, most_revisions, unless}
+use Rattle.hgs_revlog.specs.Load.{after, checked, separate_at, entry_behind, fault_of, load_from, loaded, most_revisions, unless}
 use Rattle.hgs_revlog.specs.Log.{Log, with_entry}
 use Rattle.hgs_revlog.specs.declared.fault.RevFault.{RevFault}
 use Rattle.hgs_revlog.specs.declared.fault.RevFault.TheVariants as faults
@@ -63,7 +63,7 @@ err-ok {A} {B} {E} f x h = absurd (no h)
     no e = cc
 
 -- where an index loads, the entry that its bytes are is taken
-taken : (log : Log) (e : Entry) (bytes : List ℕ) (more : Entry → Result Log RevFault) (out_log : Log) → entry_at bytes (length log.entries) ≡ Ok e → after (entry_behind log.entries bytes) more ≡ Ok out_log → more e ≡ Ok out_log
+taken : (log : Log) (e : Entry) (bytes : List ℕ) (more : Entry → Result Log RevFault) (out_log : Log) → separate_at bytes (length log.entries) ≡ Ok e → after (entry_behind log.entries bytes) more ≡ Ok out_log → more e ≡ Ok out_log
 taken log e bytes more out_log decoded h = limited (nat_le most_revisions (length log.entries)) (sym (ap (λ r. after (cond (nat_le most_revisions (length log.entries)) (Err (faults.Limit Changesets)) (checked log.entries r)) more) decoded) ∙ h)
   where
     faultless : (o : Option RevFault) → after (unless o e) more ≡ Ok out_log → more e ≡ Ok out_log
@@ -115,8 +115,8 @@ entries-loaded laws h first (i ∷ its) (suc n) log out_log plain inline_is empt
     back : drop 64 (bytes_of h first (i ∷ its)) ≡ bytes_of h None its
     back = ap (drop 64) whole ∙ drop-front 64 bytes (bytes_of h None its) long
 
-    decoded : entry_at (take 64 (bytes_of h first (i ∷ its))) (length log.entries) ≡ Ok i.entry
-    decoded = ap (λ (b : List ℕ). entry_at b (length log.entries)) front ∙ laws.decode i.entry first (length log.entries) (with-header i.entry first fits.0 start) inline_is empty some
+    decoded : separate_at (take 64 (bytes_of h first (i ∷ its))) (length log.entries) ≡ Ok i.entry
+    decoded = ap (λ (b : List ℕ). separate_at b (length log.entries)) front ∙ laws.decode i.entry first (length log.entries) (with-header i.entry first fits.0 start) inline_is empty some
 
     behind : load_from Refuse n (with_entry log i.entry) (bytes_of h None its) ≡ Ok out_log
     behind =
@@ -133,7 +133,7 @@ begins (s ∷ stored) = refl
 
 -- Where bytes hold revisions, an index that loads has their entries.
 pub entries-held : (laws : Below) (index data_bytes : List ℕ) (revisions : List Revision) (log : Log) → HoldsRevisions index data_bytes revisions → loaded Refuse index ≡ Ok log → Agrees index data_bytes log.entries revisions
-entries-held laws index data_bytes revisions log h e = record { held = h; entries_are = entries-loaded laws h.header (Some h.header) (items h.stored) (length (items h.stored)) empty log h.separate h.separate (λ some. refl) (λ none. refl) (λ some. begins h.stored) h.fits refl behind }
+entries-held laws index data_bytes revisions log h e = record { held = h; entries_are = entries-loaded laws h.header (Some h.header) (items h.stored) (length (items h.stored)) empty log h.form h.form (λ some. refl) (λ none. refl) (λ some. begins h.stored) h.fits refl behind }
   where
     empty : Log
     empty = record { inline = false; entries = [] }

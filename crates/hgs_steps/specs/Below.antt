@@ -4,8 +4,9 @@ use Rattle.hgs_bytes.specs.Bytes.{IsPrefixOf, among, same}
 use Rattle.hgs_bytes.specs.Text.{ascends}
 use Rattle.hgs_index.specs.declared.entry.Entry.{Entry}
 use Rattle.hgs_index.specs.declared.entry.Header.{Header}
-use Rattle.hgs_index.specs.Entry.{Fits, entry_at, entry_bytes}
+use Rattle.hgs_index.specs.Entry.{Fits, entry_bytes}
 use Rattle.hgs_index.specs.Node.{null_node}
+use Rattle.hgs_revlog.specs.Load.{separate_at}
 use Rattle.hgs_index.specs.Revision.{Parents, Revision, nodes}
 use Rattle.hgs_index.specs.Revlog.{HoldsRevisions, all_different}
 use Rattle.hgs_marks.specs.Bookmarks.{with_mark as with_node, without}
@@ -23,7 +24,7 @@ use Rattle.hgs_revlog.specs.Log.{nodes_of, place_of}
 use Rattle.hgs_stands.specs.Stands.{changeset_entries, entries_of, mark_of}
 
 pub record Below : Type 0 where
-  pub decode : (e : Entry) (h : Option Header) (rev : ℕ) → Fits e h → IfSome h (λ x. x.inline ≡ false) → (IsSome h → rev ≡ 0) → (rev ≡ 0 → IsSome h) → entry_at (entry_bytes e h) rev ≡ Ok e
+  pub decode : (e : Entry) (h : Option Header) (rev : ℕ) → Fits e h → IfSome h (λ x. x.inline ≡ false) → (IsSome h → rev ≡ 0) → (rev ≡ 0 → IsSome h) → separate_at (entry_bytes e h) rev ≡ Ok e
   pub index_length : (index data_bytes : List ℕ) (revisions : List Revision) → HoldsRevisions index data_bytes revisions → length index ≡ 64 * length revisions
   pub entry_nodes : (index data_bytes : List ℕ) (entries : List Entry) (revisions : List Revision) → Agrees index data_bytes entries revisions → nodes_of entries ≡ nodes revisions
   pub entry_parents : (index data_bytes : List ℕ) (entries : List Entry) (revisions : List Revision) → Agrees index data_bytes entries revisions → map (λ (e : Entry). let p : Parents = (e.p1, e.p2) in p) entries ≡ map (λ (r : Revision). r.parents) revisions

@@ -31,13 +31,11 @@ ghost use Rattle.hgs_steps.specs.Planned.{AnswersAs, HoldsRepository, IsLoadedOf
 ghost use Rattle.hgs_steps.specs.Steps.{are_too_many, dirstate_replacing, mark_of, marked, marks_replacing, move_of, phases_text, planned, roots_replaced, unmark_of};
 ghost use Rattle.hgs_steps.specs.declared.loaded.Loaded.{Loaded};
 
-use hgs_index::laws::{
-    encode_then_decode, held_index_length, nodes_are_counted, nodes_have_places,
-};
+use hgs_index::laws::{held_index_length, nodes_are_counted, nodes_have_places};
 use hgs_model::history_laws::histories_go_on;
 use hgs_model::laws::changelog_is_whole;
 use hgs_phases::moved::moves_are_the_models;
-use hgs_revlog::laws::{entries_of_revisions, places_of_nodes};
+use hgs_revlog::laws::{entries_of_revisions, places_of_nodes, written_entries_read};
 use hgs_stands::bookmarks::bookmarks_by_nodes;
 use hgs_stands::laws::entries_of_changesets;
 
@@ -99,7 +97,7 @@ pub fn files_of_commits_agree()
 pub(crate) fn laws_below()
     ensures { Below }
 {
-    encode_then_decode();
+    written_entries_read();
     held_index_length();
     entries_of_revisions();
     nodes_are_counted();

@@ -33,7 +33,7 @@ use Rattle.hgs_revlog.specs.Log.{Log, nodes_of, place_of}
 use Rattle.hgs_revlog.specs.Text.{text_of}
 use Rattle.hgs_load.specs.declared.answer.ReadAnswer.{ReadAnswer}
 use Rattle.hgs_load.specs.Asks.{at_rest, MayAnswer}
-use Rattle.hgs_reader.specs.Find.{has_node, text_asks}
+use Rattle.hgs_reader.specs.Find.{has_node, separate_asks, text_asks}
 use Rattle.hgs_reader.specs.Held.{HasText}
 use Rattle.hgs_reader.specs.Line.{change_asks}
 use Rattle.hgs_load.specs.Marks.{working_answer}
@@ -94,7 +94,7 @@ BeforeLaw = (h : List Parents) (child parent : ℕ) → ParentsBefore 0 h → Is
 -- what a text by its node needs
 pub record TextLaws : Type 0 where
   pub found : TextLaw
-  pub held : (t : Tree) (index chunks node text : List ℕ) → HasText t index chunks node text → at_rest t (text_asks index chunks node) ≡ Ok text
+  pub held : (t : Tree) (index chunks node text : List ℕ) → HasText t index chunks node text → at_rest t (separate_asks index chunks node) ≡ Ok text
   pub loads : (index data_bytes : List ℕ) (revisions : List Revision) (node : Node) → (begins : BeginsWithRevisions index data_bytes revisions) → EndsFirstAt node.0 revisions → AreWithinLimits revisions begins.data_front
       → (log : Log) × (loaded (Until node) index ≡ Ok log) × (read_all log.entries data_bytes ≡ Ok revisions) × Agrees begins.index_front begins.data_front log.entries revisions
   pub last : (index : List ℕ) (log : Log) (node : Node) → loaded (Until node) index ≡ Ok log → (before : ℕ) × (has_node node.0 before index ≡ false) × (has_node node.0 (suc before) index ≡ true) × (64 * suc before ≤ length index)

@@ -206,7 +206,7 @@ nothing-held = record {
   fits = tt;
   different = refl;
   not_null = refl;
-  separate = refl;
+  form = refl;
   index_is = refl;
   data_is = refl;
 }

@@ -1,11 +1,13 @@
 -- The text with a node, its reads at different moments.
-use Rattle.std.proofs.Common.{◌≡◌, ℕ, suc, ◌*◌, ◌<◌, ◌≤◌, List, [], length, true, false, cond, Result, Ok, refl, sym, ◌∙◌, ap, subst, arith, length-append}
+use Rattle.std.proofs.Common.{◌≡◌, ℕ, suc, ◌*◌, ◌<◌, ◌≤◌, List, [], ◌∷◌, ◌++◌, length, true, false, cond, Result, Ok, refl, sym, ◌∙◌, ap, subst, arith, length-append}
 use Rattle.std.specs.Prelude.{unwrap_or}
 use Rattle.hgs_bytes.specs.Bytes.{IsPrefixOf, same}
 use Rattle.hgs_files.specs.declared.op.Op.{Op}
 use Rattle.hgs_files.specs.Tree.{Tree, bytes_at, after_all}
 use Rattle.hgs_index.specs.declared.node.Node.{Node}
+use Rattle.hgs_index.specs.Inline.{is_inline}
 use Rattle.hgs_index.specs.Revision.{Revision}
+use Rattle.hgs_index.specs.Revlog.{HoldsRevisions}
 use Rattle.hgs_model.specs.History.{node_at, text_at}
 use Rattle.hgs_revlog.specs.declared.fault.Tail.TheVariants.{Until}
 use Rattle.hgs_revlog.specs.Held.{AreWithinLimits}
@@ -13,7 +15,7 @@ use Rattle.hgs_revlog.specs.Load.{loaded}
 use Rattle.hgs_revlog.specs.Log.{Log, place_of}
 use Rattle.hgs_load.specs.declared.answer.ReadAnswer.{ReadAnswer}
 use Rattle.hgs_load.specs.Asks.{Asks, answer, at_rest, MayAnswer}
-use Rattle.hgs_reader.specs.Find.{has_node, bytes_until, log_until, text_at_asks, text_asks}
+use Rattle.hgs_reader.specs.Find.{has_node, bytes_until, log_until, text_at_asks, separate_asks}
 use Rattle.hgs_reader.specs.Held.{HasText}
 use Rattle.hgs_load.specs.View.{log_answer, most_pieces}
 use Rattle.hgs_stands.specs.Stands.{HoldsAt}
@@ -31,6 +33,15 @@ stays-later start from last store index chunks revisions now at s = record {
   chunks_stay = λ later there. s.chunks_stay later (between-later from last now later at there);
   within = λ later there. s.within later (between-later from last now later at there);
 }
+
+-- where an index stays at the front it is separate at each moment
+pub says-separate : ((index data_bytes more : List ℕ) (first : Revision) (revisions : List Revision) → HoldsRevisions index data_bytes (first ∷ revisions) → is_inline (index ++ more) ≡ false)
+    → (start : Tree) (from last : List Op) (store : Tree) (index chunks : List ℕ) (revisions : List Revision) (rev : ℕ) → rev < length revisions → StaysAt start from last store index chunks revisions
+    → (now : List Op) → IsPrefixOf from now → IsPrefixOf now last → is_inline (bytes_at (after_all now start) index) ≡ false
+says-separate says start from last store index chunks [] rev lt s now begins ends = absurd (omega (arith, lt))
+says-separate says start from last store index chunks (r ∷ revisions) rev lt s now begins ends =
+    let stays = s.index_stays now (record { begins = begins; ends = ends }) in
+    ap is_inline stays.1 ∙ says (bytes_at store index) (bytes_at store chunks) stays.0 r revisions s.held
 
 module _ (law : TextLaws) (start : Tree) (from last : List Op) (store : Tree) (index chunks : List ℕ) (revisions : List Revision) (rev : ℕ) (node text : List ℕ) (apart : same index chunks ≡ false) (lt : rev < length revisions) (at : node_at revisions rev ≡ node) (is : text_at revisions rev ≡ text) where
   -- where the two files of a tree go on from those of the store
@@ -101,17 +112,17 @@ module _ (law : TextLaws) (start : Tree) (from last : List Op) (store : Tree) (i
         let p = split start (bytes_until index node most_pieces []) f from mid r m in
         let b = bytes-read p.0 p.2 here (prefix-trans p.0 mid last p.1.ends on) p.3 in
         let t = after_all b.0 start in
-        let all : at_rest t (text_asks index chunks node) ≡ Ok text = law.held t index chunks node text (text-of t s.held (s.index_stays b.0 b.1) (s.chunks_stay b.0 b.1) (s.within b.0 b.1)) in
+        let all : at_rest t (separate_asks index chunks node) ≡ Ok text = law.held t index chunks node text (text-of t s.held (s.index_stays b.0 b.1) (s.chunks_stay b.0 b.1) (s.within b.0 b.1)) in
         let whole = rest_both t (log_until index node) g text all in
         let part = rest_both t (bytes_until index node most_pieces []) f whole.0 whole.1 in
         let is : p.2 ≡ Ok part.0 = b.2 ∙ part.1 in
         let behind = subst (Behind start f p.0 mid r) is p.4 in
         (b.0, b.1, part.0, whole.0, part.1, part.2, behind.1 ∙ part.2)
 
-    pub text-only : Only start from last (text_asks index chunks node) (Ok text)
+    pub text-only : Only start from last (separate_asks index chunks node) (Ok text)
     text-only y m =
         let g : Log → Asks (Result (List ℕ) ReadAnswer) = λ log. text_at_asks index chunks log (place_of log.entries node) in
-        let here : IsBetween from last from = record { begins = prefix-refl from; ends = may-front (text_asks index chunks node) start from last y m } in
+        let here : IsBetween from last from = record { begins = prefix-refl from; ends = may-front (separate_asks index chunks node) start from last y m } in
         let p = split start (log_until index node) g from last y m in
         let found = log-read p.0 p.2 here p.1.ends p.3 in
         let behind = subst (Behind start g p.0 last y) found.6 p.4 in

@@ -2,4 +2,4 @@ use Rattle.hgs_reader.proofs.TreeLemmas.{text-held}
 use Rattle.hgs_reader.proofs.laws.text_of_node_held.Goals as goal
 
 pub returns : goal.returns
-returns c = text-held
+returns c = text-held c.inline_taken_apart.ensures.separate c.inline_taken_apart.ensures.fronts

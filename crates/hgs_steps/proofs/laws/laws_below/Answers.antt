@@ -2,7 +2,7 @@ use Rattle.hgs_steps.proofs.laws.laws_below.Goals as goal
 
 pub returns : goal.returns
 returns c = record {
-  decode = c.encode_then_decode.ensures;
+  decode = c.written_entries_read.ensures;
   index_length = c.held_index_length.ensures;
   entry_nodes = c.entries_of_revisions.ensures.nodes;
   entry_parents = c.entries_of_revisions.ensures.parents;
