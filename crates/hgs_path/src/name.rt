@@ -175,7 +175,7 @@ fn encoded_name(alloc: Global, name: &[u8], ext: Ext) -> Result<Vec<u8>, AllocEr
 }
 
 /// The path of a listed name's file.
-fn path_of(alloc: Global, name: &[u8], ext: Ext) -> Result<StorePath, AllocError>
+pub(crate) fn path_of(alloc: Global, name: &[u8], ext: Ext) -> Result<StorePath, AllocError>
     requires { 5 ≤ length name.now }
     ensures { IfOk result (λ path. path ≡ codes "store/" ++ encoded_name name.now ext) }
 {
