@@ -66,7 +66,7 @@ fn directory_step(alloc: Global, name: &[u8]) -> Result<Vec<u8>, AllocError>
 }
 
 /// The name of a file in `fncache`.
-pub(crate) fn listed_name(alloc: Global, path: &[u8], ext: Ext) -> Result<Vec<u8>, AllocError>
+pub fn listed_name(alloc: Global, path: &[u8], ext: Ext) -> Result<Vec<u8>, AllocError>
     ensures { IfOk result (λ out. out.items ≡ listed_name path.now ext) }
 {
     let whole = whole_path(alloc, path, ext)?;

@@ -44,6 +44,9 @@ added f k xs i x start now new at before one =
     ∙ ap (λ l. start ++ l) (sym (each-more f k xs i x at))
     ∙ ap (λ n. start ++ each_from f k (take n xs)) (let e : suc i ≡ i + 1 = omega arith in e)
 
+pub added-first : {A : Type 0} (f : ℕ → A → List Finding) (xs : List A) (i : ℕ) (x : A) (start now new : List Finding) → slice_get xs i ≡ Some x → now ≡ start ++ each_from f 0 (take i xs) → new ≡ now ++ f i x → new ≡ start ++ each_from f 0 (take (i + 1) xs)
+added-first f xs i x start now new at before one = added f 0 xs i x start now new at before (one ∙ ap (λ n. now ++ f n x) (let e : i ≡ 0 + i = omega arith in e))
+
 pub two-added : (now one two a b : List Finding) → one ≡ now ++ a → two ≡ one ++ b → two ≡ now ++ (a ++ b)
 two-added now one two a b p q = q ∙ ap (λ l. l ++ b) p ∙ append_assoc now a b
 

@@ -1,3 +1,7 @@
 pub mod Adds
+pub mod Lines
+pub mod Lists
 pub mod Logs
+pub mod Names
 pub mod Store
+pub mod Texts

@@ -10,6 +10,7 @@ ghost use Rattle.hgs_judge.specs.Report.{each_from, findings_in};
 ghost use Rattle.hgs_report.specs.Logs.{lacks_manifest, names_manifest, of_changeset, of_link, of_log, of_tree};
 
 use hgs_files::path::StorePath;
+use hgs_index::entry::Entry;
 use hgs_judge::changesets::{Changeset, Tree, manifest_namings};
 use hgs_judge::kinds::{Kinds, judge};
 use hgs_judge::reading::Reading;
@@ -56,6 +57,21 @@ fn lacks_manifest(changeset: &Changeset) -> bool
     changeset.files.is_some() && !names_manifest(&changeset.tree)
 }
 
+// Adds a changeset whose text can't be read, or whose manifest isn't there.
+fn add_changeset(
+    alloc: Global,
+    changelog: &StorePath,
+    manifest: &StorePath,
+    rev: u32,
+    changeset: &Changeset,
+    into: &mut Vec<Finding>,
+) -> Result<(), AllocError>
+    ensures { OnOk result (findings_in into.new.items ≡ findings_in into.old.items ++ of_changeset changelog.now manifest.now rev changeset.now) }
+{
+    add_if(alloc, changeset.files.is_none(), changelog, rev, 4, into)?;
+    add_if(alloc, lacks_manifest(changeset), manifest, rev, 5, into)
+}
+
 /// Adds the changesets whose texts can't be read, and those whose manifests aren't there. The paths are those of the two
 /// indexes.
 pub fn add_changesets(
@@ -69,10 +85,22 @@ pub fn add_changesets(
     ensures { OnOk result (findings_in into.new.items ≡ findings_in into.old.items ++ each_from (of_changeset changelog.now manifest.now) 0 changesets.now) }
 {
     for (rev, changeset) in changesets.iter().enumerate() {
-        add_if(alloc, changeset.files.is_none(), changelog, rev as u32, 4, into)?;
-        add_if(alloc, lacks_manifest(changeset), manifest, rev as u32, 5, into)?;
+        add_changeset(alloc, changelog, manifest, rev as u32, changeset, into)?;
     }
     Ok(())
+}
+
+// Adds a changeset that links to another than itself.
+fn add_link(
+    alloc: Global,
+    changelog: &StorePath,
+    rev: u32,
+    entry: &Entry,
+    into: &mut Vec<Finding>,
+) -> Result<(), AllocError>
+    ensures { OnOk result (findings_in into.new.items ≡ findings_in into.old.items ++ of_link changelog.now rev entry.now) }
+{
+    add_if(alloc, entry.link != rev, changelog, rev, 7, into)
 }
 
 /// Adds the changesets that link to another than themselves.
@@ -85,9 +113,22 @@ pub fn add_links(
     ensures { OnOk result (findings_in into.new.items ≡ findings_in into.old.items ++ each_from (of_link changelog.now) 0 reading.now.log.entries) }
 {
     for rev in 0..reading.log.len() {
-        add_if(alloc, reading.log.entry(rev).link != rev, changelog, rev, 7, into)?;
+        add_link(alloc, changelog, rev, reading.log.entry(rev), into)?;
     }
     Ok(())
+}
+
+// Adds a revision of the manifest whose text can't be read, or has a path that may not be tracked.
+fn add_tree(
+    alloc: Global,
+    manifest: &StorePath,
+    rev: u32,
+    tree: &Option<Manifest>,
+    into: &mut Vec<Finding>,
+) -> Result<(), AllocError>
+    ensures { OnOk result (findings_in into.new.items ≡ findings_in into.old.items ++ of_tree manifest.now rev tree.now) }
+{
+    add_if(alloc, !is_sound(tree), manifest, rev, 4, into)
 }
 
 /// Adds the revisions of the manifest whose texts can't be read, or have a path that may not be tracked.
@@ -101,7 +142,7 @@ pub fn add_trees(
     ensures { OnOk result (findings_in into.new.items ≡ findings_in into.old.items ++ each_from (of_tree manifest.now) 0 trees.now) }
 {
     for (rev, tree) in trees.iter().enumerate() {
-        add_if(alloc, !is_sound(tree), manifest, rev as u32, 4, into)?;
+        add_tree(alloc, manifest, rev as u32, tree, into)?;
     }
     Ok(())
 }

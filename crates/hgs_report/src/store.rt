@@ -1,5 +1,6 @@
 //! What is read of a store before its filelogs, and what is found of it.
-ghost use Rattle.std.specs.Prelude.{◌≡◌, ◌<◌, ◌^◌, ◌++◌, length, OnOk};
+ghost use Rattle.std.specs.Prelude.{◌≡◌, ◌<◌, ◌^◌, ◌++◌, true, length, IfOk, OnOk};
+ghost use Rattle.hgs_files.specs.Path.{is_store_path};
 ghost use Rattle.hgs_files.specs.Tree.{Tree};
 ghost use Rattle.hgs_stands.specs.Places.{changelog_data, changelog_index, manifest_data, manifest_index};
 ghost use Rattle.hgs_judge.specs.Report.{findings_in};
@@ -9,7 +10,7 @@ ghost use Rattle.hgs_report.specs.Store.{IsOfStore, IsStoreOf};
 
 use crate::logs::{add_changesets, add_links, add_log, add_trees, manifest_kinds};
 use hgs_bytes::bytes::Bytes;
-use hgs_files::path::StorePath;
+use hgs_files::path::{NameFault, StorePath};
 use hgs_judge::changesets::Changeset;
 use hgs_judge::kinds::Kinds;
 use hgs_judge::reading::Reading;
@@ -52,6 +53,29 @@ pub struct LogPaths {
     ghost changelog_chunks_are: { changelog_chunks ≡ changelog_data },
     ghost manifest_is: { manifest ≡ manifest_index },
     ghost manifest_chunks_are: { manifest_chunks ≡ manifest_data },
+}
+
+// The path of these bytes, which are one.
+fn path_of(alloc: Global, bytes: &[u8]) -> Result<StorePath, AllocError>
+    requires { is_store_path bytes.now ≡ true }
+    ensures { IfOk result (λ path. path ≡ bytes.now) }
+{
+    match StorePath::new(alloc, bytes) {
+        Ok(path) => Ok(path),
+        Err(NameFault::Memory) => Err(AllocError),
+        Err(NameFault::Shape) => unreachable!(),
+    }
+}
+
+impl LogPaths {
+    pub fn new(alloc: Global) -> Result<LogPaths, AllocError> {
+        Ok(LogPaths {
+            changelog: path_of(alloc, b"store/00changelog.i")?,
+            changelog_chunks: path_of(alloc, b"store/00changelog.d")?,
+            manifest: path_of(alloc, b"store/00manifest.i")?,
+            manifest_chunks: path_of(alloc, b"store/00manifest.d")?,
+        })
+    }
 }
 
 // Adds what is found, of which these are the revisions of the manifest.
@@ -112,5 +136,6 @@ pub fn add_store(
         return Err(AllocError);
     }
     let kinds = manifest_kinds(alloc, &store.manifest.reading, &store.changesets)?;
-    add_all(alloc, paths, store, &kinds, into)
+    add_all(alloc, paths, store, &kinds, into)?;
+    Ok(())
 }
