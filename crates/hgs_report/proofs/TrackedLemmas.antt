@@ -25,7 +25,7 @@ use Rattle.hgs_report.specs.Lines.{has_key, tracked_in}
 use Rattle.hgs_report.proofs.EachLemmas.{never}
 use Rattle.hgs_report.proofs.StoreLemmas.{mapped-at, at-mapped}
 
-same-turned : (x y : List ℕ) → same x y ≡ same y x
+pub same-turned : (x y : List ℕ) → same x y ≡ same y x
 same-turned x y = by (same x y) refl (same y x) refl
   where
     by : (a : Bool) → same x y ≡ a → (b : Bool) → same y x ≡ b → a ≡ b

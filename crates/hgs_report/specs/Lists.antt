@@ -7,6 +7,7 @@ use Rattle.hgs_files.specs.Tree.{Tree as Files}
 use Rattle.hgs_index.specs.ChangeText.{Change}
 use Rattle.hgs_index.specs.Manifest.{Row}
 use Rattle.hgs_findings.specs.Reading.{sight_of}
+use Rattle.hgs_findings.specs.Regular.{is_used}
 use Rattle.hgs_findings.specs.Sight.{Seen, seen, is_wrongly_listed}
 use Rattle.hgs_judge.specs.declared.changesets.Changeset.{Changeset}
 use Rattle.hgs_judge.specs.declared.changesets.Tree.{Tree}
@@ -50,3 +51,9 @@ pub record AreLists (t : Files) (marks : List Bool) : Type 0 where
   pub count : length marks ≡ length (seen (sight_of t))
   pub are : (rev : ℕ) → slice_get marks rev ≡ Some true → ListsWrongly t rev
   pub all : (rev : ℕ) → ListsWrongly t rev → slice_get marks rev ≡ Some true
+
+-- The same of the paths that no tree has, and perhaps of others.
+pub record AreUnusedLists (t : Files) (marks : List Bool) : Type 0 where
+  pub count : length marks ≡ length (seen (sight_of t))
+  pub are : (rev : ℕ) → slice_get marks rev ≡ Some true → ListsWrongly t rev
+  pub all : (rev : ℕ) (w : ListsWrongly t rev) → is_used (sight_of t) w.path ≡ false → slice_get marks rev ≡ Some true

@@ -1,14 +1,20 @@
 -- The findings of the names of filelogs' files, as lists.
-use Rattle.std.specs.Prelude.{◌≡◌, ◌==◌, ℕ, List, [], ◌∷◌, ◌++◌, Bool, true, false, not, length, Option, Some, None, Vec, map, filter}
+use Rattle.std.specs.Prelude.{◌≡◌, ◌⊎◌, ◌==◌, ℕ, List, [], ◌∷◌, ◌++◌, Bool, true, false, not, length, Option, Some, None, Ok, Vec, is_some, map, filter}
 use Rattle.std.specs.BTreeSet.{BTreeSet}
 use Rattle.std.specs.List.{list_any}
 use Rattle.std.specs.declared.alloc.Global.{Global}
 use Rattle.hgs_bytes.specs.Bytes.{same, among}
 use Rattle.hgs_files.specs.Tree.{Tree, bytes_at}
 use Rattle.hgs_path.specs.declared.name.Ext.{Ext}
-use Rattle.hgs_path.specs.ListedNames.{listed_file}
+use Rattle.hgs_path.specs.declared.name.Ext.TheVariants.{I, D}
+use Rattle.hgs_path.specs.Fncache.{lists}
+use Rattle.hgs_path.specs.ListedNames.{listed_file, names_of}
 use Rattle.hgs_path.specs.StoreName.{listed_name, store_name}
-use Rattle.hgs_findings.specs.Findings.{Finding}
+use Rattle.hgs_stands.specs.Places.{fncache_path}
+use Rattle.hgs_findings.specs.Findings.{Finding, is_name_used, names_in}
+use Rattle.hgs_findings.specs.Reading.{sight_of}
+use Rattle.hgs_findings.specs.Regular.{is_used}
+use Rattle.hgs_findings.specs.Sight.{value}
 use Rattle.hgs_report.specs.Lines.{file_if, has_key}
 
 -- the list of names can be read and lacks that of a file
@@ -41,3 +47,23 @@ IsSetOf (Some names) (Some set) = (name : List ℕ) → has_key set.keys name �
 -- the files of the names that the set lacks
 abbrev pub unused_files : List (Vec ℕ Global) → List (List ℕ) → List (List ℕ)
 unused_files keys names = map listed_file (filter (λ name. not (has_key keys name)) names)
+
+-- the list can't be read
+pub data IsBadList (t : Tree) : List ℕ → Option ℕ → ℕ → Type 0 where
+  bad_list : is_some (value (names_of (bytes_at t fncache_path))) ≡ false → IsBadList t fncache_path None 4
+
+-- the findings of the names of files of one kind
+pub data IsNameOf (t : Tree) (ext : Ext) : List ℕ → Option ℕ → ℕ → Type 0 where
+  not_listed : (path : List ℕ) (names : List (List ℕ)) → is_used (sight_of t) path ≡ true → names_of (bytes_at t fncache_path) ≡ Ok names → lists names path ext ≡ false → IsNameOf t ext (store_name path ext) None 10
+  one_name : (path other : List ℕ) → is_used (sight_of t) path ≡ true → is_used (sight_of t) other ≡ true → same other path ≡ false → same (store_name other ext) (store_name path ext) ≡ true → IsNameOf t ext (store_name path ext) None 11
+
+abbrev pub IsOfNames : Tree → List ℕ → Option ℕ → ℕ → Type 0
+IsOfNames t file rev kind = (IsBadList t file rev kind ⊎ IsNameOf t I file rev kind) ⊎ IsNameOf t D file rev kind
+
+-- the files of the listed names that no path uses
+abbrev pub unused_in : Tree → List (List ℕ)
+unused_in t = map listed_file (filter (λ name. not (is_name_used (sight_of t) name)) (names_in t))
+
+-- those that stand
+pub data IsOfUnused (t : Tree) : List ℕ → Option ℕ → ℕ → Type 0 where
+  standing : (file : List ℕ) → among file (unused_in t) ≡ true → (length (bytes_at t file) == 0) ≡ false → IsOfUnused t file None 12

@@ -1,14 +1,23 @@
 //! The lists of changed files.
 ghost use Rattle.std.specs.Prelude.{◌≡◌, ◌<◌, ◌^◌, ◌++◌, length, map, IfOk, OnOk};
 ghost use Rattle.std.specs.List.{list_all};
+ghost use Rattle.hgs_files.specs.Tree.{Tree as Files};
+ghost use Rattle.hgs_stands.specs.Places.{changelog_index};
+ghost use Rattle.hgs_findings.specs.Reading.{sight_of};
+ghost use Rattle.hgs_findings.specs.Regular.{used_paths};
+ghost use Rattle.hgs_report.specs.Adds.{Adds};
+ghost use Rattle.hgs_report.specs.Parts.{IsOfLists};
+ghost use Rattle.hgs_report.specs.Store.{IsStoreOf};
 ghost use Rattle.hgs_judge.specs.Report.{each_from, findings_in};
-ghost use Rattle.hgs_report.specs.Lists.{has_path, has_unused, is_read, lists_unused, parent_is_read};
+ghost use Rattle.hgs_report.specs.Lists.{AreLists, AreUnusedLists, has_path, has_unused, is_read, lists_unused, parent_is_read};
 ghost use Rattle.hgs_report.specs.Lines.{of_mark};
 
+use crate::store::Store;
 use hgs_bytes::bytes::Bytes;
 use hgs_bytes::names::Names;
 use hgs_files::path::StorePath;
 use hgs_judge::changesets::{Changeset, Tree};
+use hgs_judge::laws::tracked_trees;
 use hgs_judge::report::{Finding, add_if};
 use hgs_manifest::manifest::Manifest;
 use std::alloc::{AllocError, Global};
@@ -84,9 +93,9 @@ fn lists_unused(
         && has_unused(used, &changeset.files)
 }
 
-/// For each changeset, whether its list of changed files has a path that no tree has, where its tree and those of its
-/// parents can be read.
-pub fn unused_lists(
+// For each changeset, whether its list of changed files has a path that no tree has, where its tree and those of its
+// parents can be read.
+fn unused_lists(
     alloc: Global,
     changesets: &[Changeset],
     trees: &[Option<Manifest>],
@@ -123,11 +132,25 @@ pub fn add_marked(
     marks: &[bool],
     into: &mut Vec<Finding>,
 ) -> Result<(), AllocError>
-    ensures { OnOk result (findings_in into.new.items ≡ findings_in into.old.items ++ each_from (of_mark path.now) 0 marks.now) }
+    requires { path.now ≡ changelog_index }
+    ensures { OnOk result ((t : Files) → AreLists t marks.now → Adds t (IsOfLists t) (findings_in into.old.items) (findings_in into.new.items)) }
 {
     if marks.len() >= MOST {
         return Err(AllocError);
     }
     add_known(alloc, path, marks, into)?;
     Ok(())
+}
+
+/// For each changeset, whether its list of changed files has a path that no tree has where it is wrong.
+pub fn wrong_lists(
+    alloc: Global,
+    store: &Store,
+    used: &BTreeSet<Bytes>,
+) -> Result<Vec<bool>, AllocError>
+    ensures { IfOk result (λ marks. (t : Files) → IsStoreOf store.now t → used.now.keys ≡ used_paths (sight_of t) → AreUnusedLists t marks.items) }
+{
+    tracked_trees();
+    let marks = unused_lists(alloc, &store.changesets, &store.trees, used)?;
+    Ok(marks)
 }

@@ -1,22 +1,28 @@
 //! The names of filelogs' files: that the list has them, that no two are one, and that each of the list is used.
-ghost use Rattle.std.specs.Prelude.{◌≡◌, ◌||◌, ◌++◌, List, ℕ, [], ◌∷◌, true, Option, IfOk, OnOk, map};
+ghost use Rattle.std.specs.Prelude.{◌≡◌, ◌||◌, ◌++◌, List, ℕ, [], ◌∷◌, true, Option, IfOk, IfSome, OnOk, unwrap_or};
 ghost use Rattle.std.specs.List.{AllByRecursion};
 ghost use Rattle.hgs_findings.specs.Sight.{value};
 ghost use Rattle.hgs_path.specs.declared.name.Ext.{Ext as NameExt};
 ghost use Rattle.hgs_path.specs.ListedNames.{is_listed, names_of};
 ghost use Rattle.hgs_path.specs.StoreName.{listed_name, store_name};
+ghost use Rattle.hgs_files.specs.Tree.{Tree, bytes_at};
+ghost use Rattle.hgs_stands.specs.Places.{fncache_path};
+ghost use Rattle.hgs_findings.specs.Reading.{sight_of};
+ghost use Rattle.hgs_findings.specs.Regular.{used_paths};
 ghost use Rattle.hgs_judge.specs.Report.{findings_in};
+ghost use Rattle.hgs_report.specs.Adds.{Adds};
 ghost use Rattle.hgs_bytes.specs.Bytes.{same};
 ghost use Rattle.hgs_report.specs.Lines.{has_key};
-ghost use Rattle.hgs_report.specs.Names.{IsSetOf, is_named, is_taken, lacks, of_name, of_names, unused_files};
+ghost use Rattle.hgs_report.specs.Names.{IsOfNames, IsSetOf, is_named, is_taken, lacks, of_name, of_names, unused_files, unused_in};
 
 use crate::lines::add_file;
-use crate::sets::enter;
+use crate::sets::{enter, set_of};
 use hgs_bytes::bytes::Bytes;
 use hgs_bytes::names::Names;
 use hgs_files::path::StorePath;
 use hgs_judge::report::Finding;
 use hgs_path::fncache::FncacheFault;
+use hgs_path::laws::listed_names_name_files;
 use hgs_path::listed::{listed_file, listed_names};
 use hgs_path::name::{Ext, listed_name, store_name};
 use std::alloc::{AllocError, Global};
@@ -111,8 +117,8 @@ fn add_unused(
     Ok(())
 }
 
-/// The files of the names that the set lacks.
-pub fn unused_files(
+// The files of the names that the set lacks.
+fn unused_files(
     alloc: Global,
     names: &Names,
     used: &BTreeSet<Vec<u8>>,
@@ -124,5 +130,59 @@ pub fn unused_files(
     for name in names.as_slice() {
         add_unused(alloc, name.as_slice(), used, &mut files)?;
     }
+    Ok(files)
+}
+
+// The set of the names, where there are any.
+fn set_in(
+    alloc: Global,
+    names: &Option<Names>,
+) -> Result<Option<BTreeSet<Vec<u8>>>, AllocError>
+    ensures { IfOk result (λ set. IsSetOf names.now set) }
+{
+    match names {
+        None => Ok(None),
+        Some(names) => {
+            let set = set_of(alloc, names.as_slice())?;
+            Ok(Some(set))
+        }
+    }
+}
+
+// The files of the names that the set lacks, where there are any.
+fn files_lacking(
+    alloc: Global,
+    names: &Option<Names>,
+    used: &BTreeSet<Vec<u8>>,
+) -> Result<Vec<StorePath>, AllocError>
+    requires { IfSome names.now (λ listed. AllByRecursion (λ name. is_listed name ≡ true) listed) }
+    ensures { IfOk result (λ files. files.items ≡ unused_files used.now.keys (unwrap_or names.now [])) }
+{
+    match names {
+        None => Ok(Vec::new(alloc)),
+        Some(names) => unused_files(alloc, names, used),
+    }
+}
+
+/// Adds what is found of the list, whose path and text these are, and of the names of the used paths' files, and hands back
+/// the files of the listed names that no path uses.
+pub fn add_used_names(
+    alloc: Global,
+    path: &StorePath,
+    text: &[u8],
+    used: &BTreeSet<Bytes>,
+    into: &mut Vec<Finding>,
+) -> Result<Vec<StorePath>, AllocError>
+    requires { path.now ≡ fncache_path }
+    ensures found { OnOk result ((t : Tree) → text.now ≡ bytes_at t fncache_path → used.now.keys ≡ used_paths (sight_of t) → Adds t (IsOfNames t) (findings_in into.old.items) (findings_in into.new.items)) }
+    ensures unused { IfOk result (λ files. (t : Tree) → text.now ≡ bytes_at t fncache_path → used.now.keys ≡ used_paths (sight_of t) → files.items ≡ unused_in t) }
+{
+    listed_names_name_files();
+    let names = names_in(alloc, text)?;
+    add_file(alloc, names.is_none(), path, 4, into)?;
+    let listed = set_in(alloc, &names)?;
+    let indexes = add_names(alloc, used, Ext::I, &listed, BTreeSet::new(alloc), into)?;
+    let named = add_names(alloc, used, Ext::D, &listed, indexes, into)?;
+    let files = files_lacking(alloc, &names, &named)?;
     Ok(files)
 }
