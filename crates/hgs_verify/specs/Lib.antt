@@ -1,4 +1,4 @@
 pub mod Added
 pub mod Filelog
-pub mod Store
+pub mod Report
 pub mod Walk

@@ -3,6 +3,8 @@
 
 pub mod filelog;
 pub mod one;
+pub mod report;
 pub mod store;
+pub mod texts;
 pub mod walk;
 pub mod whole;

@@ -9,10 +9,10 @@ ghost use Rattle.hgs_findings.specs.OnePath as findings;
 ghost use Rattle.hgs_findings.specs.Reading.{sight_of};
 ghost use Rattle.hgs_verify.specs.Added.{AddsPath};
 ghost use Rattle.hgs_verify.specs.Filelog.{IsJudgedIn, OfTree};
-ghost use Rattle.hgs_verify.specs.Store.{IsStoreOf};
+ghost use Rattle.hgs_report.specs.Store.{IsStoreOf};
 
 use crate::filelog::{Judged, judge_filelog};
-use crate::store::Store;
+use hgs_report::store::Store;
 use hgs_files::files::Reads;
 use hgs_judge::laws::added_findings;
 use hgs_judge::path::PathFindings;

@@ -4,11 +4,11 @@ ghost use Rattle.hgs_files.specs.Reads.{Grows};
 ghost use Rattle.hgs_reader.specs.Answer.{HasFaultCause};
 ghost use Rattle.hgs_judge.specs.Report.{findings_in};
 ghost use Rattle.hgs_verify.specs.Filelog.{OfTree};
-ghost use Rattle.hgs_verify.specs.Store.{IsStoreOf};
+ghost use Rattle.hgs_report.specs.Store.{IsStoreOf};
 ghost use Rattle.hgs_verify.specs.Walk.{AddPaths, AreMarked};
 
 use crate::one::judge_one;
-use crate::store::Store;
+use hgs_report::store::Store;
 use hgs_bytes::bytes::Bytes;
 use hgs_files::files::Reads;
 use hgs_judge::report::Finding;

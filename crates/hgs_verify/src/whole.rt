@@ -1,13 +1,14 @@
 //! Files that are read whole, however long they are.
-ghost use Rattle.std.specs.Prelude.{◌≡◌, IfOk, IfSome, true};
-ghost use Rattle.hgs_files.specs.Reads.{Grows};
+ghost use Rattle.std.specs.Prelude.{◌≡◌, ◌<◌, ◌^◌, IfOk, IfSome, true};
+ghost use Rattle.hgs_files.specs.Reads.{Grows, IsSizeOf};
 ghost use Rattle.hgs_files.specs.Tree.{after_all};
 ghost use Rattle.hgs_reader.specs.Answer.{HasFaultCause};
 
 use hgs_bytes::bytes::Bytes;
 use hgs_files::files::Reads;
 use hgs_files::path::StorePath;
-use hgs_reader::answer::ReadAnswer;
+use hgs_index::kinds::Which;
+use hgs_reader::answer::{ReadAnswer, of_files};
 use hgs_reader::ask::{bytes_of, read_part};
 use std::alloc::Global;
 
@@ -31,4 +32,37 @@ pub fn read_file<R: Reads>(
         return Err(ReadAnswer::Memory);
     }
     Ok(part)
+}
+
+/// The bytes of a file, none where it isn't there. One with more than `most` bytes is refused.
+pub fn read_text<R: Reads>(
+    alloc: Global,
+    files: &mut R,
+    path: &StorePath,
+    most: u64,
+) -> Result<Option<Bytes>, ReadAnswer>
+    requires { most < 2 ^ 32 }
+    ensures bytes { IfOk result (λ bytes. IfSome (R.seen files.new) (λ log. bytes ≡ after_all log (R.start files.new) path.now)) }
+    ensures same_start { R.start files.new ≡ R.start files.old }
+    ensures still { R.alone ≡ true → R.seen files.new ≡ R.seen files.old }
+    ensures cause { HasFaultCause (R.faults files.old) (R.faults files.new) (R.denied files.old) (R.denied files.new) result }
+{
+    let part = read_part(alloc, files, path, 0, most + 1)?;
+    if bytes_of(&part).len() as u64 > most {
+        return Err(ReadAnswer::Limit(Which::Part));
+    }
+    Ok(part)
+}
+
+/// The length of a file in bytes, none where it isn't there. Takes no memory.
+pub fn size_of<R: Reads>(files: &mut R, path: &StorePath) -> Result<Option<u64>, ReadAnswer>
+    ensures size { IfOk result (λ size. IfSome (R.seen files.new) (λ log. IsSizeOf (after_all log (R.start files.new) path.now) size)) }
+    ensures same_start { R.start files.new ≡ R.start files.old }
+    ensures still { R.alone ≡ true → R.seen files.new ≡ R.seen files.old }
+    ensures cause { HasFaultCause (R.faults files.old) (R.faults files.new) (R.denied files.old) (R.denied files.new) result }
+{
+    match files.size(path) {
+        Ok(size) => Ok(size),
+        Err(fault) => Err(of_files(fault)),
+    }
 }
