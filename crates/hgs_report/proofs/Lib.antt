@@ -3,6 +3,7 @@ pub mod LineLemmas
 pub mod ListLemmas
 pub mod NameLemmas
 pub mod PartLemmas
+pub mod StandLemmas
 pub mod StoreLemmas
 pub mod TextLemmas
 pub mod TrackedLemmas

@@ -1,3 +1,4 @@
 pub mod FileLemmas
 pub mod PathAdded
 pub mod TextLemmas
+pub mod WalkLemmas

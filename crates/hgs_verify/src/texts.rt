@@ -6,6 +6,7 @@ ghost use Rattle.hgs_judge.specs.Report.{findings_in};
 ghost use Rattle.hgs_reader.specs.Answer.{HasFaultCause};
 ghost use Rattle.hgs_report.specs.Adds.{Adds};
 ghost use Rattle.hgs_report.specs.Names.{IsOfNames, unused_in};
+ghost use Rattle.hgs_report.specs.Parts.{IsOfCalls};
 ghost use Rattle.hgs_report.specs.Store.{IsStoreOf};
 ghost use Rattle.hgs_report.specs.Texts.{IsOfBookmarks, IsOfDirstate, IsOfRoots};
 ghost use Rattle.hgs_verify.specs.Filelog.{OfTree};
@@ -19,6 +20,7 @@ use hgs_judge::report::Finding;
 use hgs_reader::answer::ReadAnswer;
 use hgs_reader::ask::bytes_of;
 use hgs_reader::paths::path_of;
+use hgs_report::laws::calls_that_stand;
 use hgs_report::lines::add_file;
 use hgs_report::names::add_used_names;
 use hgs_report::small::{add_bookmarks, add_roots, add_working};
@@ -107,8 +109,8 @@ pub fn add_names_file<R: Reads>(
     Ok(unused)
 }
 
-/// Adds a file where it stands.
-pub fn add_standing<R: Reads>(
+// Adds a file where it stands.
+fn add_standing<R: Reads>(
     alloc: Global,
     files: &mut R,
     path: &StorePath,
@@ -157,5 +159,26 @@ pub fn add_unused<R: Reads>(
     for path in unused {
         add_unused_file(alloc, files, path, into)?;
     }
+    Ok(())
+}
+
+/// Adds the journal and the locks that stand.
+pub fn add_calls<R: Reads>(
+    alloc: Global,
+    files: &mut R,
+    into: &mut Vec<Finding>,
+) -> Result<(), ReadAnswer>
+    ensures added { OnOk result (OfTree R.alone (R.seen files.new) (R.start files.new) (λ t. Adds t (IsOfCalls t) (findings_in into.old.items) (findings_in into.new.items))) }
+    ensures same_start { R.start files.new ≡ R.start files.old }
+    ensures still { R.alone ≡ true → R.seen files.new ≡ R.seen files.old }
+    ensures cause { HasFaultCause (R.faults files.old) (R.faults files.new) (R.denied files.old) (R.denied files.new) result }
+{
+    calls_that_stand();
+    let journal = path_of(alloc, b"store/journal")?;
+    let working_lock = path_of(alloc, b"wlock")?;
+    let store_lock = path_of(alloc, b"store/lock")?;
+    add_standing(alloc, files, &journal, 1, into)?;
+    add_standing(alloc, files, &working_lock, 2, into)?;
+    add_standing(alloc, files, &store_lock, 2, into)?;
     Ok(())
 }
