@@ -6,6 +6,7 @@ use Rattle.hgs_judge.specs.Report.{findings_in}
 use Rattle.hgs_report.specs.Adds.{Adds}
 use Rattle.hgs_report.specs.Lines.{file_if}
 use Rattle.hgs_report.specs.Names.{IsOfNames, IsOfUnused}
+use Rattle.hgs_report.specs.Parts.{IsOfLists, IsOfPaths}
 use Rattle.hgs_report.specs.Texts.{IsOfBookmarks, IsOfDirstate, IsOfRoots}
 use Rattle.hgs_verify.specs.declared.report.Report.{Report}
 
@@ -37,3 +38,9 @@ pub record AddsBeside (t : Tree) (old new : List Finding) : Type 0 where
   pub named : List Finding
   pub names : Adds t (IsOfNames t) old named
   pub unused : Adds t (IsOfUnused t) named new
+
+-- the used paths, and the lists of changed files
+pub record AddsPaths (t : Tree) (old new : List Finding) : Type 0 where
+  pub judged : List Finding
+  pub paths : Adds t (IsOfPaths t) old judged
+  pub lists : Adds t (IsOfLists t) judged new

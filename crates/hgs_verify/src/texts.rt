@@ -1,5 +1,7 @@
 //! The small files of a store, and what is found of them.
-ghost use Rattle.std.specs.Prelude.{◌≡◌, ◌++◌, IfOk, OnOk, true};
+ghost use Rattle.std.specs.Prelude.{◌≡◌, ◌++◌, IfOk, OnOk, Ok, true, option_map};
+ghost use Rattle.hgs_reader.specs.Open.{requires_path};
+ghost use Rattle.hgs_reader.specs.Requirements.{requires_answer};
 ghost use Rattle.hgs_findings.specs.Reading.{sight_of};
 ghost use Rattle.hgs_findings.specs.Regular.{used_paths};
 ghost use Rattle.hgs_judge.specs.Report.{findings_in};
@@ -20,6 +22,7 @@ use hgs_judge::report::Finding;
 use hgs_reader::answer::ReadAnswer;
 use hgs_reader::ask::bytes_of;
 use hgs_reader::paths::path_of;
+use hgs_reader::requirements::test_requirements;
 use hgs_report::laws::calls_that_stand;
 use hgs_report::lines::add_file;
 use hgs_report::names::add_used_names;
@@ -29,6 +32,8 @@ use std::alloc::Global;
 use std::collections::BTreeSet;
 
 /// The numbers of bytes above which a file is refused.
+const MOST_REQUIRES: u64 = 65_536;
+
 const MOST_BOOKMARKS: u64 = 16_777_216;
 
 const MOST_DIRSTATE: u64 = 33_554_432;
@@ -181,4 +186,29 @@ pub fn add_calls<R: Reads>(
     add_standing(alloc, files, &working_lock, 2, into)?;
     add_standing(alloc, files, &store_lock, 2, into)?;
     Ok(())
+}
+
+// What a read gave, as a slice.
+fn slice_of(text: &Option<Bytes>) -> Option<&[u8]>
+    ensures { option_map (λ p. p.now) result ≡ text.now }
+{
+    match text {
+        Some(bytes) => Some(bytes.as_slice()),
+        None => None,
+    }
+}
+
+/// Tests what the repository requires. It is refused as none where `requires` isn't there.
+pub fn test_requires<R: Reads>(alloc: Global, files: &mut R) -> Result<(), ReadAnswer>
+    ensures required { OnOk result (OfTree R.alone (R.seen files.new) (R.start files.new) (λ t. requires_answer (t requires_path) ≡ Ok tt)) }
+    ensures same_start { R.start files.new ≡ R.start files.old }
+    ensures still { R.alone ≡ true → R.seen files.new ≡ R.seen files.old }
+    ensures cause { HasFaultCause (R.faults files.old) (R.faults files.new) (R.denied files.old) (R.denied files.new) result }
+{
+    let path = path_of(alloc, b"requires")?;
+    let text = read_text(alloc, files, &path, MOST_REQUIRES)?;
+    match test_requirements(alloc, slice_of(&text)) {
+        Ok(()) => Ok(()),
+        Err(refusal) => Err(refusal),
+    }
 }
