@@ -1,5 +1,5 @@
 -- What many paths add is what is found of them.
-use Rattle.std.proofs.Common.{◌≡◌, ◌⊎◌, ℕ, zero, suc, ◌<◌, List, [], ◌∷◌, Bool, true, false, ◌||◌, map, length, refl, sym, ◌∙◌, ap, subst, inl, inr, arith}
+use Rattle.std.proofs.Common.{◌≡◌, ◌⊎◌, ℕ, zero, suc, ◌<◌, List, [], ◌∷◌, ◌++◌, Bool, true, false, ◌||◌, map, take, length, refl, sym, ◌∙◌, ap, subst, inl, inr, arith}
 use Rattle.std.specs.Prelude.{Option, Some, None, option_map, slice_get, slice_index_or, ◌==◌}
 use Rattle.std.specs.List.{AllByRecursion, list_any}
 use Rattle.std.specs.Cmp.Lexicographic.{bytes_decides}
@@ -210,3 +210,9 @@ module _ (t : Tree) where
             by : (b : Bool) → is_used (sight_of t) w.path ≡ b → slice_get marked rev ≡ Some true
             by true e = or-at marked rev (marks-all paths old new marks marked a rev below w.path (ap (among w.path) is ∙ e) (is-wrong rev w))
             by false e = or-at marked rev (marks-kept paths old new marks marked a rev below (at-or marks rev (u.all rev w e)))
+
+pub take-front : {A : Type 0} (n : ℕ) (xs ys : List A) → n ≡ length xs → take n (xs ++ ys) ≡ xs
+take-front zero [] ys e = refl
+take-front (suc n) [] ys e = absurd (omega (arith, e))
+take-front zero (x ∷ xs) ys e = absurd (omega (arith, e))
+take-front (suc n) (x ∷ xs) ys e = ap (λ l. x ∷ l) (take-front n xs ys (omega (arith, e)))

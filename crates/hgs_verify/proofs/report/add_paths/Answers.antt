@@ -1,4 +1,4 @@
-use Rattle.std.proofs.Common.{◌≡◌, ◌∙◌, ap, subst, sym}
+use Rattle.std.proofs.Common.{◌≡◌, length, ◌∙◌, ap, subst, sym}
 use Rattle.hgs_findings.specs.Reading.{sight_of}
 use Rattle.hgs_findings.specs.Regular.{used_paths}
 use Rattle.hgs_judge.specs.Report.{findings_in}
@@ -7,7 +7,7 @@ use Rattle.hgs_report.specs.Store.{IsStoreOf}
 use Rattle.hgs_verify.specs.Report.{AddsPaths}
 use Rattle.hgs_verify.specs.Walk.{AddPaths}
 use Rattle.hgs_verify.proofs.PathAdded.{if-each}
-use Rattle.hgs_verify.proofs.WalkLemmas.{lists-marked, paths-added}
+use Rattle.hgs_verify.proofs.WalkLemmas.{lists-marked, paths-added, take-front}
 use Rattle.hgs_verify.proofs.report.add_paths.Goals as goal
 
 pub returns-clause-added : goal.returns-clause-added
@@ -26,6 +26,6 @@ returns-clause-added g c = λ alone.
         record {
           judged = mid;
           paths = paths-added c.path_findings.ensures t keys old mid before after used (p is);
-          lists = c.in_ok-add_marked.ensures t (subst (AreLists t) (sym (c.deref.ensures.value ∙ c.deref_mut.ensures.writes_back)) lists);
+          lists = c.in_ok-add_marked.ensures t (subst (AreLists t) (sym (c.deref.ensures.value ∙ take-front c.in_ok-marks.marks.len after _ (c.in_ok-marks.marks.ok.0 ∙ ap length (sym c.deref_mut.ensures.value) ∙ unused.count ∙ sym lists.count))) lists);
         })
     (c.in_ok-judge_paths.ensures.added alone)
