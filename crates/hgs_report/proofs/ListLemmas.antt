@@ -1,16 +1,15 @@
 -- The lists of changed files.
-use Rattle.std.proofs.Common.{◌≡◌, ◌⊎◌, ℕ, zero, suc, ◌+◌, List, [], ◌∷◌, ◌++◌, Bool, true, false, cond, ◌&&◌, ◌||◌, not, map, length, refl, sym, ◌∙◌, ap, subst, inl, inr, arith}
+use Rattle.std.proofs.Common.{◌≡◌, ℕ, ◌+◌, List, [], ◌∷◌, ◌++◌, Bool, true, false, cond, ◌&&◌, ◌||◌, not, map, length, refl, sym, ◌∙◌, ap, subst, arith}
 use Rattle.std.specs.Prelude.{Option, Some, None, is_some, option_map, slice_get, find, unwrap_or}
 use Rattle.std.specs.List.{list_any, list_all}
-use Rattle.std.specs.Cmp.Lexicographic.{bytes_decides, slice_cmp, texts_ties}
-use Rattle.std.specs.Ordering.{nat_cmp, is_eq}
+use Rattle.std.specs.Cmp.Lexicographic.{bytes_decides, texts_ties}
 use Rattle.std.proofs.lemmas.List.{length-map}
 use Rattle.std.proofs.lemmas.Option.{slice_get-map}
 use Rattle.hgs_bytes.specs.Bytes.{same, among}
 use Rattle.hgs_files.specs.Tree.{Tree as Files}
 use Rattle.hgs_index.specs.ChangeText.{Change}
 use Rattle.hgs_index.specs.Manifest.{Row}
-use Rattle.hgs_index.specs.Revision.{Revision, Parents}
+use Rattle.hgs_index.specs.Revision.{Revision}
 use Rattle.hgs_stands.specs.Places.{changelog_index}
 use Rattle.hgs_findings.specs.Findings as findings
 use Rattle.hgs_findings.specs.Findings.{Finding, IsFinding, is_finding}
@@ -18,7 +17,6 @@ use Rattle.hgs_findings.specs.Reading.{sight_of}
 use Rattle.hgs_findings.specs.Regular.{rows_of_seen, used_paths, is_used}
 use Rattle.hgs_findings.specs.Sight.{Sight, Seen, Use, unknown, absent, row_paths, tracked_rows, seen, seen_of, use_of, use_at, use_in, use_of_row, use_of_seen, lists_wrongly, is_wrongly_listed}
 use Rattle.hgs_judge.specs.declared.changesets.Changeset.{Changeset}
-use Rattle.hgs_judge.specs.declared.changesets.Tree.{Tree}
 use Rattle.hgs_judge.specs.Changesets.{changeset_as, files_of}
 use Rattle.hgs_judge.specs.Report.{each_from, one_if}
 use Rattle.hgs_judge.specs.Trees.{rows_in_tree, rows_read}

@@ -4,13 +4,13 @@ use Rattle.std.specs.Prelude.{Option, Some, None, Vec, slice_get, filter}
 use Rattle.std.specs.List.{AllByRecursion}
 use Rattle.std.specs.BTreeSet.{BTreeSet}
 use Rattle.std.specs.declared.alloc.Global.{Global}
-use Rattle.hgs_bytes.specs.Bytes.{same, among}
+use Rattle.hgs_bytes.specs.Bytes.{same}
 use Rattle.hgs_path.specs.declared.name.Ext.{Ext}
 use Rattle.hgs_path.specs.ListedNames.{listed_file}
-use Rattle.hgs_path.specs.StoreName.{listed_name, store_name}
+use Rattle.hgs_path.specs.StoreName.{store_name}
 use Rattle.hgs_findings.specs.Findings.{Finding}
 use Rattle.hgs_report.specs.Lines.{file_if, has_key}
-use Rattle.hgs_report.specs.Names.{IsSetOf, lacks, is_named, is_taken, of_name, of_names, unused_files}
+use Rattle.hgs_report.specs.Names.{IsSetOf, lacks, is_taken, of_name, of_names, unused_files}
 
 -- those that are left, behind those that were entered
 pub record Went (listed : Option (BTreeSet (Vec ℕ Global))) (ext : Ext) (all left : List (List ℕ)) (start now : List Finding) (taken : List (Vec ℕ Global)) : Type 0 where

@@ -1,5 +1,5 @@
 -- The parts of the findings of a tree are all of them.
-use Rattle.std.proofs.Common.{◌≡◌, ◌⊎◌, ℕ, zero, suc, ◌+◌, List, [], ◌∷◌, ◌++◌, Bool, true, false, cond, not, ◌&&◌, ◌||◌, map, length, refl, sym, ◌∙◌, ap, subst, inl, inr, arith}
+use Rattle.std.proofs.Common.{◌≡◌, ◌⊎◌, ℕ, zero, suc, ◌+◌, List, [], ◌∷◌, ◌++◌, Bool, true, false, cond, not, ◌||◌, map, length, refl, sym, ◌∙◌, ap, subst, inl, inr}
 use Rattle.std.specs.Prelude.{Option, Some, None, Result, Ok, Err, is_some, is_none, option_map, unwrap_or, slice_get, find, filter, flat_map}
 use Rattle.std.specs.List.{AllByRecursion, list_any}
 use Rattle.std.specs.Cmp.Lexicographic.{bytes_decides, slice_cmp, texts_ties}
@@ -9,21 +9,20 @@ use Rattle.std.specs.Ordering.{nat_cmp, is_lt, is_eq}
 use Rattle.std.proofs.lemmas.Cmp.{nat_list_cmp_total}
 use Rattle.hgs_bytes.specs.Bytes.{same, among, is_below}
 use Rattle.hgs_bytes.specs.Text.{Line as TextLine, lines_of}
-use Rattle.hgs_files.specs.Tree.{Tree, bytes_at}
+use Rattle.hgs_files.specs.Tree.{Tree}
 use Rattle.hgs_index.specs.declared.texts.ManifestFault.{ManifestFault}
 use Rattle.hgs_index.specs.declared.texts.ManifestFault.TheVariants.{Line, Order}
 use Rattle.hgs_index.specs.Manifest.{Row, read_manifest, rows_from, row_then, with_row, row_at}
 use Rattle.hgs_index.specs.Revision.{Revision}
 use Rattle.hgs_index.specs.TrackedPath.{is_tracked}
 use Rattle.hgs_model.specs.History.{inserted, in_order, text_at}
-use Rattle.hgs_path.specs.declared.name.Ext.{Ext}
 use Rattle.hgs_path.specs.declared.name.Ext.TheVariants.{I, D}
 use Rattle.hgs_path.specs.ListedNames.{listed_file}
 use Rattle.hgs_findings.specs.Findings as findings
 use Rattle.hgs_findings.specs.Findings.{Finding, IsFinding, IsReport, is_finding, rise, is_name_used, names_in}
-use Rattle.hgs_findings.specs.Namings.{Naming, is_unneeded, is_misplaced, is_wrongly_made}
+use Rattle.hgs_findings.specs.Namings.{is_unneeded, is_misplaced, is_wrongly_made}
 use Rattle.hgs_findings.specs.OnePath.{word_of, words, namings_of_words}
-use Rattle.hgs_findings.specs.Reading.{Log, the_changelog, the_manifest, the_filelog, sight_of}
+use Rattle.hgs_findings.specs.Reading.{the_changelog, the_manifest, the_filelog, sight_of}
 use Rattle.hgs_findings.specs.Regular.{rows_of_seen, used_paths, is_used, has_file}
 use Rattle.hgs_findings.specs.Sight.{Sight, Seen, value, place, row_paths, tracked_rows, has_null_manifest, rows_of, seen, seen_of, file_namings}
 use Rattle.hgs_judge.specs.Found as judge
@@ -37,7 +36,6 @@ use Rattle.hgs_report.specs.Store as store
 use Rattle.hgs_report.specs.Texts as texts
 use Rattle.hgs_report.proofs.EachLemmas.{never, in-front, in-back, this-is}
 use Rattle.hgs_report.proofs.StoreLemmas.{mapped-at, at-mapped}
-use Rattle.hgs_report.proofs.TrackedLemmas.{same-turned}
 
 -- ---- rows whose paths ascend
 

@@ -1,11 +1,11 @@
 -- Files that stand, and that were to be gone.
-use Rattle.std.proofs.Common.{◌≡◌, ◌⊎◌, ℕ, List, [], ◌∷◌, ◌++◌, Bool, true, false, cond, not, ◌||◌, map, length, append_assoc, refl, sym, ◌∙◌, ap, subst, inl, inr}
-use Rattle.std.specs.Prelude.{Option, Some, None, codes, is_some, filter, flat_map, ◌==◌}
+use Rattle.std.proofs.Common.{◌≡◌, ◌⊎◌, ℕ, List, [], ◌∷◌, ◌++◌, Bool, true, false, cond, not, ◌||◌, map, length, append_assoc, refl, sym, ◌∙◌, ap, inl, inr}
+use Rattle.std.specs.Prelude.{Option, None, codes, is_some, filter, flat_map, ◌==◌}
 use Rattle.std.specs.List.{list_any}
 use Rattle.std.specs.Cmp.Lexicographic.{bytes_decides}
 use Rattle.hgs_bytes.specs.Bytes.{same, among}
 use Rattle.hgs_files.specs.Tree.{Tree, bytes_at}
-use Rattle.hgs_journal.specs.Names.{journal_path, locks}
+use Rattle.hgs_journal.specs.Names.{journal_path}
 use Rattle.hgs_path.specs.ListedNames.{listed_file}
 use Rattle.hgs_findings.specs.Findings as findings
 use Rattle.hgs_findings.specs.Findings.{Finding, IsFinding, is_finding, is_name_used, names_in}

@@ -1,34 +1,32 @@
 -- What is added of the changelog and of the manifest is what is found of them.
 use Rattle.std.proofs.Common.{◌≡◌, ◌⊎◌, ℕ, zero, suc, ◌+◌, ◌<◌, List, [], ◌∷◌, ◌++◌, Bool, true, false, cond, ◌&&◌, ◌||◌, not, map, length, refl, sym, ◌∙◌, ap, subst, inl, inr, arith}
-use Rattle.std.specs.Prelude.{Option, Some, None, Ok, Err, is_some, is_none, option_map, slice_get, ◌==◌}
+use Rattle.std.specs.Prelude.{Option, Some, None, is_some, is_none, option_map, slice_get, ◌==◌}
 use Rattle.std.specs.List.{list_any}
 use Rattle.std.proofs.lemmas.List.{length-map}
 use Rattle.std.proofs.lemmas.Option.{slice_get-map, slice_get_within}
-use Rattle.hgs_files.specs.Tree.{Tree, bytes_at}
+use Rattle.hgs_files.specs.Tree.{Tree}
 use Rattle.hgs_index.specs.declared.entry.Entry.{Entry}
-use Rattle.hgs_index.specs.ChangeText.{Change, read_change}
-use Rattle.hgs_index.specs.Manifest.{Row}
-use Rattle.hgs_index.specs.Revision.{Revision, Parents}
+use Rattle.hgs_index.specs.ChangeText.{Change}
+use Rattle.hgs_index.specs.Revision.{Revision}
 use Rattle.hgs_model.specs.History as history
 use Rattle.hgs_revlog.specs.Loaded.{parents_in}
 use Rattle.hgs_stands.specs.Places.{changelog_index, changelog_data, manifest_index, manifest_data}
 use Rattle.hgs_findings.specs.Findings as findings
 use Rattle.hgs_findings.specs.Findings.{Finding, IsFinding, is_finding, is_looked_at}
-use Rattle.hgs_findings.specs.Namings.{is_unneeded, is_misplaced, is_wrongly_made}
-use Rattle.hgs_findings.specs.Reading.{Log, the_changelog, the_manifest, index_path, data_path, reading, sight_of, has_index_rest, has_data_rest}
-use Rattle.hgs_findings.specs.Regular.{are_tracked, is_change, is_manifest}
-use Rattle.hgs_findings.specs.Sight.{Seen, seen, seen_of, value, manifest_of_seen, manifest_namings}
+use Rattle.hgs_findings.specs.Reading.{Log, the_changelog, the_manifest, index_path, data_path, reading, sight_of}
+use Rattle.hgs_findings.specs.Regular.{are_tracked}
+use Rattle.hgs_findings.specs.Sight.{Seen, seen, seen_of, manifest_namings}
 use Rattle.hgs_judge.specs.declared.changesets.Changeset.{Changeset}
 use Rattle.hgs_judge.specs.declared.kinds.Kinds.{Kinds}
 use Rattle.hgs_judge.specs.Changesets.{changeset_as, files_of, tree_as}
 use Rattle.hgs_judge.specs.Kinds.{AreKinds, kinds_of}
-use Rattle.hgs_judge.specs.Read.{AreRead, revisions_in, links_in, links_of}
+use Rattle.hgs_judge.specs.Read.{links_in, links_of}
 use Rattle.hgs_judge.specs.Report.{one_if, each_from, of_kinds}
 use Rattle.hgs_judge.specs.Trees.{rows_read}
 use Rattle.hgs_report.specs.declared.store.ReadLog.{ReadLog}
 use Rattle.hgs_report.specs.declared.store.Store.{Store}
 use Rattle.hgs_report.specs.Adds.{Adds}
-use Rattle.hgs_report.specs.Logs.{of_log, of_read_log, names_manifest, lacks_manifest, of_changeset, of_link, of_tree, of_store}
+use Rattle.hgs_report.specs.Logs.{of_read_log, names_manifest, lacks_manifest, of_changeset, of_link, of_tree, of_store}
 use Rattle.hgs_report.specs.Store.{IsLogOf, IsStoreOf, IsOfStore, changelog_fault, manifest_fault, bad_changeset, bad_manifest, no_manifest, other_link, unneeded, misplaced, wrongly_made, changelog_index_rest, changelog_data_rest, manifest_index_rest, manifest_data_rest}
 use Rattle.hgs_report.proofs.EachLemmas.{never, both, either, any-append, in-front, in-back, split-any, IsOne, one-is, is-one, IsOf, is-of, of-is}
 
@@ -209,8 +207,12 @@ module _ (s : Store) (t : Tree) (is : IsStoreOf s t) where
       some-same a b g = ap (elim [ None ↦ a | Some z ↦ z ]) g
 
       by : (r : Revision) × (slice_get (sight_of t).changelog i ≡ Some r) → (r : Revision) × (slice_get (sight_of t).changelog i ≡ Some r) × (e.link ≡ r.link)
-      by f = (f.0, f.1, some-same e.link f.0.link
-          (sym (at-mapped (λ (x : Entry). x.link) s.changelog.reading.log.entries i e at) ∙ ap (λ l. slice_get l i) (log-links t the_changelog s.changelog is.changelog) ∙ at-mapped (λ (x : Revision). x.link) (sight_of t).changelog i f.0 f.1))
+      by f = (
+        f.0,
+        f.1,
+        some-same e.link f.0.link
+            (sym (at-mapped (λ (x : Entry). x.link) s.changelog.reading.log.entries i e at) ∙ ap (λ l. slice_get l i) (log-links t the_changelog s.changelog is.changelog) ∙ at-mapped (λ (x : Revision). x.link) (sight_of t).changelog i f.0 f.1),
+      )
 
   links-are : Found t (each_from (of_link changelog_index) 0 s.changelog.reading.log.entries)
   links-are file rev kind h =

@@ -1,10 +1,9 @@
 -- What is added of the small files is what is found of them.
-use Rattle.std.proofs.Common.{◌≡◌, ◌⊎◌, ℕ, zero, suc, ◌+◌, List, [], ◌∷◌, ◌++◌, Bool, true, false, ◌||◌, map, refl, sym, ◌∙◌, ap, subst, inl, inr, arith}
+use Rattle.std.proofs.Common.{◌≡◌, ◌⊎◌, ℕ, suc, ◌+◌, List, [], ◌++◌, Bool, true, false, ◌||◌, map, refl, sym, ◌∙◌, ap, subst, inl, inr, arith}
 use Rattle.std.specs.Prelude.{Option, Some, None, Result, Ok, Err, is_some, is_none, option_map, slice_get, unwrap_or}
 use Rattle.std.specs.List.{list_any}
 use Rattle.hgs_files.specs.Tree.{Tree, bytes_at}
 use Rattle.hgs_index.specs.Revision.{Revision}
-use Rattle.hgs_marks.specs.declared.fault.MarkFault.{MarkFault}
 use Rattle.hgs_marks.specs.Bookmarks.{Mark, mark_lines}
 use Rattle.hgs_marks.specs.Dirstate.{Dirstate, no_dirstate, read_dirstate}
 use Rattle.hgs_marks.specs.Lines.{mark_values}
@@ -15,11 +14,11 @@ use Rattle.hgs_findings.specs.Findings as findings
 use Rattle.hgs_findings.specs.Findings.{Finding, IsFinding, is_finding, roots_in, mark_lines_in, dirstate_in, known, is_unknown_parent, paths_at_node, tracks_others}
 use Rattle.hgs_findings.specs.Reading.{sight_of}
 use Rattle.hgs_findings.specs.Sight.{value, place}
-use Rattle.hgs_judge.specs.Report.{each_from, one_if}
+use Rattle.hgs_judge.specs.Report.{one_if}
 use Rattle.hgs_report.specs.Adds.{Adds}
-use Rattle.hgs_report.specs.Lines.{file_if, root_values, of_line, of_lines, is_unknown, of_dirstate}
+use Rattle.hgs_report.specs.Lines.{file_if, root_values, of_line, of_lines, of_dirstate}
 use Rattle.hgs_report.specs.Texts.{IsOfRoots, IsOfBookmarks, IsOfDirstate, bad_roots, unknown_root, bad_bookmarks, unknown_mark, bad_dirstate, unknown_parent, other_paths}
-use Rattle.hgs_report.proofs.EachLemmas.{never, in-front, in-back, split-any, IsOne, is-this, this-is, one-is, is-one, IsOf, is-of, of-is}
+use Rattle.hgs_report.proofs.EachLemmas.{never, in-front, in-back, split-any, IsOne, is-this, this-is, one-is, is-one, is-of, of-is}
 use Rattle.hgs_report.proofs.StoreLemmas.{list-added, moved, mapped-at, at-mapped}
 
 pub file-is : (is : Bool) (path : List ℕ) (kind : ℕ) (file : List ℕ) (rev : Option ℕ) (k : ℕ) → list_any (is_finding file rev k) (file_if is path kind) ≡ true → (is ≡ true) × IsOne path None kind file rev k

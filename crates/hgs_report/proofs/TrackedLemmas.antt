@@ -1,8 +1,8 @@
 -- Paths of rows, and sets of paths.
-use Rattle.std.proofs.Common.{◌≡◌, ℕ, zero, suc, ◌+◌, List, [], ◌∷◌, ◌++◌, Bool, true, false, cond, ◌&&◌, ◌||◌, not, nat_eq, take, map, length, refl, sym, ◌∙◌, ap, arith}
-use Rattle.std.specs.Prelude.{Vec, Option, Some, None, is_some, option_map, option_and_then, slice_get}
+use Rattle.std.proofs.Common.{◌≡◌, ℕ, zero, suc, List, [], ◌∷◌, Bool, true, false, cond, ◌&&◌, ◌||◌, not, nat_eq, take, map, length, refl, sym, ◌∙◌, ap, arith}
+use Rattle.std.specs.Prelude.{Vec, Option, Some, None, is_some, option_map, slice_get}
 use Rattle.std.specs.BTreeSet.{insert_key}
-use Rattle.std.specs.List.{list_any, list_all}
+use Rattle.std.specs.List.{list_all}
 use Rattle.std.specs.Cmp.Lexicographic.{bytes_decides, slice_cmp, texts_ties}
 use Rattle.std.specs.declared.alloc.Global.{Global}
 use Rattle.std.specs.declared.cmp.Ordering.{Ordering}
@@ -10,13 +10,12 @@ use Rattle.std.specs.declared.cmp.Ordering.TheVariants.{Less, Equal, Greater}
 use Rattle.std.specs.Ordering.{nat_cmp, is_eq, match_ordering}
 use Rattle.std.proofs.lemmas.Bool.Decides.{nat_tests}
 use Rattle.hgs_bytes.specs.Bytes.{same, among}
-use Rattle.hgs_index.specs.declared.kinds.Flag.{Flag}
 use Rattle.hgs_index.specs.Manifest.{Row}
 use Rattle.hgs_index.specs.Revision.{Revision}
 use Rattle.hgs_index.specs.TrackedPath.{is_tracked}
 use Rattle.hgs_manifest.specs.Held.{found_in}
 use Rattle.hgs_findings.specs.Findings.{have_same, tracks_others, paths_of_seen}
-use Rattle.hgs_findings.specs.Sight.{Sight, Seen, row_paths, tracked_rows, seen, seen_of}
+use Rattle.hgs_findings.specs.Sight.{Sight, row_paths, tracked_rows, seen, seen_of}
 use Rattle.hgs_judge.specs.declared.changesets.Changeset.{Changeset}
 use Rattle.hgs_judge.specs.declared.changesets.Tree.{Tree}
 use Rattle.hgs_judge.specs.Changesets.{changeset_as}

@@ -1,6 +1,6 @@
 -- What is added of the names of files is what is found of them.
-use Rattle.std.proofs.Common.{◌≡◌, ◌⊎◌, ℕ, List, [], ◌∷◌, ◌++◌, Bool, true, false, cond, ◌&&◌, ◌||◌, not, map, append_assoc, refl, sym, ◌∙◌, ap, subst, inl, inr}
-use Rattle.std.specs.Prelude.{Option, Some, None, Result, Ok, Err, Vec, IfSome, is_some, is_none, unwrap_or, filter, flat_map}
+use Rattle.std.proofs.Common.{◌≡◌, ◌⊎◌, ℕ, List, [], ◌∷◌, ◌++◌, Bool, true, false, cond, ◌||◌, not, map, refl, sym, ◌∙◌, ap, subst, inl, inr}
+use Rattle.std.specs.Prelude.{Option, Some, None, Result, Ok, Err, Vec, IfSome, is_some, is_none, filter, flat_map}
 use Rattle.std.specs.List.{AllByRecursion, list_any}
 use Rattle.std.specs.Cmp.Lexicographic.{bytes_decides, slice_cmp, texts_ties}
 use Rattle.std.specs.declared.alloc.Global.{Global}
@@ -24,7 +24,7 @@ use Rattle.hgs_findings.specs.Regular.{rows_of_seen, used_paths, is_used}
 use Rattle.hgs_findings.specs.Sight.{value, row_paths, seen}
 use Rattle.hgs_report.specs.Adds.{Adds}
 use Rattle.hgs_report.specs.Lines.{file_if, has_key}
-use Rattle.hgs_report.specs.Names.{IsBadList, IsNameOf, IsOfNames, bad_list, not_listed, one_name, lacks, is_named, is_taken, of_name, of_names, unused_files, unused_in}
+use Rattle.hgs_report.specs.Names.{IsBadList, IsNameOf, bad_list, not_listed, one_name, lacks, is_named, is_taken, of_name, of_names, unused_files, unused_in}
 use Rattle.hgs_report.proofs.EachLemmas.{never, in-front, in-back, split-any, IsOne}
 use Rattle.hgs_report.proofs.PartLemmas.{below-less, less-differs, same-itself}
 use Rattle.hgs_report.proofs.StoreLemmas.{list-added, moved}

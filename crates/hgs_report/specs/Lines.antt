@@ -1,12 +1,11 @@
 -- The findings of the small files, as lists.
-use Rattle.std.specs.Prelude.{ℕ, List, [], ◌∷◌, ◌++◌, Bool, true, false, not, ◌&&◌, ◌||◌, Option, Some, None, is_none, is_some, map, option_map}
+use Rattle.std.specs.Prelude.{ℕ, List, [], ◌∷◌, ◌++◌, Bool, true, false, not, ◌&&◌, ◌||◌, Option, Some, None, is_none, map, option_map}
 use Rattle.std.specs.List.{list_any}
 use Rattle.std.specs.Cmp.Lexicographic.{slice_cmp}
 use Rattle.std.specs.Ordering.{nat_cmp, is_eq}
 use Rattle.std.specs.Prelude.{Vec}
 use Rattle.std.specs.declared.alloc.Global.{Global}
 use Rattle.hgs_bytes.specs.Bytes.{same}
-use Rattle.hgs_index.specs.declared.node.Node.{Node}
 use Rattle.hgs_index.specs.Manifest.{Row}
 use Rattle.hgs_index.specs.Node.{null_node}
 use Rattle.hgs_index.specs.Revision.{Revision}

@@ -1,5 +1,5 @@
 -- What is found of the small files.
-use Rattle.std.specs.Prelude.{◌≡◌, ◌||◌, ℕ, suc, List, Bool, true, false, Option, Some, None, Ok, is_some, slice_get}
+use Rattle.std.specs.Prelude.{◌≡◌, ◌||◌, ℕ, suc, List, true, false, Option, Some, None, Ok, is_some, slice_get}
 use Rattle.hgs_files.specs.Tree.{Tree, bytes_at}
 use Rattle.hgs_marks.specs.Bookmarks.{Mark, mark_lines}
 use Rattle.hgs_marks.specs.Dirstate.{Dirstate, read_dirstate}

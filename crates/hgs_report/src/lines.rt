@@ -87,7 +87,14 @@ fn add_line(
 ) -> Result<(), AllocError>
     ensures { OnOk result ((data_bytes : List ℕ) → AreRead changelog.now.log.entries data_bytes → findings_in into.new.items ≡ findings_in into.old.items ++ of_line (revisions_in changelog.now.log.entries data_bytes) path.now kind line node.now.0) }
 {
-    add_if(alloc, changelog.place(node).is_none(), path, line, kind, into)?;
+    add_if(
+        alloc,
+        changelog.place(node).is_none(),
+        path,
+        line,
+        kind,
+        into,
+    )?;
     Ok(())
 }
 

@@ -41,11 +41,7 @@ fn is_read(trees: &[Option<Manifest>], tree: &Tree) -> bool
 }
 
 // Whether the tree of a parent can be read, or there is no parent.
-fn parent_is_read(
-    changesets: &[Changeset],
-    trees: &[Option<Manifest>],
-    parent: Option<u32>,
-) -> bool
+fn parent_is_read(changesets: &[Changeset], trees: &[Option<Manifest>], parent: Option<u32>) -> bool
     ensures { result ≡ parent_is_read changesets.now trees.now parent }
 {
     match parent {

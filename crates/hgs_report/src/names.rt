@@ -134,10 +134,7 @@ fn unused_files(
 }
 
 // The set of the names, where there are any.
-fn set_in(
-    alloc: Global,
-    names: &Option<Names>,
-) -> Result<Option<BTreeSet<Vec<u8>>>, AllocError>
+fn set_in(alloc: Global, names: &Option<Names>) -> Result<Option<BTreeSet<Vec<u8>>>, AllocError>
     ensures { IfOk result (λ set. IsSetOf names.now set) }
 {
     match names {

@@ -75,7 +75,7 @@ fn add_parents(
     into: &mut Vec<Finding>,
 ) -> Result<(), AllocError>
     ensures { OnOk result ((data_bytes : List ℕ) (s : Sight) → AreRead changelog.now.log.entries data_bytes → s.changelog ≡ revisions_in changelog.now.log.entries data_bytes → changesets.now ≡ map changeset_as (seen s) → trees.now ≡ map rows_read s.manifest
-    → findings_in into.new.items ≡ findings_in into.old.items ++ of_dirstate s.changelog path.now (paths_at_node s) (Some (view_dirstate dirstate.now))) }
+        → findings_in into.new.items ≡ findings_in into.old.items ++ of_dirstate s.changelog path.now (paths_at_node s) (Some (view_dirstate dirstate.now))) }
 {
     let unknown = is_unknown(changelog, &dirstate.p1) || is_unknown(changelog, &dirstate.p2);
     let tree = working_tree(changelog, changesets, &dirstate.p1);
@@ -96,7 +96,7 @@ pub fn add_dirstate(
     into: &mut Vec<Finding>,
 ) -> Result<(), AllocError>
     ensures { OnOk result ((data_bytes : List ℕ) (s : Sight) → AreRead changelog.now.log.entries data_bytes → s.changelog ≡ revisions_in changelog.now.log.entries data_bytes → changesets.now ≡ map changeset_as (seen s) → trees.now ≡ map rows_read s.manifest
-    → findings_in into.new.items ≡ findings_in into.old.items ++ of_dirstate s.changelog path.now (paths_at_node s) (option_map view_dirstate dirstate.now)) }
+        → findings_in into.new.items ≡ findings_in into.old.items ++ of_dirstate s.changelog path.now (paths_at_node s) (option_map view_dirstate dirstate.now)) }
 {
     match dirstate {
         None => {

@@ -12,7 +12,6 @@ ghost use Rattle.hgs_verify.specs.Filelog.{IsJudgedIn, OfTree};
 ghost use Rattle.hgs_report.specs.Store.{IsStoreOf};
 
 use crate::filelog::{Judged, judge_filelog};
-use hgs_report::store::Store;
 use hgs_files::files::Reads;
 use hgs_judge::laws::added_findings;
 use hgs_judge::path::PathFindings;
@@ -20,6 +19,7 @@ use hgs_judge::report::{Finding, add_path};
 use hgs_judge::trees::words;
 use hgs_judge::words::Word;
 use hgs_reader::answer::ReadAnswer;
+use hgs_report::store::Store;
 use std::alloc::{AllocError, Global};
 
 /// Revisions and changesets have numbers below this.

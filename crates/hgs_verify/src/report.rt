@@ -17,7 +17,10 @@ ghost use Rattle.hgs_verify.specs.Filelog.{OfTree};
 ghost use Rattle.hgs_verify.specs.Report.{AddsBeside, AddsPaths, AddsSmall, IsReportOf};
 
 use crate::store::read_store;
-use crate::texts::{add_bookmarks_file, add_calls, add_dirstate_file, add_names_file, add_roots_file, add_unused, test_requires};
+use crate::texts::{
+    add_bookmarks_file, add_calls, add_dirstate_file, add_names_file, add_roots_file, add_unused,
+    test_requires,
+};
 use crate::walk::judge_paths;
 use hgs_bytes::bytes::Bytes;
 use hgs_files::files::Reads;
@@ -135,11 +138,7 @@ fn count_of(used: &BTreeSet<Bytes>) -> Result<u32, AllocError>
 }
 
 // The report of a store whose changelog and manifest were read.
-fn report_of<R: Reads>(
-    alloc: Global,
-    files: &mut R,
-    store: &Store,
-) -> Result<Report, ReadAnswer>
+fn report_of<R: Reads>(alloc: Global, files: &mut R, store: &Store) -> Result<Report, ReadAnswer>
     ensures report { IfOk result (λ report. OfTree R.alone (R.seen files.new) (R.start files.new) (λ t. IsStoreOf store.now t → IsReportOf report t)) }
     ensures same_start { R.start files.new ≡ R.start files.old }
     ensures still { R.alone ≡ true → R.seen files.new ≡ R.seen files.old }

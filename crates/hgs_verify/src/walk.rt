@@ -8,11 +8,11 @@ ghost use Rattle.hgs_report.specs.Store.{IsStoreOf};
 ghost use Rattle.hgs_verify.specs.Walk.{AddPaths, AreMarked};
 
 use crate::one::judge_one;
-use hgs_report::store::Store;
 use hgs_bytes::bytes::Bytes;
 use hgs_files::files::Reads;
 use hgs_judge::report::Finding;
 use hgs_reader::answer::ReadAnswer;
+use hgs_report::store::Store;
 use std::alloc::Global;
 use std::collections::BTreeSet;
 

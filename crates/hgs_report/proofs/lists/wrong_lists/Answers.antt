@@ -1,6 +1,4 @@
-use Rattle.std.proofs.Common.{◌≡◌, ◌∙◌, ap, map}
-use Rattle.hgs_findings.specs.Reading.{sight_of}
-use Rattle.hgs_report.specs.Lists.{lists_unused}
+use Rattle.std.proofs.Common.{◌∙◌}
 use Rattle.hgs_report.proofs.ListLemmas.{unused-lists}
 use Rattle.hgs_report.proofs.lists.wrong_lists.Goals as goal
 

@@ -1,8 +1,7 @@
-use Rattle.std.proofs.Common.{◌≡◌, ◌++◌, ◌||◌, ℕ, List, []}
-use Rattle.std.specs.Prelude.{Option}
+use Rattle.std.proofs.Common.{◌≡◌, ◌||◌, ℕ, List}
 use Rattle.hgs_judge.specs.Report.{findings_in}
 use Rattle.hgs_report.specs.Lines.{has_key}
-use Rattle.hgs_report.specs.Names.{IsSetOf, is_named, is_taken, of_names}
+use Rattle.hgs_report.specs.Names.{is_named}
 use Rattle.hgs_report.proofs.NameLemmas.{Went}
 use Rattle.hgs_report.proofs.names.add_names.Given as goal
 

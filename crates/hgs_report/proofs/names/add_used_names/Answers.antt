@@ -1,12 +1,10 @@
-use Rattle.std.proofs.Common.{◌≡◌, ◌⊎◌, ◌∷◌, [], ◌++◌, ◌||◌, false, refl, sym, ◌∙◌, ap}
+use Rattle.std.proofs.Common.{◌≡◌, ◌⊎◌, [], ◌++◌, ◌||◌, ◌∙◌, ap}
 use Rattle.std.specs.Prelude.{true, is_none, unwrap_or}
 use Rattle.std.specs.List.{AllByRecursion}
 use Rattle.hgs_files.specs.Tree.{bytes_at}
 use Rattle.hgs_path.specs.declared.name.Ext.TheVariants.{I, D}
 use Rattle.hgs_path.specs.ListedNames.{is_listed, names_of}
 use Rattle.hgs_stands.specs.Places.{fncache_path}
-use Rattle.hgs_findings.specs.Reading.{sight_of}
-use Rattle.hgs_findings.specs.Regular.{used_paths}
 use Rattle.hgs_findings.specs.Sight.{value}
 use Rattle.hgs_judge.specs.Report.{findings_in}
 use Rattle.hgs_report.specs.Lines.{file_if, has_key}

@@ -1,7 +1,6 @@
-use Rattle.std.proofs.Common.{◌≡◌, List, sym, ◌∙◌, ap}
-use Rattle.std.specs.Prelude.{Option, Some, None, slice_get}
+use Rattle.std.proofs.Common.{◌≡◌, sym, ◌∙◌, ap}
+use Rattle.std.specs.Prelude.{Some, slice_get}
 use Rattle.std.proofs.lemmas.Option.{slice_get-get_or, slice_get_past}
-use Rattle.hgs_index.specs.Manifest.{Row}
 use Rattle.hgs_findings.specs.Findings.{have_same}
 use Rattle.hgs_findings.specs.Sight.{row_paths, tracked_rows}
 use Rattle.hgs_judge.specs.Trees.{rows_in_tree, rows_or_none}

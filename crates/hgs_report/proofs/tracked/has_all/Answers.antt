@@ -1,4 +1,4 @@
-use Rattle.std.proofs.Common.{◌≡◌, suc, ◌+◌, true, take, sym, ◌∙◌, ap, arith}
+use Rattle.std.proofs.Common.{◌≡◌, suc, ◌+◌, take, sym, ◌∙◌, ap, arith}
 use Rattle.std.specs.List.{list_all}
 use Rattle.hgs_findings.specs.Sight.{row_paths, tracked_rows}
 use Rattle.hgs_manifest.specs.Held.{view_row}

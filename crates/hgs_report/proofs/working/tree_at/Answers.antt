@@ -1,6 +1,6 @@
 use Rattle.std.proofs.Common.{◌≡◌, ◌∙◌, ap, sym}
 use Rattle.std.specs.Prelude.{Some, slice_get, option_and_then}
-use Rattle.std.proofs.lemmas.Option.{slice_get-get_or, slice_get_past}
+use Rattle.std.proofs.lemmas.Option.{slice_get-get_or}
 use Rattle.hgs_findings.specs.Findings.{paths_of_seen}
 use Rattle.hgs_findings.specs.Sight.{seen}
 use Rattle.hgs_report.proofs.TrackedLemmas.{tree-seen}

@@ -21,11 +21,11 @@ returns-clause-added g c = λ alone.
     let store = c.args.store.now in
     if-each (g.R.Reads.seen c.judge_paths.new.files) (g.R.Reads.start c.judge_paths.new.files) (λ t. IsStoreOf store t → AddPaths keys old mid before after t) (λ t. IsStoreOf store t → keys ≡ used_paths (sight_of t) → AddsPaths t old new)
     (λ t p is used.
-        let unused : AreUnusedLists t before = subst (AreUnusedLists t) (sym c.deref_mut.ensures.value) (c.in_ok-marks.ensures t is used) in
-        let lists : AreLists t after = lists-marked t c.one_path.ensures.listed keys old mid before after used unused (p is) in
-        record {
-          judged = mid;
-          paths = paths-added c.path_findings.ensures t keys old mid before after used (p is);
-          lists = c.in_ok-add_marked.ensures t (subst (AreLists t) (sym (c.deref.ensures.value ∙ take-front c.in_ok-marks.marks.len after _ (c.in_ok-marks.marks.ok.0 ∙ ap length (sym c.deref_mut.ensures.value) ∙ unused.count ∙ sym lists.count))) lists);
-        })
+    let unused : AreUnusedLists t before = subst (AreUnusedLists t) (sym c.deref_mut.ensures.value) (c.in_ok-marks.ensures t is used) in
+    let lists : AreLists t after = lists-marked t c.one_path.ensures.listed keys old mid before after used unused (p is) in
+    record {
+      judged = mid;
+      paths = paths-added c.path_findings.ensures t keys old mid before after used (p is);
+      lists = c.in_ok-add_marked.ensures t (subst (AreLists t) (sym (c.deref.ensures.value ∙ take-front c.in_ok-marks.marks.len after _ (c.in_ok-marks.marks.ok.0 ∙ ap length (sym c.deref_mut.ensures.value) ∙ unused.count ∙ sym lists.count))) lists);
+    })
     (c.in_ok-judge_paths.ensures.added alone)

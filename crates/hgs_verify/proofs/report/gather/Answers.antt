@@ -24,37 +24,37 @@ returns-clause-parts g c = λ alone.
     let three = c.in_ok-add_listed.ensures in
     let four = c.in_ok-add_paths.ensures in
     let small = two-looks (g.R.Reads.seen c.add_calls.new.files) (g.R.Reads.seen c.add_small.new.files) (g.R.Reads.start c.add_calls.new.files) (g.R.Reads.start c.add_small.new.files)
-        (λ t. Adds t (IsOfCalls t) none called) (λ t. IsStoreOf store t → AddsSmall t read tracked) (λ t. Adds t (IsOfCalls t) none called × (IsStoreOf store t → AddsSmall t read tracked))
-        (two.still alone) two.same_start (λ t p q. (p, q)) (one.added alone) (two.added alone) in
+    (λ t. Adds t (IsOfCalls t) none called) (λ t. IsStoreOf store t → AddsSmall t read tracked) (λ t. Adds t (IsOfCalls t) none called × (IsStoreOf store t → AddsSmall t read tracked))
+    (two.still alone) two.same_start (λ t p q. (p, q)) (one.added alone) (two.added alone) in
     let listed = two-looks (g.R.Reads.seen c.add_small.new.files) (g.R.Reads.seen c.add_listed.new.files) (g.R.Reads.start c.add_small.new.files) (g.R.Reads.start c.add_listed.new.files)
-        (λ t. Adds t (IsOfCalls t) none called × (IsStoreOf store t → AddsSmall t read tracked)) (λ t. keys ≡ used_paths (sight_of t) → AddsBeside t tracked used)
-        (λ t. (Adds t (IsOfCalls t) none called × (IsStoreOf store t → AddsSmall t read tracked)) × (keys ≡ used_paths (sight_of t) → AddsBeside t tracked used))
-        (three.still alone) three.same_start (λ t p q. (p, q)) small (three.added alone) in
+    (λ t. Adds t (IsOfCalls t) none called × (IsStoreOf store t → AddsSmall t read tracked)) (λ t. keys ≡ used_paths (sight_of t) → AddsBeside t tracked used)
+    (λ t. (Adds t (IsOfCalls t) none called × (IsStoreOf store t → AddsSmall t read tracked)) × (keys ≡ used_paths (sight_of t) → AddsBeside t tracked used))
+    (three.still alone) three.same_start (λ t p q. (p, q)) small (three.added alone) in
     two-looks (g.R.Reads.seen c.add_listed.new.files) (g.R.Reads.seen c.add_paths.new.files) (g.R.Reads.start c.add_listed.new.files) (g.R.Reads.start c.add_paths.new.files)
     (λ t. (Adds t (IsOfCalls t) none called × (IsStoreOf store t → AddsSmall t read tracked)) × (keys ≡ used_paths (sight_of t) → AddsBeside t tracked used)) (λ t. IsStoreOf store t → keys ≡ used_paths (sight_of t) → AddsPaths t used all)
     (λ t. IsStoreOf store t → keys ≡ used_paths (sight_of t) → AreParts t all)
     (four.still alone) four.same_start
     (λ t p q is same.
-        let s = p.0.1 is in
-        let b = p.1 same in
-        let w = q is same in
-        record {
-          called = called;
-          read = read;
-          rooted = s.rooted;
-          marked = s.marked;
-          tracked = tracked;
-          named = b.named;
-          used = used;
-          judged = w.judged;
-          calls = subst (λ l. Adds t (IsOfCalls t) l called) (ap findings_in c.new-found.ensures.items) p.0.0;
-          store = c.in_ok-add_store.ensures t is;
-          roots = s.roots;
-          bookmarks = s.bookmarks;
-          dirstate = s.dirstate;
-          names = b.names;
-          unused = b.unused;
-          paths = w.paths;
-          lists = w.lists;
-        })
+    let s = p.0.1 is in
+    let b = p.1 same in
+    let w = q is same in
+    record {
+      called = called;
+      read = read;
+      rooted = s.rooted;
+      marked = s.marked;
+      tracked = tracked;
+      named = b.named;
+      used = used;
+      judged = w.judged;
+      calls = subst (λ l. Adds t (IsOfCalls t) l called) (ap findings_in c.new-found.ensures.items) p.0.0;
+      store = c.in_ok-add_store.ensures t is;
+      roots = s.roots;
+      bookmarks = s.bookmarks;
+      dirstate = s.dirstate;
+      names = b.names;
+      unused = b.unused;
+      paths = w.paths;
+      lists = w.lists;
+    })
     listed (four.added alone)

@@ -17,8 +17,8 @@ returns-clause-report g c = λ alone.
     let ordered = findings_in c.in_ok-findings.findings.items in
     if-each (g.R.Reads.seen c.gather.new.files) (g.R.Reads.start c.gather.new.files) (λ t. IsStoreOf store t → keys ≡ used_paths (sight_of t) → AreParts t all) (λ t. IsStoreOf store t → IsReport t ordered c.len.result c.in_ok-filelogs.filelogs)
     (λ t p is.
-        let used = c.in_ok-used.ensures (sight_of t) (c.deref.ensures.value ∙ is.trees) (c.deref-2.ensures.value ∙ is.changesets) in
-        let report = c.parts_make_report.ensures t all ordered (p is used) c.in_ok-findings.ensures.rise c.in_ok-findings.ensures.same in
-        subst (λ n. IsReport t ordered n c.in_ok-filelogs.filelogs) (sym (c.len.ensures ∙ changeset-count store t is))
-        (subst (λ n. IsReport t ordered (length (sight_of t).changelog) n) (sym (c.in_ok-filelogs.ensures ∙ ap length used)) report))
+    let used = c.in_ok-used.ensures (sight_of t) (c.deref.ensures.value ∙ is.trees) (c.deref-2.ensures.value ∙ is.changesets) in
+    let report = c.parts_make_report.ensures t all ordered (p is used) c.in_ok-findings.ensures.rise c.in_ok-findings.ensures.same in
+    subst (λ n. IsReport t ordered n c.in_ok-filelogs.filelogs) (sym (c.len.ensures ∙ changeset-count store t is))
+    (subst (λ n. IsReport t ordered (length (sight_of t).changelog) n) (sym (c.in_ok-filelogs.ensures ∙ ap length used)) report))
     (c.in_ok-found.ensures.parts alone)
