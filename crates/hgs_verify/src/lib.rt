@@ -2,6 +2,7 @@
 #![tactic(auto)]
 
 pub mod filelog;
+pub mod laws;
 pub mod one;
 pub mod report;
 pub mod store;

@@ -1,5 +1,6 @@
 //! The report of a store.
-ghost use Rattle.std.specs.Prelude.{◌≡◌, IfOk, OnOk, Ok, true, length};
+ghost use Rattle.std.specs.Prelude.{◌≡◌, IfOk, OnOk, Ok, true, length, IfErr};
+ghost use Rattle.hgs_verify.specs.Refusal.{is_refusal};
 ghost use Rattle.hgs_reader.specs.Open.{requires_path};
 ghost use Rattle.hgs_reader.specs.Requirements.{requires_answer};
 ghost use Rattle.hgs_findings.specs.Reading.{sight_of};
@@ -58,6 +59,7 @@ fn add_small<R: Reads>(
     ensures same_start { R.start files.new ≡ R.start files.old }
     ensures still { R.alone ≡ true → R.seen files.new ≡ R.seen files.old }
     ensures cause { HasFaultCause (R.faults files.old) (R.faults files.new) (R.denied files.old) (R.denied files.new) result }
+    ensures refused { IfErr result (λ e. is_refusal e ≡ true) }
 {
     add_roots_file(alloc, files, store, into)?;
     add_bookmarks_file(alloc, files, store, into)?;
@@ -76,6 +78,7 @@ fn add_listed<R: Reads>(
     ensures same_start { R.start files.new ≡ R.start files.old }
     ensures still { R.alone ≡ true → R.seen files.new ≡ R.seen files.old }
     ensures cause { HasFaultCause (R.faults files.old) (R.faults files.new) (R.denied files.old) (R.denied files.new) result }
+    ensures refused { IfErr result (λ e. is_refusal e ≡ true) }
 {
     unused_that_stand();
     let unused = add_names_file(alloc, files, used, into)?;
@@ -96,6 +99,7 @@ fn add_paths<R: Reads>(
     ensures same_start { R.start files.new ≡ R.start files.old }
     ensures still { R.alone ≡ true → R.seen files.new ≡ R.seen files.old }
     ensures cause { HasFaultCause (R.faults files.old) (R.faults files.new) (R.denied files.old) (R.denied files.new) result }
+    ensures refused { IfErr result (λ e. is_refusal e ≡ true) }
 {
     one_path();
     path_findings();
@@ -116,6 +120,7 @@ fn gather<R: Reads>(
     ensures same_start { R.start files.new ≡ R.start files.old }
     ensures still { R.alone ≡ true → R.seen files.new ≡ R.seen files.old }
     ensures cause { HasFaultCause (R.faults files.old) (R.faults files.new) (R.denied files.old) (R.denied files.new) result }
+    ensures refused { IfErr result (λ e. is_refusal e ≡ true) }
 {
     let paths = LogPaths::new(alloc)?;
     let mut found = Vec::new(alloc);
@@ -143,6 +148,7 @@ fn report_of<R: Reads>(alloc: Global, files: &mut R, store: &Store) -> Result<Re
     ensures same_start { R.start files.new ≡ R.start files.old }
     ensures still { R.alone ≡ true → R.seen files.new ≡ R.seen files.old }
     ensures cause { HasFaultCause (R.faults files.old) (R.faults files.new) (R.denied files.old) (R.denied files.new) result }
+    ensures refused { IfErr result (λ e. is_refusal e ≡ true) }
 {
     parts_make_report();
     let used = used_paths(alloc, &store.trees, &store.changesets)?;
@@ -166,6 +172,7 @@ pub fn verify<R: Reads>(alloc: Global, files: &mut R) -> Result<Report, ReadAnsw
     ensures same_start { R.start files.new ≡ R.start files.old }
     ensures still { R.alone ≡ true → R.seen files.new ≡ R.seen files.old }
     ensures cause { HasFaultCause (R.faults files.old) (R.faults files.new) (R.denied files.old) (R.denied files.new) result }
+    ensures refused { IfErr result (λ e. is_refusal e ≡ true) }
 {
     test_requires(alloc, files)?;
     let store = read_store(alloc, files)?;

@@ -1,5 +1,6 @@
 //! What is read of a store before its filelogs: the changelog, the manifest, and what their texts say.
-ghost use Rattle.std.specs.Prelude.{◌≡◌, [], unwrap_or, IfOk, true};
+ghost use Rattle.std.specs.Prelude.{◌≡◌, [], unwrap_or, IfOk, true, IfErr};
+ghost use Rattle.hgs_verify.specs.Refusal.{is_refusal};
 ghost use Rattle.hgs_files.specs.Reads.{Grows};
 ghost use Rattle.hgs_reader.specs.Answer.{HasFaultCause};
 ghost use Rattle.hgs_files.specs.Tree.{Tree};
@@ -35,6 +36,7 @@ fn read_log<R: Reads>(
     ensures same_start { R.start files.new ≡ R.start files.old }
     ensures still { R.alone ≡ true → R.seen files.new ≡ R.seen files.old }
     ensures cause { HasFaultCause (R.faults files.old) (R.faults files.new) (R.denied files.old) (R.denied files.new) result }
+    ensures refused { IfErr result (λ e. is_refusal e ≡ true) }
 {
     let index_part = read_file(alloc, files, index)?;
     let chunks = read_file(alloc, files, chunks)?;
@@ -79,6 +81,7 @@ pub fn read_store<R: Reads>(alloc: Global, files: &mut R) -> Result<Store, ReadA
     ensures same_start { R.start files.new ≡ R.start files.old }
     ensures still { R.alone ≡ true → R.seen files.new ≡ R.seen files.old }
     ensures cause { HasFaultCause (R.faults files.old) (R.faults files.new) (R.denied files.old) (R.denied files.new) result }
+    ensures refused { IfErr result (λ e. is_refusal e ≡ true) }
 {
     let index = path_of(alloc, b"store/00changelog.i")?;
     let chunks = path_of(alloc, b"store/00changelog.d")?;

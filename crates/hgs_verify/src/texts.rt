@@ -1,5 +1,6 @@
 //! The small files of a store, and what is found of them.
-ghost use Rattle.std.specs.Prelude.{◌≡◌, ◌++◌, IfOk, OnOk, Ok, true, option_map};
+ghost use Rattle.std.specs.Prelude.{◌≡◌, ◌++◌, IfOk, OnOk, Ok, true, option_map, IfErr};
+ghost use Rattle.hgs_verify.specs.Refusal.{is_refusal};
 ghost use Rattle.hgs_reader.specs.Open.{requires_path};
 ghost use Rattle.hgs_reader.specs.Requirements.{requires_answer};
 ghost use Rattle.hgs_findings.specs.Reading.{sight_of};
@@ -53,6 +54,7 @@ pub fn add_roots_file<R: Reads>(
     ensures same_start { R.start files.new ≡ R.start files.old }
     ensures still { R.alone ≡ true → R.seen files.new ≡ R.seen files.old }
     ensures cause { HasFaultCause (R.faults files.old) (R.faults files.new) (R.denied files.old) (R.denied files.new) result }
+    ensures refused { IfErr result (λ e. is_refusal e ≡ true) }
 {
     let path = path_of(alloc, b"store/phaseroots")?;
     let text = read_text(alloc, files, &path, MOST_ROOTS)?;
@@ -71,6 +73,7 @@ pub fn add_bookmarks_file<R: Reads>(
     ensures same_start { R.start files.new ≡ R.start files.old }
     ensures still { R.alone ≡ true → R.seen files.new ≡ R.seen files.old }
     ensures cause { HasFaultCause (R.faults files.old) (R.faults files.new) (R.denied files.old) (R.denied files.new) result }
+    ensures refused { IfErr result (λ e. is_refusal e ≡ true) }
 {
     let path = path_of(alloc, b"bookmarks")?;
     let text = read_text(alloc, files, &path, MOST_BOOKMARKS)?;
@@ -89,6 +92,7 @@ pub fn add_dirstate_file<R: Reads>(
     ensures same_start { R.start files.new ≡ R.start files.old }
     ensures still { R.alone ≡ true → R.seen files.new ≡ R.seen files.old }
     ensures cause { HasFaultCause (R.faults files.old) (R.faults files.new) (R.denied files.old) (R.denied files.new) result }
+    ensures refused { IfErr result (λ e. is_refusal e ≡ true) }
 {
     let path = path_of(alloc, b"dirstate")?;
     let text = read_text(alloc, files, &path, MOST_DIRSTATE)?;
@@ -107,6 +111,7 @@ pub fn add_names_file<R: Reads>(
     ensures same_start { R.start files.new ≡ R.start files.old }
     ensures still { R.alone ≡ true → R.seen files.new ≡ R.seen files.old }
     ensures cause { HasFaultCause (R.faults files.old) (R.faults files.new) (R.denied files.old) (R.denied files.new) result }
+    ensures refused { IfErr result (λ e. is_refusal e ≡ true) }
 {
     let path = path_of(alloc, b"store/fncache")?;
     let text = read_text(alloc, files, &path, MOST_FNCACHE)?;
@@ -126,6 +131,7 @@ fn add_standing<R: Reads>(
     ensures same_start { R.start files.new ≡ R.start files.old }
     ensures still { R.alone ≡ true → R.seen files.new ≡ R.seen files.old }
     ensures cause { HasFaultCause (R.faults files.old) (R.faults files.new) (R.denied files.old) (R.denied files.new) result }
+    ensures refused { IfErr result (λ e. is_refusal e ≡ true) }
 {
     let size = size_of(files, path)?;
     add_file(alloc, size.is_some(), path, kind, into)?;
@@ -143,6 +149,7 @@ fn add_unused_file<R: Reads>(
     ensures same_start { R.start files.new ≡ R.start files.old }
     ensures still { R.alone ≡ true → R.seen files.new ≡ R.seen files.old }
     ensures cause { HasFaultCause (R.faults files.old) (R.faults files.new) (R.denied files.old) (R.denied files.new) result }
+    ensures refused { IfErr result (λ e. is_refusal e ≡ true) }
 {
     let size = size_of(files, path)?;
     add_file(alloc, size.unwrap_or(0) != 0, path, 12, into)?;
@@ -160,6 +167,7 @@ pub fn add_unused<R: Reads>(
     ensures same_start { R.start files.new ≡ R.start files.old }
     ensures still { R.alone ≡ true → R.seen files.new ≡ R.seen files.old }
     ensures cause { HasFaultCause (R.faults files.old) (R.faults files.new) (R.denied files.old) (R.denied files.new) result }
+    ensures refused { IfErr result (λ e. is_refusal e ≡ true) }
 {
     for path in unused {
         add_unused_file(alloc, files, path, into)?;
@@ -177,6 +185,7 @@ pub fn add_calls<R: Reads>(
     ensures same_start { R.start files.new ≡ R.start files.old }
     ensures still { R.alone ≡ true → R.seen files.new ≡ R.seen files.old }
     ensures cause { HasFaultCause (R.faults files.old) (R.faults files.new) (R.denied files.old) (R.denied files.new) result }
+    ensures refused { IfErr result (λ e. is_refusal e ≡ true) }
 {
     calls_that_stand();
     let journal = path_of(alloc, b"store/journal")?;
@@ -204,6 +213,7 @@ pub fn test_requires<R: Reads>(alloc: Global, files: &mut R) -> Result<(), ReadA
     ensures same_start { R.start files.new ≡ R.start files.old }
     ensures still { R.alone ≡ true → R.seen files.new ≡ R.seen files.old }
     ensures cause { HasFaultCause (R.faults files.old) (R.faults files.new) (R.denied files.old) (R.denied files.new) result }
+    ensures refused { IfErr result (λ e. is_refusal e ≡ true) }
 {
     let path = path_of(alloc, b"requires")?;
     let text = read_text(alloc, files, &path, MOST_REQUIRES)?;

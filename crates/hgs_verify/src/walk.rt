@@ -1,5 +1,6 @@
 //! The paths of a store, one after another.
-ghost use Rattle.std.specs.Prelude.{◌≡◌, OnOk, true};
+ghost use Rattle.std.specs.Prelude.{◌≡◌, OnOk, true, IfErr};
+ghost use Rattle.hgs_verify.specs.Refusal.{is_refusal};
 ghost use Rattle.hgs_files.specs.Reads.{Grows};
 ghost use Rattle.hgs_reader.specs.Answer.{HasFaultCause};
 ghost use Rattle.hgs_judge.specs.Report.{findings_in};
@@ -42,6 +43,7 @@ pub fn judge_paths<R: Reads>(
     ensures same_start { R.start files.new ≡ R.start files.old }
     ensures still { R.alone ≡ true → R.seen files.new ≡ R.seen files.old }
     ensures cause { HasFaultCause (R.faults files.old) (R.faults files.new) (R.denied files.old) (R.denied files.new) result }
+    ensures refused { IfErr result (λ e. is_refusal e ≡ true) }
 {
     while let Some(path) = paths.pop_first() {
         let wrong = judge_one(alloc, files, store, path.as_slice(), into)?;
