@@ -126,6 +126,19 @@ tree-row s r path = seen-rows s path (has_null_manifest (seen_of s r).change) (s
     by None = refl
     by (Some n) = refl
 
+rows-tracked : (s : Sight) (null : Bool) (manifest : Option ℕ) → option_map tracked_rows (rows_in_tree (map rows_read s.manifest) (tree_with manifest null)) ≡ rows_when null manifest (λ m. option_map tracked_rows (value (read_manifest (text_at s.manifest m))))
+rows-tracked s null (Some m) = ap (option_map tracked_rows) (text-rows s.manifest m)
+rows-tracked s true None = refl
+rows-tracked s false None = refl
+
+-- the rows of a tree
+pub tree-rows : (s : Sight) (r : Revision) → option_map tracked_rows (rows_in_tree (map rows_read s.manifest) (tree_as (manifest_of_seen (Some (seen_of s r))))) ≡ (seen_of s r).rows
+tree-rows s r = rows-tracked s (has_null_manifest (seen_of s r).change) (seen_of s r).manifest ∙ by (seen_of s r).manifest
+  where
+    by : (m : Option ℕ) → rows_when (has_null_manifest (seen_of s r).change) m (λ n. option_map tracked_rows (value (read_manifest (text_at s.manifest n)))) ≡ rows_of s (seen_of s r).change m
+    by None = refl
+    by (Some n) = refl
+
 -- ---- the list of changed files
 
 -- it ascends where the text has the form

@@ -27,8 +27,8 @@ pub fn in_order(mut findings: Vec<Finding>) -> Result<Vec<Finding>, AllocError>
     Ok(findings)
 }
 
-// Adds a finding of a revision where it is one.
-fn add_if(
+/// Adds a finding of a revision where it is one.
+pub fn add_if(
     alloc: Global,
     is: bool,
     path: &StorePath,
@@ -48,8 +48,8 @@ fn add_if(
     Ok(())
 }
 
-// Adds what is wrong with each revision.
-fn add_kinds(
+/// Adds what is wrong with each revision.
+pub fn add_kinds(
     alloc: Global,
     path: &StorePath,
     kinds: &[Kinds],

@@ -3,6 +3,7 @@ pub mod DirstateFound
 pub mod DirstateLemmas
 pub mod DirstateText
 pub mod DirstateTextLemmas
+pub mod LineLemmas
 pub mod MapLemmas
 pub mod MarkLemmas
 pub mod MarkOrder

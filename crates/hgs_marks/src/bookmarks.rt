@@ -40,7 +40,7 @@ impl Model for Bookmarks {
 }
 
 /// The bookmark of a line without its LF.
-fn mark_from(line: &[u8], number: u64) -> Result<Mark<'_>, MarkFault>
+pub(crate) fn mark_from(line: &[u8], number: u64) -> Result<Mark<'_>, MarkFault>
     ensures { result_map_both view_mark (λ fault. fault) result ≡ mark_of number line.now }
 {
     if !starts(past(line, 40), b" ") {

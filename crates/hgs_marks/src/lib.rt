@@ -6,5 +6,6 @@ pub mod dirstate;
 pub mod fault;
 pub mod grammar;
 pub mod laws;
+pub mod lines;
 pub mod name;
 pub mod print;

@@ -6,6 +6,7 @@ pub mod EnterLemmas
 pub mod FncacheLemmas
 pub mod LengthLemmas
 pub mod ListTextLemmas
+pub mod ListedLemmas
 pub mod OwnersLemmas
 pub mod PartLemmas
 pub mod ReadNamesLemmas

@@ -47,7 +47,7 @@ pub struct Fncache {
 }
 
 /// Whether a line may stand in the list.
-fn is_listed(name: &[u8]) -> bool
+pub(crate) fn is_listed(name: &[u8]) -> bool
     ensures { result ≡ is_listed name.now }
 {
     starts(name, b"data/") && (ends(name, b".i") || ends(name, b".d"))
@@ -85,7 +85,7 @@ fn ext_within(inner: &[u8]) -> Ext
 }
 
 /// The file that has this name in the list, if one has.
-fn file_named(alloc: Global, name: &[u8]) -> Result<Option<(Vec<u8>, Ext)>, AllocError>
+pub(crate) fn file_named(alloc: Global, name: &[u8]) -> Result<Option<(Vec<u8>, Ext)>, AllocError>
     ensures { IfOk result (λ file. option_map (λ f. (f.0.items, f.1)) file ≡ file_named name.now) }
 {
     let mut path = undone_step(alloc, past(name, 5))?;

@@ -5,6 +5,7 @@ pub mod check;
 pub mod fncache;
 pub mod grammar;
 pub mod laws;
+pub mod listed;
 pub mod name;
 mod owners;
 mod parts;

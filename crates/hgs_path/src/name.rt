@@ -67,7 +67,7 @@ fn directory_step(alloc: Global, name: &[u8]) -> Result<Vec<u8>, AllocError>
 }
 
 /// The name of a file in `fncache`.
-pub(crate) fn listed_name(alloc: Global, path: &[u8], ext: Ext) -> Result<Vec<u8>, AllocError>
+pub fn listed_name(alloc: Global, path: &[u8], ext: Ext) -> Result<Vec<u8>, AllocError>
     ensures { IfOk result (λ out. out.items ≡ listed_name path.now ext) }
 {
     let whole = whole_path(alloc, path, ext)?;
@@ -176,7 +176,7 @@ fn encoded_name(alloc: Global, name: &[u8], ext: Ext) -> Result<Vec<u8>, AllocEr
 }
 
 /// The path of a listed name's file.
-fn path_of(alloc: Global, name: &[u8], ext: Ext) -> Result<StorePath, AllocError>
+pub(crate) fn path_of(alloc: Global, name: &[u8], ext: Ext) -> Result<StorePath, AllocError>
     requires { 5 ≤ length name.now }
     ensures { IfOk result (λ path. path ≡ codes "store/" ++ encoded_name name.now ext) }
 {

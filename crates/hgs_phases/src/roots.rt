@@ -74,6 +74,13 @@ impl Roots {
         Ok(Roots { roots })
     }
 
+    /// The roots, in the order of their lines.
+    pub fn as_slice(&self) -> &[Root]
+        ensures { result.now ≡ self.now }
+    {
+        self.roots.as_slice()
+    }
+
     /// How many roots there are.
     pub fn len(&self) -> usize
         ensures { result ≡ length self.now }

@@ -1,4 +1,5 @@
 pub mod Added
 pub mod Filelog
-pub mod Store
+pub mod Refusal
+pub mod Report
 pub mod Walk

@@ -1,5 +1,6 @@
 //! What is found of the filelog of a path.
-ghost use Rattle.std.specs.Prelude.{◌≡◌, ◌<◌, ◌^◌, length, IfOk, true, false};
+ghost use Rattle.std.specs.Prelude.{◌≡◌, ◌<◌, ◌^◌, length, IfOk, true, false, IfErr};
+ghost use Rattle.hgs_verify.specs.Refusal.{is_refusal};
 ghost use Rattle.hgs_files.specs.Reads.{Grows};
 ghost use Rattle.hgs_path.specs.declared.name.Ext.TheVariants.{I, D};
 ghost use Rattle.hgs_path.specs.StoreName.{store_name};
@@ -28,7 +29,8 @@ pub struct Judged {
 
 // What the refusal of a revlog is to a reader.
 pub(crate) fn of_refusal(fault: RevFault) -> ReadAnswer
-    ensures { is_fault result ≡ false }
+    ensures fault { is_fault result ≡ false }
+    ensures refused { is_refusal result ≡ true }
 {
     match fault {
         RevFault::Limit(which) => ReadAnswer::Limit(which),
@@ -53,6 +55,7 @@ pub fn judge_filelog<R: Reads>(
     ensures same_start { R.start files.new ≡ R.start files.old }
     ensures still { R.alone ≡ true → R.seen files.new ≡ R.seen files.old }
     ensures cause { HasFaultCause (R.faults files.old) (R.faults files.new) (R.denied files.old) (R.denied files.new) result }
+    ensures refused { IfErr result (λ e. is_refusal e ≡ true) }
 {
     let index = store_name(alloc, path, Ext::I)?;
     let chunks = store_name(alloc, path, Ext::D)?;

@@ -1,5 +1,6 @@
 //! One path of a store.
-ghost use Rattle.std.specs.Prelude.{◌≡◌, ◌++◌, ◌<◌, ◌^◌, length, IfOk, OnOk, true};
+ghost use Rattle.std.specs.Prelude.{◌≡◌, ◌++◌, ◌<◌, ◌^◌, length, IfOk, OnOk, true, IfErr};
+ghost use Rattle.hgs_verify.specs.Refusal.{is_refusal};
 ghost use Rattle.hgs_files.specs.Reads.{Grows};
 ghost use Rattle.hgs_files.specs.Tree.{Tree};
 ghost use Rattle.hgs_load.specs.Answer.{HasFaultCause};
@@ -9,10 +10,9 @@ ghost use Rattle.hgs_findings.specs.OnePath as findings;
 ghost use Rattle.hgs_findings.specs.Reading.{sight_of};
 ghost use Rattle.hgs_verify.specs.Added.{AddsPath};
 ghost use Rattle.hgs_verify.specs.Filelog.{IsJudgedIn, OfTree};
-ghost use Rattle.hgs_verify.specs.Store.{IsStoreOf};
+ghost use Rattle.hgs_report.specs.Store.{IsStoreOf};
 
 use crate::filelog::{Judged, judge_filelog};
-use crate::store::Store;
 use hgs_files::files::Reads;
 use hgs_judge::laws::added_findings;
 use hgs_judge::path::PathFindings;
@@ -20,6 +20,7 @@ use hgs_judge::report::{Finding, add_path};
 use hgs_judge::trees::words;
 use hgs_judge::words::Word;
 use hgs_load::answer::ReadAnswer;
+use hgs_report::store::Store;
 use std::alloc::{AllocError, Global};
 
 /// Revisions and changesets have numbers below this.
@@ -81,6 +82,7 @@ pub fn judge_one<R: Reads>(
     ensures same_start { R.start files.new ≡ R.start files.old }
     ensures still { R.alone ≡ true → R.seen files.new ≡ R.seen files.old }
     ensures cause { HasFaultCause (R.faults files.old) (R.faults files.new) (R.denied files.old) (R.denied files.new) result }
+    ensures refused { IfErr result (λ e. is_refusal e ≡ true) }
 {
     added_findings();
     let words = words_of(alloc, store, path)?;

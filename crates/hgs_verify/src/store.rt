@@ -1,47 +1,27 @@
 //! What is read of a store before its filelogs: the changelog, the manifest, and what their texts say.
-ghost use Rattle.std.specs.Prelude.{◌≡◌, [], unwrap_or, IfOk, true};
+ghost use Rattle.std.specs.Prelude.{◌≡◌, [], unwrap_or, IfOk, true, IfErr};
+ghost use Rattle.hgs_verify.specs.Refusal.{is_refusal};
 ghost use Rattle.hgs_files.specs.Reads.{Grows};
 ghost use Rattle.hgs_load.specs.Answer.{HasFaultCause};
 ghost use Rattle.hgs_files.specs.Tree.{Tree};
 ghost use Rattle.hgs_judge.specs.Read.{AreRead};
 ghost use Rattle.hgs_stands.specs.Places.{changelog_data, changelog_index, manifest_data, manifest_index};
 ghost use Rattle.hgs_verify.specs.Filelog.{OfTree};
-ghost use Rattle.hgs_verify.specs.Store.{IsLogOf, IsStoreOf};
+ghost use Rattle.hgs_report.specs.Store.{IsLogOf, IsStoreOf};
 
 use crate::filelog::of_refusal;
 use crate::whole::read_file;
-use hgs_bytes::bytes::Bytes;
 use hgs_files::files::Reads;
-use hgs_files::path::{StorePath, path_of};
-use hgs_judge::changesets::{Changeset, read_changesets};
-use hgs_judge::reading::{Reading, read};
+use hgs_files::path::StorePath;
+use hgs_judge::changesets::read_changesets;
+use hgs_judge::reading::read;
 use hgs_judge::trees::read_trees;
 use hgs_load::answer::ReadAnswer;
 use hgs_load::ask::bytes_of;
-use hgs_manifest::manifest::Manifest;
+use hgs_files::path::path_of;
+use hgs_report::store::{ReadLog, Store};
 use hgs_revlog::fault::RevFault;
 use std::alloc::Global;
-
-/// A revlog that was read, with the bytes of its data file, none where that isn't there.
-#[derive(Drop)]
-pub struct ReadLog {
-    pub reading: Reading,
-    pub chunks: Option<Bytes>,
-    /// Whether bytes stand behind the last whole entry of the index, and behind the last chunk of the data.
-    pub index_rest: bool,
-    pub data_rest: bool,
-}
-
-/// What is read of a store before its filelogs.
-#[derive(Drop)]
-pub struct Store {
-    pub changelog: ReadLog,
-    pub manifest: ReadLog,
-    /// What can be read of each changeset.
-    pub changesets: Vec<Changeset>,
-    /// The rows of each manifest; none where its text can't be read.
-    pub trees: Vec<Option<Manifest>>,
-}
 
 // Reads a revlog up to its first fault.
 fn read_log<R: Reads>(
@@ -56,6 +36,7 @@ fn read_log<R: Reads>(
     ensures same_start { R.start files.new ≡ R.start files.old }
     ensures still { R.alone ≡ true → R.seen files.new ≡ R.seen files.old }
     ensures cause { HasFaultCause (R.faults files.old) (R.faults files.new) (R.denied files.old) (R.denied files.new) result }
+    ensures refused { IfErr result (λ e. is_refusal e ≡ true) }
 {
     let index_part = read_file(alloc, files, index)?;
     let chunks = read_file(alloc, files, chunks)?;
@@ -100,6 +81,7 @@ pub fn read_store<R: Reads>(alloc: Global, files: &mut R) -> Result<Store, ReadA
     ensures same_start { R.start files.new ≡ R.start files.old }
     ensures still { R.alone ≡ true → R.seen files.new ≡ R.seen files.old }
     ensures cause { HasFaultCause (R.faults files.old) (R.faults files.new) (R.denied files.old) (R.denied files.new) result }
+    ensures refused { IfErr result (λ e. is_refusal e ≡ true) }
 {
     let index = path_of(alloc, b"store/00changelog.i")?;
     let chunks = path_of(alloc, b"store/00changelog.d")?;

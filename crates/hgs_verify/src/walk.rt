@@ -1,18 +1,19 @@
 //! The paths of a store, one after another.
-ghost use Rattle.std.specs.Prelude.{◌≡◌, OnOk, true};
+ghost use Rattle.std.specs.Prelude.{◌≡◌, OnOk, true, IfErr};
+ghost use Rattle.hgs_verify.specs.Refusal.{is_refusal};
 ghost use Rattle.hgs_files.specs.Reads.{Grows};
 ghost use Rattle.hgs_load.specs.Answer.{HasFaultCause};
 ghost use Rattle.hgs_judge.specs.Report.{findings_in};
 ghost use Rattle.hgs_verify.specs.Filelog.{OfTree};
-ghost use Rattle.hgs_verify.specs.Store.{IsStoreOf};
+ghost use Rattle.hgs_report.specs.Store.{IsStoreOf};
 ghost use Rattle.hgs_verify.specs.Walk.{AddPaths, AreMarked};
 
 use crate::one::judge_one;
-use crate::store::Store;
 use hgs_bytes::bytes::Bytes;
 use hgs_files::files::Reads;
 use hgs_judge::report::Finding;
 use hgs_load::answer::ReadAnswer;
+use hgs_report::store::Store;
 use std::alloc::Global;
 use std::collections::BTreeSet;
 
@@ -42,6 +43,7 @@ pub fn judge_paths<R: Reads>(
     ensures same_start { R.start files.new ≡ R.start files.old }
     ensures still { R.alone ≡ true → R.seen files.new ≡ R.seen files.old }
     ensures cause { HasFaultCause (R.faults files.old) (R.faults files.new) (R.denied files.old) (R.denied files.new) result }
+    ensures refused { IfErr result (λ e. is_refusal e ≡ true) }
 {
     while let Some(path) = paths.pop_first() {
         let wrong = judge_one(alloc, files, store, path.as_slice(), into)?;

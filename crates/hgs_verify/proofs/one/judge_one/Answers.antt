@@ -5,7 +5,7 @@ use Rattle.hgs_judge.specs.Report.{findings_in, of_path}
 use Rattle.hgs_judge.specs.Words.{words_in}
 use Rattle.hgs_verify.specs.Added.{AddsPath}
 use Rattle.hgs_verify.specs.Filelog.{IsJudgedIn}
-use Rattle.hgs_verify.specs.Store.{IsStoreOf}
+use Rattle.hgs_report.specs.Store.{IsStoreOf}
 use Rattle.hgs_verify.proofs.PathAdded.{if-each, path-added}
 use Rattle.hgs_verify.proofs.one.judge_one.Goals as goal
 

@@ -1,7 +1,7 @@
 use Rattle.std.proofs.Common.{subst}
 use Rattle.hgs_files.specs.Tree.{Tree}
 use Rattle.hgs_stands.specs.Places.{changelog_index, changelog_data, manifest_index, manifest_data}
-use Rattle.hgs_verify.specs.Store.{IsLogOf, IsStoreOf}
+use Rattle.hgs_report.specs.Store.{IsLogOf, IsStoreOf}
 use Rattle.hgs_verify.proofs.FileLemmas.{grows-on, two-looks}
 use Rattle.hgs_verify.proofs.store.read_store.Goals as goal
 

@@ -2,7 +2,7 @@ use Rattle.std.proofs.Common.{Bool, List, ◌∙◌, sym, subst, arith}
 use Rattle.hgs_findings.specs.Findings.{Finding}
 use Rattle.hgs_judge.specs.Report.{findings_in}
 use Rattle.hgs_verify.specs.Added.{AddsPath}
-use Rattle.hgs_verify.specs.Store.{IsStoreOf}
+use Rattle.hgs_report.specs.Store.{IsStoreOf}
 use Rattle.hgs_verify.specs.Walk.{AddPaths, AreMarked}
 use Rattle.hgs_verify.proofs.FileLemmas.{grows-on, two-looks}
 use Rattle.hgs_verify.proofs.walk.judge_paths.Goals as goal

@@ -4,7 +4,7 @@ use Rattle.hgs_files.specs.Reads.{Grows}
 use Rattle.hgs_files.specs.Tree.{after_all}
 use Rattle.hgs_findings.specs.Findings.{Finding}
 use Rattle.hgs_judge.specs.Report.{findings_in}
-use Rattle.hgs_verify.specs.Store.{IsStoreOf}
+use Rattle.hgs_report.specs.Store.{IsStoreOf}
 use Rattle.hgs_verify.specs.Walk.{AddPaths}
 use Rattle.hgs_verify.proofs.walk.judge_paths.Given as goal
 

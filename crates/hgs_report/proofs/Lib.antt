@@ -1,0 +1,10 @@
+pub mod EachLemmas
+pub mod LineLemmas
+pub mod ListLemmas
+pub mod NameLemmas
+pub mod PartLemmas
+pub mod StandLemmas
+pub mod StoreLemmas
+pub mod TextLemmas
+pub mod TrackedLemmas
+pub mod UsedLemmas

@@ -1,0 +1,7 @@
+use Rattle.std.proofs.Common.{◌≡◌, ◌++◌, take}
+use Rattle.hgs_judge.specs.Report.{each_from, findings_in}
+use Rattle.hgs_report.specs.Logs.{of_link}
+use Rattle.hgs_report.proofs.logs.add_links.Given as goal
+
+abbrev pub invariant-loop-rev : goal.invariant-loop-rev
+invariant-loop-rev l = findings_in l.into.items ≡ findings_in l.initial.into.items ++ each_from (of_link l.changelog) 0 (take l.rev l.reading.log.entries)
