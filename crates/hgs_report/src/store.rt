@@ -1,6 +1,5 @@
 //! What is read of a store before its filelogs, and what is found of it.
-ghost use Rattle.std.specs.Prelude.{◌≡◌, ◌<◌, ◌^◌, ◌++◌, true, length, IfOk, OnOk};
-ghost use Rattle.hgs_files.specs.Path.{is_store_path};
+ghost use Rattle.std.specs.Prelude.{◌≡◌, ◌<◌, ◌^◌, ◌++◌, length, IfOk, OnOk};
 ghost use Rattle.hgs_files.specs.Tree.{Tree};
 ghost use Rattle.hgs_stands.specs.Places.{changelog_data, changelog_index, manifest_data, manifest_index};
 ghost use Rattle.hgs_judge.specs.Report.{findings_in};
@@ -10,7 +9,7 @@ ghost use Rattle.hgs_report.specs.Store.{IsOfStore, IsStoreOf};
 
 use crate::logs::{add_changesets, add_links, add_log, add_trees, manifest_kinds};
 use hgs_bytes::bytes::Bytes;
-use hgs_files::path::{NameFault, StorePath};
+use hgs_files::path::{StorePath, path_of};
 use hgs_judge::changesets::Changeset;
 use hgs_judge::kinds::Kinds;
 use hgs_judge::reading::Reading;
@@ -53,18 +52,6 @@ pub struct LogPaths {
     ghost changelog_chunks_are: { changelog_chunks ≡ changelog_data },
     ghost manifest_is: { manifest ≡ manifest_index },
     ghost manifest_chunks_are: { manifest_chunks ≡ manifest_data },
-}
-
-// The path of these bytes, which are one.
-fn path_of(alloc: Global, bytes: &[u8]) -> Result<StorePath, AllocError>
-    requires { is_store_path bytes.now ≡ true }
-    ensures { IfOk result (λ path. path ≡ bytes.now) }
-{
-    match StorePath::new(alloc, bytes) {
-        Ok(path) => Ok(path),
-        Err(NameFault::Memory) => Err(AllocError),
-        Err(NameFault::Shape) => unreachable!(),
-    }
 }
 
 impl LogPaths {
