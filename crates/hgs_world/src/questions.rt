@@ -1,0 +1,76 @@
+//! Questions to what a reader has loaded.
+use crate::seen::NoMemory;
+use crate::texts::word_line;
+use hgs_mem::steady::SteadyFiles;
+use hgs_reader::answer::ReadAnswer;
+use hgs_reader::session::Session;
+use std::alloc::Global;
+
+// Adds the line of a refusal, where it speaks of the repository.
+fn push_refusal(alloc: Global, refusal: &ReadAnswer, into: &mut Vec<u8>) -> Result<(), NoMemory> {
+    match refusal {
+        ReadAnswer::Fault | ReadAnswer::Memory => Err(NoMemory),
+        _ => {
+            refusal.print(alloc, into)?;
+            Ok(())
+        }
+    }
+}
+
+/// The line of a refusal, where it speaks of the repository.
+pub fn refusal_line(alloc: Global, refusal: &ReadAnswer) -> Result<Vec<u8>, NoMemory> {
+    let mut line = Vec::new(alloc);
+    push_refusal(alloc, refusal, &mut line)?;
+    Ok(line)
+}
+
+/// The line of each changeset, newest first, up to the first that can't be read.
+pub fn log_text(
+    alloc: Global,
+    files: &mut SteadyFiles,
+    session: &mut Session,
+) -> Result<Vec<u8>, NoMemory> {
+    let mut text = Vec::new(alloc);
+    let mut left = session.len();
+    while left > 0 {
+        left -= 1;
+        if let Err(refusal) = session.log_line(files, left, &mut text) {
+            push_refusal(alloc, &refusal, &mut text)?;
+            return Ok(text);
+        }
+    }
+    Ok(text)
+}
+
+/// The body of a file of the changeset with this name.
+pub fn body_text(
+    alloc: Global,
+    files: &mut SteadyFiles,
+    session: &mut Session,
+    name: &[u8],
+    path: &[u8],
+) -> Result<Vec<u8>, NoMemory> {
+    let Some(rev) = session.resolve(name) else {
+        return word_line(alloc, b"abort: unknown revision");
+    };
+    let mut text = Vec::new(alloc);
+    match session.cat(files, rev, path, &mut text) {
+        Ok(()) => Ok(text),
+        Err(refusal) => refusal_line(alloc, &refusal),
+    }
+}
+
+/// The phase of the changeset with this name.
+pub fn phase_text(alloc: Global, session: &Session, name: &[u8]) -> Result<Vec<u8>, NoMemory> {
+    match session.resolve(name) {
+        Some(rev) => word_line(alloc, session.phase(rev).name()),
+        None => word_line(alloc, b"abort: unknown revision"),
+    }
+}
+
+/// The bookmarks, a line for each.
+pub fn bookmarks_text(alloc: Global, session: &Session) -> Result<Vec<u8>, NoMemory> {
+    let mut text = Vec::new(alloc);
+    session.bookmarks(&mut text)?;
+    Ok(text)
+}

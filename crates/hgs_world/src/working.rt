@@ -1,0 +1,168 @@
+//! A writer at work, whose operations are done one event after another.
+ghost use Rattle.std.specs.Prelude.{◌≡◌, List, [], IfOk, OnOk, Some, true};
+ghost use Rattle.hgs_files.specs.declared.op.Op.{Op};
+ghost use Rattle.hgs_files.specs.Files.{GoesOn};
+ghost use Rattle.hgs_machine.specs.Asked.{asked};
+ghost use Rattle.hgs_mem.specs.Steady.{steady_log, steady_start, steady_tree};
+ghost use Rattle.hgs_world.specs.Working.{Acts, Does, IsAtNext, IsAtWork, IsSizing, OfOperation, RunsTo, at_machine, is_at, is_part, line_at, writer_left};
+ghost use Rattle.hgs_world.specs.Parts.{DoesPart};
+
+use crate::parts::{do_part, do_rest, op_length};
+use crate::seen::NoMemory;
+use crate::texts::{answer_line, word_line};
+use hgs_files::files::Reads;
+use hgs_files::op::Op;
+use hgs_index::node::Node;
+use hgs_machine::machine::{Machine, Next, Reply};
+use hgs_mem::steady::SteadyFiles;
+use std::alloc::Global;
+
+/// A writer at work.
+#[derive(Drop)]
+pub struct Working {
+    pub machine: Machine,
+    /// How many bytes of its next operation are done.
+    pub part: u64,
+    /// The changeset that it answers once it is done.
+    pub rev: u32,
+    pub node: Node,
+}
+
+/// What is done of the writer's next operation.
+#[derive(Clone, Copy, Debug)]
+pub enum Deed {
+    /// All that is left of it.
+    All,
+    /// So many more bytes.
+    Part(u64),
+    /// So many more bytes, and then it fails.
+    Fail(u64),
+}
+
+/// Up to where a writer goes on.
+#[derive(Clone, Copy, Debug)]
+pub enum Goal {
+    /// Its next operation publishes.
+    Publishing,
+    /// Its next operation removes the journal of what is published.
+    Cleaning,
+    End,
+}
+
+// Answers the question for a size, if that is what the writer asks for.
+fn answer_size(files: &mut SteadyFiles, machine: &mut Machine) -> Result<bool, NoMemory> {
+    let size = match machine.next() {
+        Next::Size(path) => files.size(path),
+        _ => return Ok(false),
+    };
+    match size {
+        Ok(size) => {
+            machine.feed(Reply::Size(size));
+            Ok(true)
+        }
+        Err(_) => Err(NoMemory),
+    }
+}
+
+// Answers the writer's questions for sizes, up to its next operation.
+fn come_to_next(files: &mut SteadyFiles, machine: &mut Machine) -> Result<(), NoMemory> {
+    while answer_size(files, machine)? {}
+    Ok(())
+}
+
+// Whether fewer bytes are to be done than are left.
+fn is_part(op: &Op, part: u64, count: u64) -> bool
+    ensures { result ≡ is_part op.now part count }
+{
+    count < op_length(op).saturating_sub(part)
+}
+
+impl Working {
+    // Does all that is left of the next operation.
+    fn finish_next(&mut self, files: &mut SteadyFiles) -> Result<(), NoMemory> {
+        match self.machine.next() {
+            Next::Do(op) => do_rest(files, op, self.part)?,
+            _ => return Ok(()),
+        }
+        self.machine.feed(Reply::Done);
+        self.part = 0;
+        Ok(())
+    }
+
+    // Does so many bytes of the next operation, or all that is left of it.
+    fn do_more(&mut self, files: &mut SteadyFiles, count: u64) -> Result<(), NoMemory> {
+        if let Next::Do(op) = self.machine.next() {
+            if is_part(op, self.part, count) {
+                do_part(files, op, self.part, count)?;
+                self.part += count;
+                return Ok(());
+            }
+        }
+        self.finish_next(files)
+    }
+
+    // Does so many bytes of the next operation, which then fails.
+    fn fail_next(&mut self, files: &mut SteadyFiles, count: u64) -> Result<(), NoMemory> {
+        match self.machine.next() {
+            Next::Do(op) => do_part(files, op, self.part, count)?,
+            _ => return Ok(()),
+        }
+        self.machine.feed(Reply::Failed);
+        self.part = 0;
+        Ok(())
+    }
+
+    /// Does this of the next operation, before which it answers questions for sizes.
+    pub fn act(&mut self, files: &mut SteadyFiles, deed: Deed) -> Result<(), NoMemory> {
+        come_to_next(files, &mut self.machine)?;
+        match deed {
+            Deed::All => self.finish_next(files),
+            Deed::Part(count) => self.do_more(files, count),
+            Deed::Fail(count) => self.fail_next(files, count),
+        }
+    }
+
+    // Whether it is where it is to go on to.
+    fn is_at(&self, goal: Goal) -> bool
+        ensures { result ≡ is_at goal self.now.machine }
+    {
+        match goal {
+            Goal::Publishing => self.machine.is_publishing(),
+            Goal::Cleaning => self.machine.is_cleaning(),
+            Goal::End => false,
+        }
+    }
+
+    /// Whether nothing is left for it to do.
+    pub fn has_ended(&self) -> bool {
+        matches!(self.machine.next(), Next::End(_))
+    }
+
+    /// Does operations up to a goal, or to its end.
+    pub fn run(&mut self, files: &mut SteadyFiles, goal: Goal) -> Result<(), NoMemory> {
+        loop {
+            come_to_next(files, &mut self.machine)?;
+            if self.has_ended() || self.is_at(goal) {
+                return Ok(());
+            }
+            self.finish_next(files)?;
+        }
+    }
+
+    /// Does so many bytes of the next operation, and nothing more.
+    pub fn stop(&mut self, files: &mut SteadyFiles, count: u64) -> Result<(), NoMemory> {
+        come_to_next(files, &mut self.machine)?;
+        match self.machine.next() {
+            Next::Do(op) => do_part(files, op, self.part, count),
+            _ => Ok(()),
+        }
+    }
+
+    /// Its line: its answer where nothing is left to do, else these words.
+    pub fn line(&self, alloc: Global, words: &[u8]) -> Result<Vec<u8>, NoMemory> {
+        match self.machine.next() {
+            Next::End(ended) => answer_line(alloc, ended, self.rev, &self.node),
+            _ => word_line(alloc, words),
+        }
+    }
+}
