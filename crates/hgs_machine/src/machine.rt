@@ -16,7 +16,7 @@ use hgs_files::path::StorePath;
 use hgs_transaction::assemble::Plan;
 
 /// What a machine asks for.
-#[derive(Debug)]
+#[derive(Debug, Drop)]
 pub enum Next<'a> {
     /// This operation.
     Do(&'a Op),

@@ -1,5 +1,5 @@
 -- A writer at work.
-use Rattle.std.specs.Prelude.{◌≡◌, ◌⊎◌, ℕ, ◌+◌, ◌-◌, List, [], ◌++◌, Bool, true, false, Option, Some, None, if◌then◌else◌, nat_lt}
+use Rattle.std.specs.Prelude.{◌≡◌, ◌⊎◌, ℕ, ◌+◌, ◌-◌, ◌≤◌, List, [], ◌++◌, Bool, true, false, Option, Some, None, if◌then◌else◌, nat_lt}
 use Rattle.hgs_files.specs.declared.op.Op.{Op}
 use Rattle.hgs_files.specs.Reads.{IsSizeOf}
 use Rattle.hgs_files.specs.Tree.{Tree, after_all}
@@ -32,6 +32,15 @@ pub record IsAtNext (t : Tree) (from m : Machine) : Type 0 where
   pub sizes : Sizes t from m
   pub no_more : IsSizing (asked m) → ⊥
 
+-- A question for a size was answered, or none was asked.
+abbrev pub AnswersSize : Tree → Machine → Machine → Bool → Type 0
+AnswersSize t old new true = (path : List ℕ) × (size : Option ℕ) × (asked old ≡ Sizing path) × IsSizeOf (t path) size × (new ≡ fed old (Size size))
+AnswersSize t old new false = (new ≡ old) × (IsSizing (asked old) → ⊥)
+
+-- what was done so far is so still
+abbrev pub KeepsSoFar : Tree → Machine → Machine → Type 0
+KeepsSoFar t old new = (from : Tree) (log : List Op) → after_all log from ≡ t → SoFar from old log → SoFar from new log
+
 abbrev pub at_machine : Working → Machine → Working
 at_machine w m = record w { machine = m }
 
@@ -52,6 +61,12 @@ with_part w count = record w { part = w.part + count }
 abbrev pub is_part : Op → ℕ → ℕ → Bool
 is_part op part count = nat_lt count (op_length op - part)
 
+-- whether that is so of what is asked for
+abbrev pub asks_part : Question → ℕ → ℕ → Bool
+asks_part (Doing op) part count = is_part op part count
+asks_part (Sizing path) part count = false
+asks_part Ending part count = false
+
 -- The rest of the operation is done; or so many bytes of it, where more are left; or so many and then it fails.
 abbrev pub Does : Deed → Op → Working → List Op → Working → Type 0
 Does All op w done after = DoesRest op w.part done × (after ≡ wholly w)
@@ -65,6 +80,11 @@ abbrev pub OfOperation : Question → (Op → Type 0) → Type 0 → Type 0
 OfOperation (Doing op) Holds Left = Holds op
 OfOperation (Sizing path) Holds Left = Left
 OfOperation Ending Holds Left = Left
+
+-- at least one byte is to be done
+abbrev pub HasBytes : Deed → Type 0
+HasBytes (Part count) = 1 ≤ count
+HasBytes _ = Unit {0}
 
 -- An event of the writer: questions for sizes are answered first.
 pub record Acts (deed : Deed) (t : Tree) (w : Working) (done : List Op) (after : Working) : Type 0 where
@@ -99,7 +119,18 @@ pub record RunsTo (goal : Goal) (t : Tree) (from : Working) (done : List Op) (af
   pub stops : Stops goal machine (asked machine)
   pub is : after ≡ at_machine last machine
 
+-- A stop: so many more bytes of the next operation are done, and nothing more.
+pub record StopsWithin (count : ℕ) (t : Tree) (w : Working) (done : List Op) : Type 0 where
+  pub machine : Machine
+  pub next : IsAtNext t w.machine machine
+  pub does : OfOperation (asked machine) (λ op. DoesPart op w.part count done) (done ≡ [])
+
 -- ---- what is left of the writer, and its line
+
+abbrev pub is_ending : Question → Bool
+is_ending Ending = true
+is_ending (Doing op) = false
+is_ending (Sizing path) = false
 
 abbrev pub writer_left : Question → Working → Option Working
 writer_left (Doing op) w = Some w
@@ -126,3 +157,7 @@ pub record IsAtWork (now : Tree) (w : Working) : Type 0 where
   pub begun : List Op
   pub is_begun : IsBegun (asked w.machine) w.part begun
   pub is_now : after_all begun (after_all log from) ≡ now
+
+-- so it is, whatever tree it began at
+abbrev pub CanGoOn : Tree → Working → Type 0
+CanGoOn now w = (IsAtWork now w → ⊥) → ⊥

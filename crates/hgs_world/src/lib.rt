@@ -5,6 +5,7 @@ pub mod parts;
 pub mod questions;
 pub mod reading;
 pub mod seen;
+pub mod state;
 pub mod texts;
 pub mod working;
 pub mod world;

@@ -1,5 +1,5 @@
 //! What is seen of an event.
-use std::alloc::AllocError;
+use std::alloc::{AllocError, AllocFailed};
 
 /// What an event writes.
 #[derive(Drop)]
@@ -15,11 +15,17 @@ pub enum Seen {
 pub struct NoMemory;
 
 impl From<AllocError> for NoMemory {
-    ghost use Rattle.std.specs.Prelude.{◌≡◌};
-
     ghost from_gives = { λ _ e. Unit {0} };
 
     fn from(_: AllocError) -> NoMemory {
+        NoMemory
+    }
+}
+
+impl<T: Drop> From<AllocFailed<T>> for NoMemory {
+    ghost from_gives = { λ _ e. Unit {0} };
+
+    fn from(_: AllocFailed<T>) -> NoMemory {
         NoMemory
     }
 }

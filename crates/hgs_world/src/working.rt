@@ -1,11 +1,12 @@
 //! A writer at work, whose operations are done one event after another.
-ghost use Rattle.std.specs.Prelude.{◌≡◌, List, [], IfOk, OnOk, Some, true};
+ghost use Rattle.std.specs.Prelude.{◌≡◌, ◌≤◌, ◌<◌, ◌+◌, ◌^◌, List, [], IfOk, Ok, OnOk, Some, true};
 ghost use Rattle.hgs_files.specs.declared.op.Op.{Op};
 ghost use Rattle.hgs_files.specs.Files.{GoesOn};
-ghost use Rattle.hgs_machine.specs.Asked.{asked};
+ghost use Rattle.hgs_machine.specs.Asked.{Doing, asked};
+ghost use Rattle.hgs_machine.specs.SoFar.{questions_left};
 ghost use Rattle.hgs_mem.specs.Steady.{steady_log, steady_start, steady_tree};
-ghost use Rattle.hgs_world.specs.Working.{Acts, Does, IsAtNext, IsAtWork, IsSizing, OfOperation, RunsTo, at_machine, is_at, is_part, line_at, writer_left};
-ghost use Rattle.hgs_world.specs.Parts.{DoesPart};
+ghost use Rattle.hgs_world.specs.Texts.{word_line};
+ghost use Rattle.hgs_world.specs.Working.{Acts, AnswersSize, asks_part, Does, HasBytes, IsAtNext, CanGoOn, KeepsSoFar, OfOperation, RunsTo, StopsWithin, is_at, is_ending, is_part, line_at};
 
 use crate::parts::{do_part, do_rest, op_length};
 use crate::seen::NoMemory;
@@ -13,6 +14,7 @@ use crate::texts::{answer_line, word_line};
 use hgs_files::files::Reads;
 use hgs_files::op::Op;
 use hgs_index::node::Node;
+use hgs_machine::laws::sources_stand;
 use hgs_machine::machine::{Machine, Next, Reply};
 use hgs_mem::steady::SteadyFiles;
 use std::alloc::Global;
@@ -50,7 +52,13 @@ pub enum Goal {
 }
 
 // Answers the question for a size, if that is what the writer asks for.
-fn answer_size(files: &mut SteadyFiles, machine: &mut Machine) -> Result<bool, NoMemory> {
+fn answer_size(files: &mut SteadyFiles, machine: &mut Machine) -> Result<bool, NoMemory>
+    ensures answers { IfOk result (AnswersSize (steady_tree files.old) machine.old machine.new) }
+    ensures so_far { OnOk result (KeepsSoFar (steady_tree files.old) machine.old machine.new) }
+    ensures fewer { result ≡ Ok true → questions_left machine.new < questions_left machine.old }
+    ensures log { steady_log files.new ≡ steady_log files.old }
+    ensures same_start { steady_start files.new ≡ steady_start files.old }
+{
     let size = match machine.next() {
         Next::Size(path) => files.size(path),
         _ => return Ok(false),
@@ -65,21 +73,40 @@ fn answer_size(files: &mut SteadyFiles, machine: &mut Machine) -> Result<bool, N
 }
 
 // Answers the writer's questions for sizes, up to its next operation.
-fn come_to_next(files: &mut SteadyFiles, machine: &mut Machine) -> Result<(), NoMemory> {
-    while answer_size(files, machine)? {}
-    Ok(())
+fn come_to_next(files: &mut SteadyFiles, machine: &mut Machine) -> Result<(), NoMemory>
+    ensures next { OnOk result (IsAtNext (steady_tree files.old) machine.old machine.new) }
+    ensures fewer { OnOk result (questions_left machine.new ≤ questions_left machine.old) }
+    ensures so_far { OnOk result (KeepsSoFar (steady_tree files.old) machine.old machine.new) }
+    ensures log { steady_log files.new ≡ steady_log files.old }
+    ensures same_start { steady_start files.new ≡ steady_start files.old }
+{
+    'sizes: loop {
+        match answer_size(files, machine) {
+            Ok(true) => {}
+            Ok(false) => return Ok(()),
+            Err(fault) => return Err(fault),
+        }
+    }
 }
 
 // Whether fewer bytes are to be done than are left.
 fn is_part(op: &Op, part: u64, count: u64) -> bool
-    ensures { result ≡ is_part op.now part count }
+    ensures part { result ≡ is_part op.now part count }
+    ensures small { result ≡ true → part + count < 2 ^ 64 }
 {
     count < op_length(op).saturating_sub(part)
 }
 
 impl Working {
     // Does all that is left of the next operation.
-    fn finish_next(&mut self, files: &mut SteadyFiles) -> Result<(), NoMemory> {
+    fn finish_next(&mut self, files: &mut SteadyFiles) -> Result<(), NoMemory>
+        requires at_work { CanGoOn (steady_tree files.old) self.old }
+        ensures does { OnOk result (GoesOn (Some (steady_log files.old)) (Some (steady_log files.new)) (λ done. OfOperation (asked self.old.machine) (λ op. Does Deed.All op self.old done self.new) ((done ≡ []) × (self.new ≡ self.old)))) }
+        ensures at_work { OnOk result (CanGoOn (steady_tree files.new) self.new) }
+        ensures same_start { steady_start files.new ≡ steady_start files.old }
+        ensures fewer { OnOk result ((op : Op) → asked self.old.machine ≡ Doing op → questions_left self.new.machine < questions_left self.old.machine) }
+    {
+        sources_stand();
         match self.machine.next() {
             Next::Do(op) => do_rest(files, op, self.part)?,
             _ => return Ok(()),
@@ -89,20 +116,43 @@ impl Working {
         Ok(())
     }
 
-    // Does so many bytes of the next operation, or all that is left of it.
-    fn do_more(&mut self, files: &mut SteadyFiles, count: u64) -> Result<(), NoMemory> {
-        if let Next::Do(op) = self.machine.next() {
-            if is_part(op, self.part, count) {
-                do_part(files, op, self.part, count)?;
-                self.part += count;
-                return Ok(());
-            }
+    // Whether more than so many bytes of the next operation are left.
+    fn has_part(&self, count: u64) -> bool
+        ensures part { result ≡ asks_part (asked self.now.machine) self.now.part count }
+        ensures small { result ≡ true → self.now.part + count < 2 ^ 64 }
+    {
+        match self.machine.next() {
+            Next::Do(op) => is_part(op, self.part, count),
+            _ => false,
         }
-        self.finish_next(files)
+    }
+
+    // Does so many bytes of the next operation, or all that is left of it.
+    fn do_more(&mut self, files: &mut SteadyFiles, count: u64) -> Result<(), NoMemory>
+        requires at_work { CanGoOn (steady_tree files.old) self.old }
+        requires some { 1 ≤ count }
+        ensures does { OnOk result (GoesOn (Some (steady_log files.old)) (Some (steady_log files.new)) (λ done. OfOperation (asked self.old.machine) (λ op. Does (Deed.Part count) op self.old done self.new) ((done ≡ []) × (self.new ≡ self.old)))) }
+        ensures at_work { OnOk result (CanGoOn (steady_tree files.new) self.new) }
+        ensures same_start { steady_start files.new ≡ steady_start files.old }
+    {
+        if !self.has_part(count) {
+            return self.finish_next(files);
+        }
+        match self.machine.next() {
+            Next::Do(op) => do_part(files, op, self.part, count)?,
+            _ => return Ok(()),
+        }
+        self.part += count;
+        Ok(())
     }
 
     // Does so many bytes of the next operation, which then fails.
-    fn fail_next(&mut self, files: &mut SteadyFiles, count: u64) -> Result<(), NoMemory> {
+    fn fail_next(&mut self, files: &mut SteadyFiles, count: u64) -> Result<(), NoMemory>
+        requires at_work { CanGoOn (steady_tree files.old) self.old }
+        ensures does { OnOk result (GoesOn (Some (steady_log files.old)) (Some (steady_log files.new)) (λ done. OfOperation (asked self.old.machine) (λ op. Does (Deed.Fail count) op self.old done self.new) ((done ≡ []) × (self.new ≡ self.old)))) }
+        ensures at_work { OnOk result (CanGoOn (steady_tree files.new) self.new) }
+        ensures same_start { steady_start files.new ≡ steady_start files.old }
+    {
         match self.machine.next() {
             Next::Do(op) => do_part(files, op, self.part, count)?,
             _ => return Ok(()),
@@ -113,7 +163,13 @@ impl Working {
     }
 
     /// Does this of the next operation, before which it answers questions for sizes.
-    pub fn act(&mut self, files: &mut SteadyFiles, deed: Deed) -> Result<(), NoMemory> {
+    pub fn act(&mut self, files: &mut SteadyFiles, deed: Deed) -> Result<(), NoMemory>
+        requires at_work { CanGoOn (steady_tree files.old) self.old }
+        requires some { HasBytes deed }
+        ensures acts { OnOk result (GoesOn (Some (steady_log files.old)) (Some (steady_log files.new)) (λ done. Acts deed (steady_tree files.old) self.old done self.new)) }
+        ensures at_work { OnOk result (CanGoOn (steady_tree files.new) self.new) }
+        ensures same_start { steady_start files.new ≡ steady_start files.old }
+    {
         come_to_next(files, &mut self.machine)?;
         match deed {
             Deed::All => self.finish_next(files),
@@ -134,13 +190,20 @@ impl Working {
     }
 
     /// Whether nothing is left for it to do.
-    pub fn has_ended(&self) -> bool {
+    pub fn has_ended(&self) -> bool
+        ensures { result ≡ is_ending (asked self.now.machine) }
+    {
         matches!(self.machine.next(), Next::End(_))
     }
 
     /// Does operations up to a goal, or to its end.
-    pub fn run(&mut self, files: &mut SteadyFiles, goal: Goal) -> Result<(), NoMemory> {
-        loop {
+    pub fn run(&mut self, files: &mut SteadyFiles, goal: Goal) -> Result<(), NoMemory>
+        requires at_work { CanGoOn (steady_tree files.old) self.old }
+        ensures runs { OnOk result (GoesOn (Some (steady_log files.old)) (Some (steady_log files.new)) (λ done. RunsTo goal (steady_tree files.old) self.old done self.new)) }
+        ensures at_work { OnOk result (CanGoOn (steady_tree files.new) self.new) }
+        ensures same_start { steady_start files.new ≡ steady_start files.old }
+    {
+        'ops: loop {
             come_to_next(files, &mut self.machine)?;
             if self.has_ended() || self.is_at(goal) {
                 return Ok(());
@@ -150,7 +213,11 @@ impl Working {
     }
 
     /// Does so many bytes of the next operation, and nothing more.
-    pub fn stop(&mut self, files: &mut SteadyFiles, count: u64) -> Result<(), NoMemory> {
+    pub fn stop(&mut self, files: &mut SteadyFiles, count: u64) -> Result<(), NoMemory>
+        requires at_work { CanGoOn (steady_tree files.old) self.old }
+        ensures stops { OnOk result (GoesOn (Some (steady_log files.old)) (Some (steady_log files.new)) (StopsWithin count (steady_tree files.old) self.old)) }
+        ensures same_start { steady_start files.new ≡ steady_start files.old }
+    {
         come_to_next(files, &mut self.machine)?;
         match self.machine.next() {
             Next::Do(op) => do_part(files, op, self.part, count),
@@ -159,7 +226,9 @@ impl Working {
     }
 
     /// Its line: its answer where nothing is left to do, else these words.
-    pub fn line(&self, alloc: Global, words: &[u8]) -> Result<Vec<u8>, NoMemory> {
+    pub fn line(&self, alloc: Global, words: &[u8]) -> Result<Vec<u8>, NoMemory>
+        ensures { IfOk result (λ line. line.items ≡ line_at (asked self.now.machine) (word_line words.now) self.now) }
+    {
         match self.machine.next() {
             Next::End(ended) => answer_line(alloc, ended, self.rev, &self.node),
             _ => word_line(alloc, words),

@@ -1,7 +1,21 @@
 //! A repository in memory with one writer and some readers.
+ghost use Rattle.std.specs.Prelude.{◌≡◌, ◌<◌, ℕ, List, [], IfOk, IfSome, OnOk, None, Some, false, codes, length, map, replicate, true};
+ghost use Rattle.hgs_files.specs.Tree.{Tree};
+ghost use Rattle.hgs_machine.specs.Asked.{asked};
+ghost use Rattle.hgs_machine.specs.Planned.{IsPlanned};
+ghost use Rattle.hgs_mem.specs.Steady.{steady_log, steady_start, steady_tree};
+ghost use Rattle.hgs_model.specs.Valid.{IsValid};
+ghost use Rattle.hgs_schedule.specs.declared.event.Event.TheVariants.{Begin, Bookmarks, Cat, Load, Log, Open, Phase, Read};
+ghost use Rattle.hgs_schedule.specs.Schedule.{CanCome};
+ghost use Rattle.hgs_world.specs.Questions.{no_sight, sight_of};
+ghost use Rattle.hgs_world.specs.Texts.{begun_line, recovered_line};
+ghost use Rattle.hgs_world.specs.Working.{HasBytes, CanGoOn, writer_left};
+ghost use Rattle.hgs_world.specs.World.{ActsIn, Happens, HasEnded, IsEmptyRepository, IsFirst, IsSeen, RecoversIn, RunsIn, StopsIn, forgotten, new_writer, scene_of, tree_of};
+
 use crate::questions::{body_text, bookmarks_text, log_text, phase_text};
 use crate::reading::Reading;
 use crate::seen::{NoMemory, Seen};
+use crate::state::World;
 use crate::texts::{recovered_line, refused_line, word_line};
 use crate::working::{Deed, Goal, Working};
 use hgs_answers::answer::Answer;
@@ -24,19 +38,11 @@ const WHO: &[u8; 8] = b"hg-store";
 /// The words of a new repository, one on each line.
 const REQUIRES: &[u8; 33] = b"dotencode\nfncache\nrevlogv1\nstore\n";
 
-/// A repository in memory, the writer that is at work on it, and its readers.
-#[derive(Drop)]
-pub struct World {
-    alloc: Global,
-    files: SteadyFiles,
-    writer: Option<Working>,
-    readers: Vec<Reading>,
-    /// Whether there was no memory at some event.
-    spent: bool,
-}
-
 // The files of an empty repository.
-fn empty_repository(alloc: Global) -> Result<SteadyFiles, NoMemory> {
+fn empty_repository(alloc: Global) -> Result<SteadyFiles, NoMemory>
+    ensures log { IfOk result (λ files. steady_log files ≡ []) }
+    ensures start { IfOk result (λ files. IsEmptyRepository (steady_start files)) }
+{
     let path = path_of(alloc, b"requires")?;
     let mut files = SteadyFiles::new(alloc);
     match files.put(&path, REQUIRES) {
@@ -46,16 +52,23 @@ fn empty_repository(alloc: Global) -> Result<SteadyFiles, NoMemory> {
 }
 
 // So many readers that have loaded nothing.
-fn new_readers(alloc: Global, count: u32) -> Result<Vec<Reading>, NoMemory> {
+fn new_readers(alloc: Global, count: usize) -> Result<Vec<Reading>, NoMemory>
+    ensures sights { IfOk result (λ readers. map sight_of readers.items ≡ replicate count no_sight) }
+    ensures count { IfOk result (λ readers. length readers.items ≡ count) }
+{
     let mut readers = Vec::new(alloc);
-    for _ in 0..count {
+    for i in 0..count {
+        let _ = i;
         readers.push(Reading::new())?;
     }
     Ok(readers)
 }
 
 // The writer of a plan, with nothing done yet.
-fn writer_of(planned: Planned) -> Working {
+fn writer_of(planned: Planned) -> Working
+    ensures writer { result ≡ new_writer planned }
+    ensures at_work { (t : Tree) → IsPlanned t planned.plan → CanGoOn t result }
+{
     let Planned { plan, rev, node } = planned;
     Working {
         machine: Machine::new(plan),
@@ -66,7 +79,10 @@ fn writer_of(planned: Planned) -> Working {
 }
 
 // The line of a refused beginning, if it is not for want of memory.
-fn refused(alloc: Global, answer: &Answer) -> Result<Vec<u8>, NoMemory> {
+fn refused(alloc: Global, answer: &Answer) -> Result<Vec<u8>, NoMemory>
+    ensures line { IfOk result (λ line. line.items ≡ begun_line answer.now.outcome) }
+    ensures swept { IfOk result (λ line. answer.now.swept ≡ true) }
+{
     match answer.outcome {
         Outcome::Memory | Outcome::Fault => Err(NoMemory),
         _ if !answer.swept => Err(NoMemory),
@@ -75,7 +91,11 @@ fn refused(alloc: Global, answer: &Answer) -> Result<Vec<u8>, NoMemory> {
 }
 
 // The line of a recovery, if it did not break off for want of memory.
-fn recovered_text(alloc: Global, recovered: &Recovered) -> Result<Vec<u8>, NoMemory> {
+fn recovered_text(alloc: Global, recovered: &Recovered) -> Result<Vec<u8>, NoMemory>
+    ensures line { IfOk result (λ line. line.items ≡ recovered_line recovered.now.outcome) }
+    ensures ended { IfOk result (λ line. HasEnded recovered.now.outcome) }
+    ensures swept { IfOk result (λ line. recovered.now.swept ≡ true) }
+{
     match recovered.outcome {
         RecoverAnswer::Memory | RecoverAnswer::Fault | RecoverAnswer::Unfinished => Err(NoMemory),
         _ if !recovered.swept => Err(NoMemory),
@@ -85,17 +105,23 @@ fn recovered_text(alloc: Global, recovered: &Recovered) -> Result<Vec<u8>, NoMem
 
 impl World {
     /// An empty repository, with so many readers that have loaded nothing.
-    pub fn new(alloc: Global, readers: u32) -> Result<World, NoMemory> {
+    pub fn new(alloc: Global, readers: u32) -> Result<World, NoMemory>
+        ensures first { IfOk result (λ world. IsFirst readers (scene_of world)) }
+        ensures readers { IfOk result (λ world. length world.readers.items ≡ readers) }
+    {
         Ok(World {
             alloc,
             files: empty_repository(alloc)?,
             writer: None,
-            readers: new_readers(alloc, readers)?,
+            readers: new_readers(alloc, readers as usize)?,
             spent: false,
         })
     }
 
-    fn begin(&mut self, command: &Command) -> Result<Vec<u8>, NoMemory> {
+    fn begin(&mut self, command: &Command) -> Result<Vec<u8>, NoMemory>
+        requires { IsValid command.now }
+        ensures { IfOk result (λ text. Happens (Begin command.now) (scene_of self.old) (scene_of self.new) text.items) }
+    {
         if self.writer.is_some() {
             return word_line(self.alloc, b"busy");
         }
@@ -109,13 +135,20 @@ impl World {
     }
 
     // Keeps a writer that has something left to do.
-    fn keep(&mut self, working: Working) {
+    fn keep(&mut self, working: Working)
+        requires at_work { CanGoOn (tree_of (scene_of self.old)) working }
+        requires none { (scene_of self.old).writer ≡ None }
+        ensures { (scene_of self.new) ≡ record (scene_of self.old) { writer = writer_left (asked working.machine) working } }
+    {
         if !working.has_ended() {
             self.writer = Some(working);
         }
     }
 
-    fn act(&mut self, deed: Deed, words: &[u8]) -> Result<Vec<u8>, NoMemory> {
+    fn act(&mut self, deed: Deed, words: &[u8]) -> Result<Vec<u8>, NoMemory>
+        requires { HasBytes deed }
+        ensures { IfOk result (λ text. ActsIn deed words.now (scene_of self.old) (scene_of self.new) text.items) }
+    {
         let Some(mut working) = self.writer.take() else {
             return word_line(self.alloc, b"idle");
         };
@@ -125,7 +158,9 @@ impl World {
         Ok(line)
     }
 
-    fn run(&mut self, goal: Goal, words: &[u8]) -> Result<Vec<u8>, NoMemory> {
+    fn run(&mut self, goal: Goal, words: &[u8]) -> Result<Vec<u8>, NoMemory>
+        ensures { IfOk result (λ text. RunsIn goal words.now (scene_of self.old) (scene_of self.new) text.items) }
+    {
         let Some(mut working) = self.writer.take() else {
             return word_line(self.alloc, b"idle");
         };
@@ -136,65 +171,103 @@ impl World {
     }
 
     // Lets go what the readers have loaded, and their loads.
-    fn forget(&mut self) {
-        for reading in self.readers.iter_mut() {
-            *reading = Reading::new();
-        }
+    fn forget(&mut self) -> Result<(), NoMemory>
+        ensures scene { OnOk result (scene_of self.new ≡ record (scene_of self.old) { readers = forgotten (length (scene_of self.old).readers) }) }
+        ensures count { length self.new.readers.items ≡ length self.old.readers.items }
+    {
+        self.readers = new_readers(self.alloc, self.readers.len())?;
+        Ok(())
     }
 
-    fn stop(&mut self, count: u64) -> Result<Vec<u8>, NoMemory> {
+    fn stop(&mut self, count: u64) -> Result<Vec<u8>, NoMemory>
+        ensures { IfOk result (λ text. StopsIn count (scene_of self.old) (scene_of self.new) text.items) }
+    {
         let Some(mut working) = self.writer.take() else {
             return word_line(self.alloc, b"idle");
         };
         working.stop(&mut self.files, count)?;
-        self.forget();
+        self.forget()?;
         word_line(self.alloc, b"stopped")
     }
 
-    fn recover(&mut self) -> Result<Vec<u8>, NoMemory> {
+    fn recover(&mut self) -> Result<Vec<u8>, NoMemory>
+        ensures { IfOk result (λ text. RecoversIn (scene_of self.old) (scene_of self.new) text.items) }
+    {
         if self.writer.is_some() {
             return word_line(self.alloc, b"busy");
         }
         let recovered = recover(self.alloc, &mut self.files);
-        self.forget();
+        self.forget()?;
         recovered_text(self.alloc, &recovered)
     }
 
-    fn open(&mut self, reader: u32) -> Result<Vec<u8>, NoMemory> {
+    fn open(&mut self, reader: u32) -> Result<Vec<u8>, NoMemory>
+        requires { reader < length self.old.readers.items }
+        ensures { IfOk result (λ text. Happens (Open reader) (scene_of self.old) (scene_of self.new) text.items) }
+    {
         self.readers[reader as usize].open(self.alloc)?;
         word_line(self.alloc, b"loading")
     }
 
-    fn log(&mut self, reader: u32) -> Result<Vec<u8>, NoMemory> {
+    fn log(&mut self, reader: u32) -> Result<Vec<u8>, NoMemory>
+        requires { reader < length self.old.readers.items }
+        ensures { IfOk result (λ text. Happens (Log reader) (scene_of self.old) (scene_of self.new) text.items) }
+    {
         match &mut self.readers[reader as usize].session {
             Some(session) => log_text(self.alloc, &mut self.files, session),
             None => word_line(self.alloc, b"unloaded"),
         }
     }
 
-    fn body(&mut self, reader: u32, name: &[u8], path: &[u8]) -> Result<Vec<u8>, NoMemory> {
+    fn body(&mut self, reader: u32, name: &[u8], path: &[u8]) -> Result<Vec<u8>, NoMemory>
+        requires { reader < length self.old.readers.items }
+        ensures { IfOk result (λ text. Happens (Cat reader name.now path.now) (scene_of self.old) (scene_of self.new) text.items) }
+    {
         match &mut self.readers[reader as usize].session {
             Some(session) => body_text(self.alloc, &mut self.files, session, name, path),
             None => word_line(self.alloc, b"unloaded"),
         }
     }
 
-    fn phase(&self, reader: u32, name: &[u8]) -> Result<Vec<u8>, NoMemory> {
+    fn phase(&self, reader: u32, name: &[u8]) -> Result<Vec<u8>, NoMemory>
+        requires { reader < length self.now.readers.items }
+        ensures { IfOk result (λ text. Happens (Phase reader name.now) (scene_of self.now) (scene_of self.now) text.items) }
+    {
         match &self.readers[reader as usize].session {
             Some(session) => phase_text(self.alloc, session, name),
             None => word_line(self.alloc, b"unloaded"),
         }
     }
 
-    fn bookmarks(&self, reader: u32) -> Result<Vec<u8>, NoMemory> {
+    fn bookmarks(&self, reader: u32) -> Result<Vec<u8>, NoMemory>
+        requires { reader < length self.now.readers.items }
+        ensures { IfOk result (λ text. Happens (Bookmarks reader) (scene_of self.now) (scene_of self.now) text.items) }
+    {
         match &self.readers[reader as usize].session {
             Some(session) => bookmarks_text(self.alloc, session),
             None => word_line(self.alloc, b"unloaded"),
         }
     }
 
-    // What an event of the writer writes.
-    fn write(&mut self, event: &Event) -> Result<Vec<u8>, NoMemory> {
+    fn read(&mut self, reader: u32) -> Result<Vec<u8>, NoMemory>
+        requires { reader < length self.old.readers.items }
+        ensures { IfOk result (λ text. Happens (Read reader) (scene_of self.old) (scene_of self.new) text.items) }
+    {
+        self.readers[reader as usize].read(self.alloc, &mut self.files)
+    }
+
+    fn load(&mut self, reader: u32) -> Result<Vec<u8>, NoMemory>
+        requires { reader < length self.old.readers.items }
+        ensures { IfOk result (λ text. Happens (Load reader) (scene_of self.old) (scene_of self.new) text.items) }
+    {
+        self.readers[reader as usize].load(self.alloc, &mut self.files)
+    }
+
+    // What an event writes.
+    fn text_of(&mut self, event: &Event) -> Result<Vec<u8>, NoMemory>
+        requires { CanCome (length self.old.readers.items) event.now }
+        ensures { IfOk result (λ text. Happens event.now (scene_of self.old) (scene_of self.new) text.items) }
+    {
         match event {
             Event::Begin(command) => self.begin(command),
             Event::Write(None) => self.act(Deed::All, b"wrote"),
@@ -204,32 +277,25 @@ impl World {
             Event::UntilClean => self.run(Goal::Cleaning, b"at clean"),
             Event::Stop(count) => self.stop(*count),
             Event::Recover => self.recover(),
-            _ => self.run(Goal::End, b""),
-        }
-    }
-
-    // What an event writes.
-    fn text_of(&mut self, event: &Event) -> Result<Vec<u8>, NoMemory> {
-        match event {
+            Event::Finish => self.run(Goal::End, b""),
             Event::Open(reader) => self.open(*reader),
-            Event::Read(reader) => {
-                self.readers[*reader as usize].read(self.alloc, &mut self.files)
-            }
-            Event::Load(reader) => {
-                self.readers[*reader as usize].load(self.alloc, &mut self.files)
-            }
+            Event::Read(reader) => self.read(*reader),
+            Event::Load(reader) => self.load(*reader),
             Event::Log(reader) => self.log(*reader),
             Event::Cat { reader, rev, path } => {
                 self.body(*reader, rev.as_slice(), path.as_slice())
             }
             Event::Phase { reader, rev } => self.phase(*reader, rev.as_slice()),
             Event::Bookmarks(reader) => self.bookmarks(*reader),
-            _ => self.write(event),
         }
     }
 
     /// Makes an event happen, and gives what it writes. Once there was no memory nothing happens any more.
-    pub fn step(&mut self, event: &Event) -> Seen {
+    pub fn step(&mut self, event: &Event) -> Seen
+        requires { CanCome (length self.old.readers.items) event.now }
+        ensures seen { IsSeen event.now (scene_of self.old) (scene_of self.new) result }
+        ensures readers { length self.new.readers.items ≡ length self.old.readers.items }
+    {
         if self.spent {
             return Seen::Memory;
         }
