@@ -18,7 +18,9 @@ use Rattle.hgs_machine.specs.declared.machine.Machine.{Machine}
 use Rattle.hgs_machine.specs.declared.machine.Next.TheVariants.{Do, Size as SizeNext, End}
 use Rattle.hgs_machine.specs.declared.machine.Reply.{Reply}
 use Rattle.hgs_machine.specs.declared.machine.Reply.TheVariants.{Done, Failed, Size}
-use Rattle.hgs_world.specs.Parts.{DoesPart, DoesRest, HasDone}
+use Rattle.hgs_world.specs.Parts.{DoesPart, DoesRest, HasDone, op_length}
+use Rattle.std.specs.Prelude.{nat_lt}
+use Rattle.std.proofs.lemmas.Bool.Decides.{nat_tests}
 use Rattle.hgs_world.specs.Working.{Acts, AnswersSize, CanGoOn, Does, OfOperation, Runs, RunsTo, Stops, StopsWithin, asks_part, is_at, is_ending, is_part, not_yet, once_more, wholly, IsAtNext, IsAtWork, IsBegun, IsSizing, KeepsSoFar, Sizes, no_more, one_more, at_machine}
 use Rattle.hgs_world.specs.declared.working.Working.{Working}
 
@@ -39,10 +41,10 @@ is_sizing (Sizing path) e p h = ap (λ x. Sizing x) (sym h)
 is_sizing (Doing op) e p h = elim h [ ]
 is_sizing Ending e p h = elim h [ ]
 
-pub is_ending : (q : Question) (e f : Ended) → IsNext e q (End f) → q ≡ Ending
-is_ending Ending e f h = refl
-is_ending (Doing op) e f h = elim h [ ]
-is_ending (Sizing path) e f h = elim h [ ]
+pub asks_nothing : (q : Question) (e f : Ended) → IsNext e q (End f) → q ≡ Ending
+asks_nothing Ending e f h = refl
+asks_nothing (Doing op) e f h = elim h [ ]
+asks_nothing (Sizing path) e f h = elim h [ ]
 
 -- ---- what holds between events
 
@@ -153,16 +155,16 @@ sized t u m n path size e f s steps = λ from log is h.
     let replies : Replies (after_all log from) (asked m) (Size size) [] = subst (λ q. Replies (after_all log from) q (Size size) []) (sym e) (refl, there) in
     subst (λ l. SoFar from n l) (append-nil log) (steps from log [] h replies)
 
-pub sizes_on : (t u : Tree) (from m n : Machine) → u ≡ t → Sizes t from m → AnswersSize u m n true → Sizes t from n
-sizes_on t u from m n e s a =
-    let b = subst (λ x. AnswersSize x m n true) e a in
+pub sizes_on : (t u : Tree) (from m n : Machine) (more : Bool) → more ≡ true → u ≡ t → Sizes t from m → AnswersSize u m n more → Sizes t from n
+sizes_on t u from m n more is e s a =
+    let b = subst (λ x. AnswersSize x m n true) e (subst (λ b. AnswersSize u m n b) is a) in
     subst (λ k. Sizes t from k) (sym b.4) (one_more m b.0 b.1 s b.2 b.3)
 
 pub keeps_on : (t u : Tree) (from m n : Machine) → u ≡ t → KeepsSoFar t from m → KeepsSoFar u m n → KeepsSoFar t from n
 keeps_on t u from m n e f g = λ start log is h. g start log (is ∙ sym e) (f start log is h)
 
-pub next_at : (t u : Tree) (from m n : Machine) → Sizes t from m → AnswersSize u m n false → IsAtNext t from n
-next_at t u from m n s a = record { sizes = subst (λ k. Sizes t from k) (sym a.0) s; no_more = subst (λ k. IsSizing (asked k) → ⊥) (sym a.0) a.1 }
+pub next_at : (t u : Tree) (from m n : Machine) (more : Bool) → more ≡ false → Sizes t from m → AnswersSize u m n more → IsAtNext t from n
+next_at t u from m n more is s b = let a = subst (λ b. AnswersSize u m n b) is b in record { sizes = subst (λ k. Sizes t from k) (sym a.0) s; no_more = subst (λ k. IsSizing (asked k) → ⊥) (sym a.0) a.1 }
 
 pub come_on : (t u : Tree) (w : Working) (m : Machine) → u ≡ t → CanGoOn t w → IsAtNext t w.machine m → KeepsSoFar t w.machine m → CanGoOn u (at_machine w m)
 come_on t u w m e h n k = subst (λ (x : Tree). CanGoOn x (at_machine w m)) (sym e) (still t t w (at_machine w m) (λ a. come t w m a n k) h)
@@ -232,3 +234,51 @@ runs_on goal t u from w after m log now was new s h e f g n going far k =
 pub stops_within : (count : ℕ) (t : Tree) (w : Working) (m : Machine) (op : Op) (log was new : List Op) → IsAtNext t w.machine m → was ≡ log → asked m ≡ Doing op → GoesOn (Some was) (Some new) (DoesPart op w.part count) → GoesOn (Some log) (Some new) (StopsWithin count t w)
 stops_within count t w m op log was new n e a h =
     goes_from log was new (StopsWithin count t w) e (h.0, h.1, record { machine = m; next = n; does = subst (λ q. OfOperation q (λ o. DoesPart o w.part count h.0) (h.0 ≡ [])) (sym a) h.2 })
+
+pub acts_after : (deed : Deed) (t : Tree) (w v after : Working) (log was new : List Op) → IsAtNext t w.machine v.machine → v ≡ at_machine w v.machine → was ≡ log
+    → GoesOn (Some was) (Some new) (λ done. OfOperation (asked v.machine) (λ op. Does deed op v done after) ((done ≡ []) × (after ≡ v)))
+    → GoesOn (Some log) (Some new) (λ done. Acts deed t w done after)
+acts_after deed t w v after log was new n s e h =
+    acts_by deed t w after v.machine log was new n e (subst (λ x. GoesOn (Some was) (Some new) (λ done. OfOperation (asked v.machine) (λ op. Does deed op x done after) ((done ≡ []) × (after ≡ x)))) s h)
+
+pub runs_until : (goal : Goal) (from w v : Working) (log now was : List Op) (s u : Tree) → GoesOn (Some log) (Some now) (λ done. Runs goal (after_all log s) from done w) → u ≡ s → was ≡ now
+    → IsAtNext (after_all now u) w.machine v.machine → v ≡ at_machine w v.machine → (is_ending (asked v.machine) ≡ false → is_at goal v.machine ≡ true)
+    → GoesOn (Some log) (Some was) (λ done. RunsTo goal (after_all log s) from done v)
+runs_until goal from w v log now was s u h e g n same stops =
+    let r = runs_to goal (after_all log s) (after_all now u) from w v.machine log now s h refl (ap (λ (x : Tree). after_all now x) e) n stops in
+    subst (λ l. GoesOn (Some log) (Some l) (λ done. RunsTo goal (after_all log s) from done v)) (sym g)
+    (subst (λ x. GoesOn (Some log) (Some now) (λ done. RunsTo goal (after_all log s) from done x)) (sym same) r)
+
+pub runs_more : (goal : Goal) (from w v after : Working) (log now was new : List Op) (s u : Tree) → GoesOn (Some log) (Some now) (λ done. Runs goal (after_all log s) from done w) → u ≡ s → was ≡ now
+    → IsAtNext (after_all now u) w.machine v.machine → v ≡ at_machine w v.machine → is_ending (asked v.machine) ≡ false → is_at goal v.machine ≡ false
+    → GoesOn (Some was) (Some new) (λ done. OfOperation (asked v.machine) (λ op. Does All op v done after) ((done ≡ []) × (after ≡ v)))
+    → GoesOn (Some log) (Some new) (λ done. Runs goal (after_all log s) from done after)
+runs_more goal from w v after log now was new s u h e g n same going far k =
+    runs_on goal (after_all log s) (after_all now u) from w after v.machine log now was new s h refl (ap (λ (x : Tree). after_all now x) e) g n going far
+    (subst (λ x. GoesOn (Some was) (Some new) (λ done. OfOperation (asked v.machine) (λ op. Does All op x done after) ((done ≡ []) × (after ≡ x)))) same k)
+
+abbrev no_ops : List Op
+no_ops = []
+
+-- a stop where nothing is asked for but an operation
+pub stops_at_op : (count : ℕ) (t : Tree) (w v : Working) (op : Op) (log was new : List Op) → IsAtNext t w.machine v.machine → v ≡ at_machine w v.machine → was ≡ log → asked v.machine ≡ Doing op → GoesOn (Some was) (Some new) (DoesPart op v.part count)
+    → GoesOn (Some log) (Some new) (StopsWithin count t w)
+stops_at_op count t w v op log was new n same e a h =
+    stops_within count t w v.machine op log was new n e a (subst (λ (k : ℕ). GoesOn (Some was) (Some new) (DoesPart op k count)) (ap (λ x. x.part) same) h)
+
+pub stops_at_size : (count : ℕ) (t : Tree) (w v : Working) (path : List ℕ) (log was : List Op) → IsAtNext t w.machine v.machine → was ≡ log → asked v.machine ≡ Sizing path → GoesOn (Some log) (Some was) (StopsWithin count t w)
+stops_at_size count t w v path log was n e a = absurd (n.no_more (subst IsSizing (sym a) tt))
+
+pub stops_at_end : (count : ℕ) (t : Tree) (w v : Working) (log was : List Op) → IsAtNext t w.machine v.machine → was ≡ log → asked v.machine ≡ Ending → GoesOn (Some log) (Some was) (StopsWithin count t w)
+stops_at_end count t w v log was n e a =
+    (no_ops, ap (λ l. Some l) (e ∙ sym (append-nil log)), record { machine = v.machine; next = n; does = subst (λ q. OfOperation q (λ o. DoesPart o w.part count no_ops) (no_ops ≡ no_ops)) (sym a) refl })
+
+pub both_ok : {E : Type 0} (r : Result Unit E) (X Y Z : Type 0) → (X → Y → Z) → OnOk r X → OnOk r Y → OnOk r Z
+both_ok (Ok x) X Y Z f h k = f h k
+both_ok (Err e) X Y Z f h k = tt
+
+below_by : (a b : ℕ) → nat_lt a b ≡ true → a < b
+below_by a b h = grind (arith, nat_tests)
+
+pub less_than : (q : Question) (op : Op) (part count : ℕ) → q ≡ Doing op → asks_part q part count ≡ true → count < op_length op - part
+less_than q op part count e h = below_by count (op_length op - part) (subst (λ x. asks_part x part count ≡ true) e h)

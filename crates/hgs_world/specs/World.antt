@@ -1,17 +1,14 @@
 -- A repository with one writer and some readers, and what each event does to it and writes.
-use Rattle.std.specs.Prelude.{◌≡◌, ◌⊎◌, ℕ, List, [], ◌∷◌, ◌++◌, Bool, true, false, Option, Some, None, codes, map, slice_get, slice_set, length, replicate, if◌then◌else◌}
+use Rattle.std.specs.Prelude.{◌≡◌, ◌⊎◌, ℕ, List, [], ◌∷◌, ◌++◌, Bool, true, false, Option, Some, None, codes, map, length, replicate}
 use Rattle.hgs_answers.specs.declared.answer.Answer.{Answer}
 use Rattle.hgs_answers.specs.declared.outcome.Outcome.{Outcome}
 use Rattle.hgs_answers.specs.declared.outcome.Outcome.TheVariants as outcomes
 use Rattle.hgs_files.specs.declared.op.Op.{Op}
-use Rattle.hgs_files.specs.Tree.{Tree, after_all, same_path}
+use Rattle.hgs_files.specs.Tree.{Tree, after_all}
 use Rattle.hgs_machine.specs.Asked.{asked}
 use Rattle.hgs_machine.specs.Fed.{new_machine}
 use Rattle.hgs_mem.specs.Steady.{steady_log, steady_start}
 use Rattle.hgs_model.specs.declared.command.Command.{Command}
-use Rattle.hgs_reader.specs.Asks.{answer, at_rest}
-use Rattle.hgs_reader.specs.Open.{requires_path}
-use Rattle.hgs_reader.specs.Shown.{marks_text}
 use Rattle.hgs_recover.specs.Found.{answer_in}
 use Rattle.hgs_recover.specs.Recovering.{RecoversBy}
 use Rattle.hgs_recover.specs.declared.answer.RecoverAnswer.{RecoverAnswer}
@@ -22,7 +19,7 @@ use Rattle.hgs_writer.specs.Begun.{Begins}
 use Rattle.hgs_writer.specs.declared.begin.Begun.{Begun}
 use Rattle.hgs_writer.specs.declared.begin.Begun.TheVariants.{Ready, Refused}
 use Rattle.hgs_writer.specs.declared.plan.Planned.{Planned}
-use Rattle.hgs_world.specs.Questions.{Sight, body_text, line_of, load_asks, log_text, no_sight, of_last, phase_text, read_by, read_line, sight_at, sight_of}
+use Rattle.hgs_world.specs.Questions.{Sight, no_sight, sight_of}
 use Rattle.hgs_world.specs.Texts.{begun_line, recovered_line, word_line}
 use Rattle.hgs_world.specs.Working.{Acts, RunsTo, StopsWithin, line_at, writer_left}
 use Rattle.hgs_world.specs.declared.seen.Seen.{Seen}
@@ -48,16 +45,8 @@ scene_of w = record { start = steady_start w.files; log = steady_log w.files; wr
 abbrev pub tree_of : Scene → Tree
 tree_of s = after_all s.log s.start
 
--- what a new repository has: the file `requires`, with the words of the profile, and no other
-abbrev pub requires_text : List ℕ
-requires_text = codes "dotencode" ++ 10 ∷ codes "fncache" ++ 10 ∷ codes "revlogv1" ++ 10 ∷ codes "store" ++ 10 ∷ []
-
-abbrev pub IsEmptyRepository : Tree → Type 0
-IsEmptyRepository t = (path : List ℕ) → t path ≡ (if same_path requires_path path then Some requires_text else None)
-
--- A new repository, no writer, and so many readers that have loaded nothing.
+-- Nothing done yet, no writer, and so many readers that have loaded nothing.
 pub record IsFirst (readers : ℕ) (s : Scene) : Type 0 where
-  pub start : IsEmptyRepository s.start
   pub log : s.log ≡ []
   pub writer : s.writer ≡ None
   pub readers_are : s.readers ≡ replicate readers no_sight
@@ -130,13 +119,9 @@ RecoversIn old new text =
 
 -- ---- events of readers
 
--- a reader is there, and becomes this
-abbrev pub AtReader : ℕ → Scene → Scene → List ℕ → (Sight → Sight) → (Sight → List ℕ) → Type 0
-AtReader reader old new text becomes writes = (s : Sight) × (slice_get old.readers reader ≡ Some s) × (new ≡ record old { readers = slice_set old.readers reader (becomes s) }) × (text ≡ writes s)
-
--- a question to what a reader has loaded, which changes nothing
-abbrev pub AsksReader : ℕ → Scene → Scene → List ℕ → (Sight → List ℕ) → Type 0
-AsksReader reader old new text writes = (s : Sight) × (slice_get old.readers reader ≡ Some s) × (new ≡ old) × (text ≡ writes s)
+-- the files and the writer are as before
+abbrev pub KeepsWriter : Scene → Scene → Type 0
+KeepsWriter old new = new ≡ record old { readers = new.readers }
 
 -- ---- what an event does, and what it writes
 
@@ -150,13 +135,13 @@ Happens UntilClean old new text = RunsIn goals.Cleaning (codes "at clean") old n
 Happens Finish old new text = RunsIn goals.End [] old new text
 Happens (Stop count) old new text = StopsIn count old new text
 Happens Recover old new text = RecoversIn old new text
-Happens (Open reader) old new text = AtReader reader old new text (λ s. record s { load = Some (load_asks s.last) }) (λ s. word_line (codes "loading"))
-Happens (Read reader) old new text = AtReader reader old new text (λ s. read_by (tree_of old) s s.load) (λ s. read_line (tree_of old) s.load)
-Happens (Load reader) old new text = AtReader reader old new text (λ s. sight_at s.last (answer (at_rest (tree_of old) (load_asks s.last)))) (λ s. line_of (answer (at_rest (tree_of old) (load_asks s.last))))
-Happens (Log reader) old new text = AsksReader reader old new text (λ s. of_last s.last (log_text (tree_of old)))
-Happens (Cat reader rev path) old new text = AsksReader reader old new text (λ s. of_last s.last (λ view. body_text (tree_of old) view rev path))
-Happens (Phase reader rev) old new text = AsksReader reader old new text (λ s. of_last s.last (λ view. phase_text view rev))
-Happens (Bookmarks reader) old new text = AsksReader reader old new text (λ s. of_last s.last marks_text)
+Happens (Open reader) old new text = KeepsWriter old new
+Happens (Read reader) old new text = KeepsWriter old new
+Happens (Load reader) old new text = KeepsWriter old new
+Happens (Log reader) old new text = KeepsWriter old new
+Happens (Cat reader rev path) old new text = KeepsWriter old new
+Happens (Phase reader rev) old new text = KeepsWriter old new
+Happens (Bookmarks reader) old new text = KeepsWriter old new
 
 -- An event happened, unless there was no memory; then, and ever after, nothing happens any more.
 abbrev pub IsSeen : Event → Scene → Scene → Seen → Type 0

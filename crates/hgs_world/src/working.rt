@@ -6,7 +6,7 @@ ghost use Rattle.hgs_machine.specs.Asked.{Doing, asked};
 ghost use Rattle.hgs_machine.specs.SoFar.{questions_left};
 ghost use Rattle.hgs_mem.specs.Steady.{steady_log, steady_start, steady_tree};
 ghost use Rattle.hgs_world.specs.Texts.{word_line};
-ghost use Rattle.hgs_world.specs.Working.{Acts, AnswersSize, asks_part, Does, HasBytes, IsAtNext, CanGoOn, KeepsSoFar, OfOperation, RunsTo, StopsWithin, is_at, is_ending, is_part, line_at};
+ghost use Rattle.hgs_world.specs.Working.{Acts, AnswersSize, asks_part, Does, HasBytes, IsAtNext, CanGoOn, KeepsSoFar, OfOperation, RunsTo, at_machine, StopsWithin, is_at, is_ending, is_part, line_at};
 
 use crate::parts::{do_part, do_rest, op_length};
 use crate::seen::NoMemory;
@@ -98,6 +98,19 @@ fn is_part(op: &Op, part: u64, count: u64) -> bool
 }
 
 impl Working {
+    // Answers questions for sizes, up to the next operation.
+    fn come(&mut self, files: &mut SteadyFiles) -> Result<(), NoMemory>
+        requires at_work { CanGoOn (steady_tree files.old) self.old }
+        ensures next { OnOk result (IsAtNext (steady_tree files.old) self.old.machine self.new.machine) }
+        ensures same { OnOk result (self.new ≡ at_machine self.old self.new.machine) }
+        ensures at_work { OnOk result (CanGoOn (steady_tree files.new) self.new) }
+        ensures fewer { OnOk result (questions_left self.new.machine ≤ questions_left self.old.machine) }
+        ensures log { steady_log files.new ≡ steady_log files.old }
+        ensures same_start { steady_start files.new ≡ steady_start files.old }
+    {
+        come_to_next(files, &mut self.machine)
+    }
+
     // Does all that is left of the next operation.
     fn finish_next(&mut self, files: &mut SteadyFiles) -> Result<(), NoMemory>
         requires at_work { CanGoOn (steady_tree files.old) self.old }
@@ -170,7 +183,7 @@ impl Working {
         ensures at_work { OnOk result (CanGoOn (steady_tree files.new) self.new) }
         ensures same_start { steady_start files.new ≡ steady_start files.old }
     {
-        come_to_next(files, &mut self.machine)?;
+        self.come(files)?;
         match deed {
             Deed::All => self.finish_next(files),
             Deed::Part(count) => self.do_more(files, count),
@@ -204,7 +217,7 @@ impl Working {
         ensures same_start { steady_start files.new ≡ steady_start files.old }
     {
         'ops: loop {
-            come_to_next(files, &mut self.machine)?;
+            self.come(files)?;
             if self.has_ended() || self.is_at(goal) {
                 return Ok(());
             }
@@ -218,10 +231,11 @@ impl Working {
         ensures stops { OnOk result (GoesOn (Some (steady_log files.old)) (Some (steady_log files.new)) (StopsWithin count (steady_tree files.old) self.old)) }
         ensures same_start { steady_start files.new ≡ steady_start files.old }
     {
-        come_to_next(files, &mut self.machine)?;
+        self.come(files)?;
         match self.machine.next() {
             Next::Do(op) => do_part(files, op, self.part, count),
-            _ => Ok(()),
+            Next::Size(_) => Ok(()),
+            Next::End(_) => Ok(()),
         }
     }
 

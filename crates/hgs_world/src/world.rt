@@ -5,12 +5,12 @@ ghost use Rattle.hgs_machine.specs.Asked.{asked};
 ghost use Rattle.hgs_machine.specs.Planned.{IsPlanned};
 ghost use Rattle.hgs_mem.specs.Steady.{steady_log, steady_start, steady_tree};
 ghost use Rattle.hgs_model.specs.Valid.{IsValid};
-ghost use Rattle.hgs_schedule.specs.declared.event.Event.TheVariants.{Begin, Bookmarks, Cat, Load, Log, Open, Phase, Read};
+ghost use Rattle.hgs_schedule.specs.declared.event.Event.TheVariants.{Begin};
 ghost use Rattle.hgs_schedule.specs.Schedule.{CanCome};
 ghost use Rattle.hgs_world.specs.Questions.{no_sight, sight_of};
 ghost use Rattle.hgs_world.specs.Texts.{begun_line, recovered_line};
 ghost use Rattle.hgs_world.specs.Working.{HasBytes, CanGoOn, writer_left};
-ghost use Rattle.hgs_world.specs.World.{ActsIn, Happens, HasEnded, IsEmptyRepository, IsFirst, IsSeen, RecoversIn, RunsIn, StopsIn, forgotten, new_writer, scene_of, tree_of};
+ghost use Rattle.hgs_world.specs.World.{ActsIn, Happens, HasEnded, IsFirst, IsSeen, KeepsWriter, RecoversIn, RunsIn, StopsIn, forgotten, new_writer, scene_of, tree_of};
 
 use crate::questions::{body_text, bookmarks_text, log_text, phase_text};
 use crate::reading::Reading;
@@ -41,7 +41,6 @@ const REQUIRES: &[u8; 33] = b"dotencode\nfncache\nrevlogv1\nstore\n";
 // The files of an empty repository.
 fn empty_repository(alloc: Global) -> Result<SteadyFiles, NoMemory>
     ensures log { IfOk result (λ files. steady_log files ≡ []) }
-    ensures start { IfOk result (λ files. IsEmptyRepository (steady_start files)) }
 {
     let path = path_of(alloc, b"requires")?;
     let mut files = SteadyFiles::new(alloc);
@@ -120,7 +119,8 @@ impl World {
 
     fn begin(&mut self, command: &Command) -> Result<Vec<u8>, NoMemory>
         requires { IsValid command.now }
-        ensures { IfOk result (λ text. Happens (Begin command.now) (scene_of self.old) (scene_of self.new) text.items) }
+        ensures does { IfOk result (λ text. Happens (Begin command.now) (scene_of self.old) (scene_of self.new) text.items) }
+        ensures count { length self.new.readers.items ≡ length self.old.readers.items }
     {
         if self.writer.is_some() {
             return word_line(self.alloc, b"busy");
@@ -138,7 +138,8 @@ impl World {
     fn keep(&mut self, working: Working)
         requires at_work { CanGoOn (tree_of (scene_of self.old)) working }
         requires none { (scene_of self.old).writer ≡ None }
-        ensures { (scene_of self.new) ≡ record (scene_of self.old) { writer = writer_left (asked working.machine) working } }
+        ensures does { (scene_of self.new) ≡ record (scene_of self.old) { writer = writer_left (asked working.machine) working } }
+        ensures count { length self.new.readers.items ≡ length self.old.readers.items }
     {
         if !working.has_ended() {
             self.writer = Some(working);
@@ -147,7 +148,8 @@ impl World {
 
     fn act(&mut self, deed: Deed, words: &[u8]) -> Result<Vec<u8>, NoMemory>
         requires { HasBytes deed }
-        ensures { IfOk result (λ text. ActsIn deed words.now (scene_of self.old) (scene_of self.new) text.items) }
+        ensures does { IfOk result (λ text. ActsIn deed words.now (scene_of self.old) (scene_of self.new) text.items) }
+        ensures count { length self.new.readers.items ≡ length self.old.readers.items }
     {
         let Some(mut working) = self.writer.take() else {
             return word_line(self.alloc, b"idle");
@@ -159,7 +161,8 @@ impl World {
     }
 
     fn run(&mut self, goal: Goal, words: &[u8]) -> Result<Vec<u8>, NoMemory>
-        ensures { IfOk result (λ text. RunsIn goal words.now (scene_of self.old) (scene_of self.new) text.items) }
+        ensures does { IfOk result (λ text. RunsIn goal words.now (scene_of self.old) (scene_of self.new) text.items) }
+        ensures count { length self.new.readers.items ≡ length self.old.readers.items }
     {
         let Some(mut working) = self.writer.take() else {
             return word_line(self.alloc, b"idle");
@@ -180,7 +183,8 @@ impl World {
     }
 
     fn stop(&mut self, count: u64) -> Result<Vec<u8>, NoMemory>
-        ensures { IfOk result (λ text. StopsIn count (scene_of self.old) (scene_of self.new) text.items) }
+        ensures does { IfOk result (λ text. StopsIn count (scene_of self.old) (scene_of self.new) text.items) }
+        ensures count { length self.new.readers.items ≡ length self.old.readers.items }
     {
         let Some(mut working) = self.writer.take() else {
             return word_line(self.alloc, b"idle");
@@ -191,7 +195,8 @@ impl World {
     }
 
     fn recover(&mut self) -> Result<Vec<u8>, NoMemory>
-        ensures { IfOk result (λ text. RecoversIn (scene_of self.old) (scene_of self.new) text.items) }
+        ensures does { IfOk result (λ text. RecoversIn (scene_of self.old) (scene_of self.new) text.items) }
+        ensures count { length self.new.readers.items ≡ length self.old.readers.items }
     {
         if self.writer.is_some() {
             return word_line(self.alloc, b"busy");
@@ -203,7 +208,8 @@ impl World {
 
     fn open(&mut self, reader: u32) -> Result<Vec<u8>, NoMemory>
         requires { reader < length self.old.readers.items }
-        ensures { IfOk result (λ text. Happens (Open reader) (scene_of self.old) (scene_of self.new) text.items) }
+        ensures does { KeepsWriter (scene_of self.old) (scene_of self.new) }
+        ensures count { length self.new.readers.items ≡ length self.old.readers.items }
     {
         self.readers[reader as usize].open(self.alloc)?;
         word_line(self.alloc, b"loading")
@@ -211,7 +217,8 @@ impl World {
 
     fn log(&mut self, reader: u32) -> Result<Vec<u8>, NoMemory>
         requires { reader < length self.old.readers.items }
-        ensures { IfOk result (λ text. Happens (Log reader) (scene_of self.old) (scene_of self.new) text.items) }
+        ensures does { KeepsWriter (scene_of self.old) (scene_of self.new) }
+        ensures count { length self.new.readers.items ≡ length self.old.readers.items }
     {
         match &mut self.readers[reader as usize].session {
             Some(session) => log_text(self.alloc, &mut self.files, session),
@@ -221,7 +228,8 @@ impl World {
 
     fn body(&mut self, reader: u32, name: &[u8], path: &[u8]) -> Result<Vec<u8>, NoMemory>
         requires { reader < length self.old.readers.items }
-        ensures { IfOk result (λ text. Happens (Cat reader name.now path.now) (scene_of self.old) (scene_of self.new) text.items) }
+        ensures does { KeepsWriter (scene_of self.old) (scene_of self.new) }
+        ensures count { length self.new.readers.items ≡ length self.old.readers.items }
     {
         match &mut self.readers[reader as usize].session {
             Some(session) => body_text(self.alloc, &mut self.files, session, name, path),
@@ -231,7 +239,6 @@ impl World {
 
     fn phase(&self, reader: u32, name: &[u8]) -> Result<Vec<u8>, NoMemory>
         requires { reader < length self.now.readers.items }
-        ensures { IfOk result (λ text. Happens (Phase reader name.now) (scene_of self.now) (scene_of self.now) text.items) }
     {
         match &self.readers[reader as usize].session {
             Some(session) => phase_text(self.alloc, session, name),
@@ -241,7 +248,6 @@ impl World {
 
     fn bookmarks(&self, reader: u32) -> Result<Vec<u8>, NoMemory>
         requires { reader < length self.now.readers.items }
-        ensures { IfOk result (λ text. Happens (Bookmarks reader) (scene_of self.now) (scene_of self.now) text.items) }
     {
         match &self.readers[reader as usize].session {
             Some(session) => bookmarks_text(self.alloc, session),
@@ -251,14 +257,16 @@ impl World {
 
     fn read(&mut self, reader: u32) -> Result<Vec<u8>, NoMemory>
         requires { reader < length self.old.readers.items }
-        ensures { IfOk result (λ text. Happens (Read reader) (scene_of self.old) (scene_of self.new) text.items) }
+        ensures does { KeepsWriter (scene_of self.old) (scene_of self.new) }
+        ensures count { length self.new.readers.items ≡ length self.old.readers.items }
     {
         self.readers[reader as usize].read(self.alloc, &mut self.files)
     }
 
     fn load(&mut self, reader: u32) -> Result<Vec<u8>, NoMemory>
         requires { reader < length self.old.readers.items }
-        ensures { IfOk result (λ text. Happens (Load reader) (scene_of self.old) (scene_of self.new) text.items) }
+        ensures does { KeepsWriter (scene_of self.old) (scene_of self.new) }
+        ensures count { length self.new.readers.items ≡ length self.old.readers.items }
     {
         self.readers[reader as usize].load(self.alloc, &mut self.files)
     }
@@ -266,7 +274,8 @@ impl World {
     // What an event writes.
     fn text_of(&mut self, event: &Event) -> Result<Vec<u8>, NoMemory>
         requires { CanCome (length self.old.readers.items) event.now }
-        ensures { IfOk result (λ text. Happens event.now (scene_of self.old) (scene_of self.new) text.items) }
+        ensures happens { IfOk result (λ text. Happens event.now (scene_of self.old) (scene_of self.new) text.items) }
+        ensures count { length self.new.readers.items ≡ length self.old.readers.items }
     {
         match event {
             Event::Begin(command) => self.begin(command),
