@@ -80,7 +80,7 @@ either-option false x y hx hy = hy
 alone-fits : (name : List ℕ) → IsFitOption (alone_named name)
 alone-fits name =
     either-option (same name (codes "log")) _ _ tt (either-option (same name (codes "heads")) _ _ tt (either-option (same name (codes "bookmarks")) _ _ tt (either-option (same name (codes "parents")) _ _ tt
-    (either-option (same name (codes "init")) _ _ tt (either-option (same name (codes "commit")) _ _ tt (either-option (same name (codes "recover")) _ _ tt tt))))))
+    (either-option (same name (codes "init")) _ _ tt (either-option (same name (codes "commit")) _ _ tt (either-option (same name (codes "recover")) _ _ tt (either-option (same name (codes "play")) _ _ tt tt)))))))
 
 alone-else-fits : (o : Option Request) (about : Result Request ℕ) (words : List (List ℕ)) → IsFitOption o → IfOk about IsFitRequest → IfOk (alone_else o about words) IsFitRequest
 alone-else-fits None about words fit h = h

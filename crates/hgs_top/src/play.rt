@@ -1,7 +1,8 @@
 //! A schedule that is played in memory.
 ghost use Rattle.std.specs.Prelude.{◌≡◌, ◌∷◌, [], List};
 ghost use Rattle.hgs_files.specs.Reads.{Rose};
-ghost use Rattle.hgs_schedule.specs.Schedule.{CanBePlayed};
+ghost use Rattle.std.specs.List.{All};
+ghost use Rattle.hgs_schedule.specs.Schedule.{CanCome};
 ghost use Rattle.hgs_top.specs.Run.{IsOneOf};
 
 use crate::command::{OUT_OF_MEMORY, end_with, status_of_fault};
@@ -19,15 +20,15 @@ use std::alloc::Global;
 
 // Makes the events happen, and writes what each writes.
 fn play<K: Sink>(alloc: Global, schedule: &Schedule, out: &mut K) -> u8
-    requires { CanBePlayed schedule.now }
+    requires { All (CanCome schedule.now.readers) schedule.now.events }
     ensures sink { result ≡ 19 → Rose (K.faults out.old) (K.faults out.new) }
     ensures statuses { IsOneOf (0 ∷ 19 ∷ 30 ∷ []) result }
 {
-    let Ok(mut world) = World::new(alloc, schedule.readers) else {
+    let Ok(mut repository) = World::new(alloc, schedule.readers) else {
         return end_with(out, OUT_OF_MEMORY, 30);
     };
     for event in schedule.events.as_slice().iter() {
-        match world.step(event) {
+        match repository.step(event) {
             Seen::Text(text) => match write_all(out, &text) {
                 Ok(()) => {}
                 Err(fault) => return status_of_fault(fault),

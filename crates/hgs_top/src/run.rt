@@ -11,8 +11,8 @@ ghost use Rattle.hgs_top.specs.Run.{Says, IsOneOf};
 ghost use Rattle.hgs_top.specs.Words.{request_of_words};
 
 use crate::command::{refuse_words, run_command};
-use crate::play::run_play;
 use crate::laws::{replies_of_repository, runs_make_histories};
+use crate::play::run_play;
 use crate::told::run_order;
 use crate::words::{Asked, asked_by};
 use hgs_files::files::Files;

@@ -24,7 +24,6 @@ use Rattle.std.proofs.lemmas.Bool.Decides.{nat_tests}
 use Rattle.hgs_world.specs.Working.{Acts, AnswersSize, CanGoOn, Does, OfOperation, Runs, RunsTo, Stops, StopsWithin, asks_part, is_at, is_ending, is_part, not_yet, once_more, wholly, IsAtNext, IsAtWork, IsBegun, IsSizing, KeepsSoFar, Sizes, no_more, one_more, at_machine}
 use Rattle.hgs_world.specs.declared.working.Working.{Working}
 
-
 pub after_append : (a b : List Op) (t : Tree) → after_all (a ++ b) t ≡ after_all b (after_all a t)
 after_append [] b t = refl
 after_append (op ∷ a) b t = after_append a b (apply op t)

@@ -27,11 +27,7 @@ pub fn op_length(op: &Op) -> u64
 }
 
 // Appends bytes where there are any.
-fn append_some(
-    files: &mut SteadyFiles,
-    path: &StorePath,
-    bytes: &[u8],
-) -> Result<(), NoMemory>
+fn append_some(files: &mut SteadyFiles, path: &StorePath, bytes: &[u8]) -> Result<(), NoMemory>
     ensures done { OnOk result (GoesOn (Some (steady_log files.old)) (Some (steady_log files.new)) (λ done. IsDone (append_of_rest path.now bytes.now) done [])) }
     ensures same_start { steady_start files.new ≡ steady_start files.old }
 {
@@ -45,11 +41,7 @@ fn append_some(
 }
 
 // Makes a file of bytes where there are any.
-fn create_some(
-    files: &mut SteadyFiles,
-    path: &StorePath,
-    bytes: &[u8],
-) -> Result<(), NoMemory>
+fn create_some(files: &mut SteadyFiles, path: &StorePath, bytes: &[u8]) -> Result<(), NoMemory>
     ensures done { OnOk result (GoesOn (Some (steady_log files.old)) (Some (steady_log files.new)) (λ done. IsDone (create_of_front path.now bytes.now) done [])) }
     ensures same_start { steady_start files.new ≡ steady_start files.old }
 {

@@ -93,11 +93,7 @@ impl Reading {
     }
 
     // Where a load has come to by a read, and the line of that.
-    fn come_to(
-        &mut self,
-        alloc: Global,
-        load: LoadMachine,
-    ) -> Result<Vec<u8>, NoMemory>
+    fn come_to(&mut self, alloc: Global, load: LoadMachine) -> Result<Vec<u8>, NoMemory>
         requires { self.old.load ≡ None }
         ensures sight { OnOk result (sight_of self.new ≡ sight_at (sight_of self.old).last (asks_of load)) }
         ensures line { IfOk result (λ line. line.items ≡ line_of (asks_of load)) }

@@ -76,12 +76,7 @@ fn push_changeset(
 }
 
 /// What a writer answers whose transaction ended so.
-pub fn answer_line(
-    alloc: Global,
-    ended: Ended,
-    rev: u32,
-    node: &Node,
-) -> Result<Vec<u8>, NoMemory>
+pub fn answer_line(alloc: Global, ended: Ended, rev: u32, node: &Node) -> Result<Vec<u8>, NoMemory>
     ensures { IfOk result (λ line. line.items ≡ answer_line ended.outcome rev node.now) }
 {
     let mut line = Vec::from_slice(alloc, b"answer ")?;

@@ -18,5 +18,5 @@ returns-clause-at_work c =
     let d = c.in_ok-do_rest-in-Do.ensures.done in
     still (steady_tree c.args.files.now) (steady_tree c.do_rest.new.files) c.args.self.now (record c.args.self.now { machine = c.feed.new.self; part = 0 })
     (λ a. goes_on (steady_tree c.args.files.now) (steady_tree c.do_rest.new.files) c.args.self.now c.feed.new.self c.in-Do.op.now Done d.0 (is_doing (asked c.args.self.now.machine) _ c.in-Do.op c.in-Do.ensures.question) a
-        (λ begun has. rest_leaves c.in-Do.op.now c.args.self.now.part begun d.0 has d.2) c.feed.ensures.steps (tree_after (steady_log c.args.files.now) (steady_log c.do_rest.new.files) d.0 (steady_start c.args.files.now) (steady_start c.do_rest.new.files) d.1 c.do_rest.ensures.same_start))
+    (λ begun has. rest_leaves c.in-Do.op.now c.args.self.now.part begun d.0 has d.2) c.feed.ensures.steps (tree_after (steady_log c.args.files.now) (steady_log c.do_rest.new.files) d.0 (steady_start c.args.files.now) (steady_start c.do_rest.new.files) d.1 c.do_rest.ensures.same_start))
     c.requires.at_work

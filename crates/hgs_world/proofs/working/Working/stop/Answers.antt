@@ -14,7 +14,7 @@ returns-in-Do-clause-stops c =
     let Y : Type 0 = GoesOn (Some (steady_log c.args.files.now)) (Some (steady_log c.do_part.new.files)) (StopsWithin c.args.count (steady_tree c.args.files.now) c.args.self.now) in
     on_ok c.do_part.result X Y
     (stops_at_op c.args.count (steady_tree c.args.files.now) c.args.self.now v c.in-Do.op.now (steady_log c.args.files.now) (steady_log c.come.new.files) (steady_log c.do_part.new.files) c.in_ok-come.ensures.next c.in_ok-come.ensures.same c.in_ok-come.ensures.log
-        (is_doing (asked v.machine) _ c.in-Do.op c.in-Do.ensures.question))
+    (is_doing (asked v.machine) _ c.in-Do.op c.in-Do.ensures.question))
     c.do_part.ensures.done
 
 pub returns-in-Size-clause-stops : goal.returns-in-Size-clause-stops
