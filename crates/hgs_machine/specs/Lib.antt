@@ -5,3 +5,4 @@ pub mod SoFar
 pub mod Carry
 pub mod Locks
 pub mod Sound
+pub mod Fed

@@ -38,7 +38,7 @@ fn size_reply_of(outcome: Result<Option<u64>, FileFault>) -> Reply
 }
 
 /// Does an operation.
-fn do_op<F: Files>(files: &mut F, op: &Op) -> Result<(), FileFault>
+pub fn do_op<F: Files>(files: &mut F, op: &Op) -> Result<(), FileFault>
     requires allowed { (log : List Op) → F.allows (F.start files.old) log }
     requires source { ForSome (F.log files.old) (λ log. HasSource op.now (after_all log (F.start files.old))) }
     ensures done { GoesOn (F.log files.old) (F.log files.new) (Leaves op.now (reply_of result)) }

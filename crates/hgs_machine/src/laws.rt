@@ -1,6 +1,11 @@
 //! Which plans can be carried out. Each function is one law; none does anything.
-ghost use Rattle.hgs_files.specs.Tree.{Tree};
-ghost use Rattle.hgs_machine.specs.Planned.{IsPlanned};
+ghost use Rattle.std.specs.Prelude.{◌≡◌, List};
+ghost use Rattle.hgs_files.specs.Tree.{Tree, after_all};
+ghost use Rattle.hgs_files.specs.declared.op.Op.{Op};
+ghost use Rattle.hgs_machine.specs.Asked.{Doing, asked};
+ghost use Rattle.hgs_machine.specs.Planned.{HasSource, IsPlanned};
+ghost use Rattle.hgs_machine.specs.SoFar.{SoFar};
+ghost use Rattle.hgs_machine.specs.declared.machine.Machine.{Machine};
 ghost use Rattle.hgs_machine.specs.Sound.{AreSound};
 ghost use Rattle.hgs_transaction.specs.Assembled.{IsPlanOf};
 ghost use Rattle.hgs_transaction.specs.declared.assemble.Plan.{Plan};
@@ -10,4 +15,9 @@ ghost use Rattle.hgs_transaction.specs.declared.parts.Parts.{Parts};
 /// carried out: the files that it renames are made by itself.
 pub fn plans_can_be_carried_out()
     ensures { (t : Tree) (p : Parts) (plan : Plan) → AreSound t p → IsPlanOf p plan → IsPlanned t plan }
+{}
+
+/// The file that is renamed stands when a machine asks for that.
+pub fn sources_stand()
+    ensures { (t : Tree) (m : Machine) (log : List Op) (op : Op) → SoFar t m log → asked m ≡ Doing op → HasSource op (after_all log t) }
 {}

@@ -4,6 +4,7 @@ ghost use Rattle.std.specs.Option.{option_map};
 ghost use Rattle.hgs_files.specs.Tree.{Tree};
 ghost use Rattle.hgs_machine.specs.Planned.{IsPlanned};
 ghost use Rattle.hgs_machine.specs.Asked.{IsNext, asked, asks_size, bytes_in, is_size_asked_of, makes, op_at_hand, size_question, stray_end, was_made};
+ghost use Rattle.hgs_machine.specs.Fed.{fed, is_cleaning, is_publishing, new_machine};
 ghost use Rattle.hgs_machine.specs.declared.ended.Ended.{Ended};
 ghost use Rattle.hgs_machine.specs.declared.machine.Reply.{Reply};
 ghost use Rattle.hgs_machine.specs.SoFar.{Blames, EndsWell, Fits, HasNoSize, SoFar, Steps, questions_left, sweep_from};
@@ -15,7 +16,7 @@ use hgs_files::path::StorePath;
 use hgs_transaction::assemble::Plan;
 
 /// What a machine asks for.
-#[derive(Debug)]
+#[derive(Debug, Drop)]
 pub enum Next<'a> {
     /// This operation.
     Do(&'a Op),
@@ -108,6 +109,7 @@ impl Machine {
         ensures plan { result.plan ≡ plan }
         ensures outcome { result.outcome ≡ Short.Done }
         ensures swept { result.swept ≡ true }
+        ensures exact { result ≡ new_machine plan }
     {
         Machine {
             plan,
@@ -127,6 +129,20 @@ impl Machine {
             outcome: self.outcome,
             swept: self.swept,
         }
+    }
+
+    /// Whether the next operation, or its rest, is the one that publishes.
+    pub fn is_publishing(&self) -> bool
+        ensures { result ≡ is_publishing self.now }
+    {
+        matches!(self.stage, Stage::Publishing)
+    }
+
+    /// Whether the next operation removes the journal of a transaction that is published.
+    pub fn is_cleaning(&self) -> bool
+        ensures { result ≡ is_cleaning self.now }
+    {
+        matches!(self.stage, Stage::Finishing) && self.done == self.plan.commit as usize
     }
 
     /// Whether this transaction made the file.
@@ -354,6 +370,7 @@ impl Machine {
         ensures plan { self.new.plan ≡ self.old.plan }
         ensures fewer { questions_left self.new < questions_left self.old }
         ensures blames { Blames self.old Reply.Done self.new }
+        ensures exact { self.new ≡ fed self.old Reply.Done }
     {
         match self.stage {
             Stage::Preparing => {
@@ -379,6 +396,7 @@ impl Machine {
         ensures plan { self.new.plan ≡ self.old.plan }
         ensures fewer { questions_left self.new < questions_left self.old }
         ensures blames { Blames self.old Reply.Failed self.new }
+        ensures exact { self.new ≡ fed self.old Reply.Failed }
     {
         match self.stage {
             Stage::Preparing => self.sweep(Short::Fault),
@@ -398,6 +416,7 @@ impl Machine {
         ensures plan { self.new.plan ≡ self.old.plan }
         ensures fewer { questions_left self.new < questions_left self.old }
         ensures blames { Blames self.old Reply.Memory self.new }
+        ensures exact { self.new ≡ fed self.old Reply.Memory }
     {
         match self.stage {
             Stage::Preparing | Stage::Beginning => self.sweep(Short::Memory),
@@ -415,6 +434,7 @@ impl Machine {
         ensures plan { self.new.plan ≡ self.old.plan }
         ensures fewer { questions_left self.new < questions_left self.old }
         ensures blames { Blames self.old (Reply.Size size) self.new }
+        ensures exact { self.new ≡ fed self.old (Reply.Size size) }
     {
         match self.stage {
             Stage::Asking => self.published_size(size),
@@ -429,6 +449,7 @@ impl Machine {
         ensures plan { self.new.plan ≡ self.old.plan }
         ensures fewer { questions_left self.new < questions_left self.old }
         ensures blames { (reply : Reply) → HasNoSize reply → Blames self.old reply self.new }
+        ensures exact { self.new ≡ fed self.old Reply.SizeFailed }
     {
         match self.stage {
             Stage::Asking => self.sweep(Short::Unfinished(Published::Unknown)),
@@ -443,6 +464,7 @@ impl Machine {
         ensures plan { self.new.plan ≡ self.old.plan }
         ensures fewer { questions_left self.new < questions_left self.old }
         ensures blames { Blames self.old reply self.new }
+        ensures exact { self.new ≡ fed self.old reply }
     {
         match reply {
             Reply::Done => self.feed_done(),

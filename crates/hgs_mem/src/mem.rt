@@ -109,7 +109,7 @@ impl MemFiles {
 }
 
 /// Adds to `into` the part of a file from a place, at most so many bytes of it, and answers how many.
-fn read_into(
+pub(crate) fn read_into(
     kept: &LoggedFiles,
     path: &StorePath,
     from: u64,

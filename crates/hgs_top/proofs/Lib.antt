@@ -16,3 +16,4 @@ pub mod PiecesLemmas
 pub mod RepositoryLemmas
 pub mod ValidLemmas
 pub mod Written
+pub mod PlayLemmas

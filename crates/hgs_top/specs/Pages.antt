@@ -25,6 +25,7 @@ page_lines Help =
     codes "  bookmark NAME REV          sets a bookmark" ∷
     codes "  bookmark --delete NAME     deletes one" ∷
     codes "  recover                    undoes a transaction that was left unfinished" ∷
+    codes "  play                       plays the schedule on standard input, in memory" ∷
     codes "  --help                     this page" ∷
     codes "  --version                  the program, and the kit that it is proved with" ∷
     codes "" ∷
@@ -38,7 +39,7 @@ page_lines Help =
     codes "  11  an earlier transaction was left unfinished" ∷
     codes "  12  no changeset has the name" ∷
     codes "  13  nothing would change" ∷
-    codes "  14  the input is no record" ∷
+    codes "  14  the input is no record, or no schedule" ∷
     codes "  15  a file does not hold what it should" ∷
     codes "  16  the system failed a call on a file" ∷
     codes "  17  the transaction was left unfinished: see recover" ∷

@@ -16,7 +16,7 @@ use Rattle.hgs_top.specs.declared.stopped.Said.TheVariants.{Whole, UnknownRevisi
 use Rattle.hgs_top.specs.Outcome.{Outcome, Reply, told, unknown_revision, its_files, its_file, its_phase, log_outcome, listing_outcome, contents_reply}
 use Rattle.hgs_top.specs.declared.listing.Listing.TheVariants.{Heads, Bookmarks, Parents}
 use Rattle.hgs_top.specs.Pages.{page_outcome}
-use Rattle.hgs_top.specs.Words.{Question, ask_page, ask_log, ask_heads, ask_bookmarks, ask_parents, ask_files, ask_cat, ask_phase, Request, to_answer, to_do}
+use Rattle.hgs_top.specs.Words.{Question, ask_page, ask_log, ask_heads, ask_bookmarks, ask_parents, ask_files, ask_cat, ask_phase, Request, to_answer, to_do, to_play}
 
 -- a front of these bytes was written at the end
 abbrev pub IsFrontWritten : Option (List ℕ) → Option (List ℕ) → List ℕ → Type 0
@@ -156,6 +156,7 @@ OfReply question log start Holds = OfTree log start (λ t. Holds (reply_to quest
 abbrev pub Says : Type 0 → Result Request ℕ → Option (List Op) → Tree → ℕ → Option (List ℕ) → Option (List ℕ) → Type 0
 Says Faulted (Ok (to_answer question)) log start status old new = OfReply question log start (λ reply. Replied Faulted reply status old new)
 Says Faulted (Ok (to_do job)) log start status old new = ⊤
+Says Faulted (Ok to_play) log start status old new = ⊤
 Says Faulted (Err place) log start status old new = SaysBadWord place status old new
 
 -- one of these

@@ -74,6 +74,7 @@ pub data Job : Type 0 where
 pub data Request : Type 0 where
   to_answer : Question → Request
   to_do : Job → Request
+  to_play : Request
 
 abbrev pub question_of : Command → Question
 question_of (Shown page) = ask_page page
@@ -96,6 +97,7 @@ job_of (orders.Unmark name) = do_unmark name.now
 abbrev pub request_of : Asked → Request
 request_of (asked.Question command) = to_answer (question_of command)
 request_of (asked.Order order) = to_do (job_of order)
+request_of asked.Play = to_play
 
 -- the request with these operands
 abbrev pub asked_with : (List (List ℕ) → Request) → Result (List (List ℕ)) ℕ → Result Request ℕ
@@ -115,6 +117,7 @@ alone_named name =
     else if same name (codes "init") then Some (to_do do_init)
     else if same name (codes "commit") then Some (to_do do_commit)
     else if same name (codes "recover") then Some (to_do do_recover)
+    else if same name (codes "play") then Some to_play
     else None
 
 -- the words behind this one, where it stands first

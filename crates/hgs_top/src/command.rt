@@ -26,7 +26,7 @@ use std::alloc::{AllocError, Global};
 pub(crate) const OUT_OF_MEMORY: &[u8; 21] = b"abort: out of memory\n";
 
 // The status of a sink that takes no more.
-fn status_of_fault(fault: IoFault) -> u8
+pub(crate) fn status_of_fault(fault: IoFault) -> u8
     ensures { result ≡ status_of_sink fault }
 {
     match fault {

@@ -14,6 +14,7 @@ mod operands;
 pub mod orders;
 pub mod output;
 pub mod pages;
+pub mod play;
 pub mod run;
 pub mod stopped;
 pub mod told;

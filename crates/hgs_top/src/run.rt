@@ -13,6 +13,7 @@ ghost use Rattle.hgs_top.specs.Words.{request_of_words};
 
 use crate::command::{refuse_words, run_command};
 use crate::laws::{replies_of_repository, runs_make_histories};
+use crate::play::run_play;
 use crate::told::run_order;
 use crate::words::{Asked, asked_by};
 use hgs_files::files::Files;
@@ -53,6 +54,7 @@ fn run_words<F: Files, S: Source, K: Sink>(
     match asked_by(words) {
         Ok(Asked::Question(command)) => run_command(alloc, command, files, out),
         Ok(Asked::Order(order)) => run_order(alloc, order, files, input, out),
+        Ok(Asked::Play) => run_play(alloc, input, out),
         Err(place) => refuse_words(alloc, place, out),
     }
 }

@@ -15,7 +15,7 @@ use hgs_files::streams::{Sink, Source};
 use std::alloc::Global;
 
 // Says what a command came to, and gives the status.
-fn say<K: Sink>(alloc: Global, ended: &Ended, out: &mut K) -> u8
+pub(crate) fn say<K: Sink>(alloc: Global, ended: &Ended, out: &mut K) -> u8
     ensures line { EndsLine (ended_text ended.now) (ended_status ended.now) result (K.written out.old) (K.written out.new) }
     ensures sink { result ≡ 19 → Rose (K.faults out.old) (K.faults out.new) }
     ensures statuses { IsOneOf (19 ∷ 30 ∷ ended_status ended.now ∷ []) result }

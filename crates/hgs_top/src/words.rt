@@ -31,6 +31,8 @@ pub enum Command<'a> {
 pub enum Asked<'a> {
     Question(Command<'a>),
     Order(Order<'a>),
+    /// Plays the schedule that stands on the input, in memory.
+    Play,
 }
 
 // The command, where no operands stand behind its name.
@@ -163,6 +165,9 @@ fn alone_named(name: &String) -> Option<Asked<'static>>
     }
     if equal(name, b"recover") {
         return Some(Asked::Order(Order::Recover));
+    }
+    if equal(name, b"play") {
+        return Some(Asked::Play);
     }
     None
 }

@@ -1,4 +1,5 @@
 pub mod Alone
+pub mod Begun
 pub mod Below
 pub mod Limits
 pub mod Outcomes

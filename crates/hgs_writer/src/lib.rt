@@ -2,6 +2,7 @@
 #![tactic(auto)]
 
 pub mod answers;
+pub mod begin;
 pub mod laws;
 pub mod plan;
 pub mod write;

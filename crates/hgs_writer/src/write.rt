@@ -12,12 +12,12 @@ ghost use Rattle.hgs_files.specs.Files.{GoesOn};
 ghost use Rattle.hgs_writer.specs.Written.{IsCarriedOut, IsWritten};
 ghost use Rattle.hgs_model.specs.Valid.{IsValid};
 
-use crate::answers::{of_commit, of_ended, of_locks};
-use crate::plan::{Planned, plan};
+use crate::answers::of_ended;
+use crate::begin::{Begun, begin};
+use crate::plan::Planned;
 use hgs_answers::answer::Answer;
 use hgs_files::files::Files;
 use hgs_machine::carry::carry_out;
-use hgs_machine::locks::take_locks;
 use hgs_model::command::Command;
 use std::alloc::Global;
 
@@ -52,16 +52,8 @@ pub fn write<F: Files>(alloc: Global, files: &mut F, command: &Command, who: &[u
     ensures later { F.faults files.old ≤ F.faults files.new }
     ensures same_start { F.start files.new ≡ F.start files.old }
 {
-    let locks = match take_locks(alloc, files, who) {
-        Ok(locks) => locks,
-        Err(refusal) => return of_locks(refusal),
-    };
-    match plan(alloc, files, command) {
-        Ok(planned) => carried(files, planned),
-        Err(fault) => {
-            let swept = locks.release(files);
-            let outcome = of_commit(fault);
-            Answer { outcome, swept }
-        }
+    match begin(alloc, files, command, who) {
+        Begun::Ready(planned) => carried(files, planned),
+        Begun::Refused(answer) => answer,
     }
 }

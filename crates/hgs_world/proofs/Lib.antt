@@ -1,0 +1,4 @@
+pub mod PartLemmas
+pub mod WorkLemmas
+pub mod ReaderLemmas
+pub mod WorldLemmas

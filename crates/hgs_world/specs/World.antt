@@ -1,0 +1,149 @@
+-- A repository with one writer and some readers, and what each event does to it and writes.
+use Rattle.std.specs.Prelude.{◌≡◌, ◌⊎◌, ℕ, List, [], ◌∷◌, ◌++◌, Bool, true, false, Option, Some, None, codes, map, length, replicate}
+use Rattle.hgs_answers.specs.declared.answer.Answer.{Answer}
+use Rattle.hgs_answers.specs.declared.outcome.Outcome.{Outcome}
+use Rattle.hgs_answers.specs.declared.outcome.Outcome.TheVariants as outcomes
+use Rattle.hgs_files.specs.declared.op.Op.{Op}
+use Rattle.hgs_files.specs.Tree.{Tree, after_all}
+use Rattle.hgs_machine.specs.Asked.{asked}
+use Rattle.hgs_machine.specs.Fed.{new_machine}
+use Rattle.hgs_mem.specs.Steady.{steady_log, steady_start}
+use Rattle.hgs_model.specs.declared.command.Command.{Command}
+use Rattle.hgs_recover.specs.Found.{answer_in}
+use Rattle.hgs_recover.specs.Recovering.{RecoversBy}
+use Rattle.hgs_recover.specs.declared.answer.RecoverAnswer.{RecoverAnswer}
+use Rattle.hgs_recover.specs.declared.answer.RecoverAnswer.TheVariants as recoveries
+use Rattle.hgs_schedule.specs.declared.event.Event.{Event}
+use Rattle.hgs_schedule.specs.declared.event.Event.TheVariants.{Begin, Write, Fail, UntilPublish, UntilClean, Finish, Open, Read, Load, Log, Cat, Phase, Bookmarks, Stop, Recover}
+use Rattle.hgs_writer.specs.Begun.{Begins}
+use Rattle.hgs_writer.specs.declared.begin.Begun.{Begun}
+use Rattle.hgs_writer.specs.declared.begin.Begun.TheVariants.{Ready, Refused}
+use Rattle.hgs_writer.specs.declared.plan.Planned.{Planned}
+use Rattle.hgs_world.specs.Questions.{Sight, no_sight, sight_of}
+use Rattle.hgs_world.specs.Texts.{begun_line, recovered_line, word_line}
+use Rattle.hgs_world.specs.Working.{Acts, RunsTo, StopsWithin, line_at, writer_left}
+use Rattle.hgs_world.specs.declared.seen.Seen.{Seen}
+use Rattle.hgs_world.specs.declared.seen.Seen.TheVariants.{Text, Memory}
+use Rattle.hgs_world.specs.declared.working.Deed.{Deed}
+use Rattle.hgs_world.specs.declared.working.Deed.TheVariants as deeds
+use Rattle.hgs_world.specs.declared.working.Goal.{Goal}
+use Rattle.hgs_world.specs.declared.working.Goal.TheVariants as goals
+use Rattle.hgs_world.specs.declared.working.Working.{Working}
+use Rattle.hgs_world.specs.declared.state.World.{World}
+
+-- the tree at the start and what was done since, the writer at work, the readers, and whether there was no memory at some event
+pub record Scene : Type 0 where
+  pub start : Tree
+  pub log : List Op
+  pub writer : Option Working
+  pub readers : List Sight
+  pub spent : Bool
+
+abbrev pub scene_of : World → Scene
+scene_of w = record { start = steady_start w.files; log = steady_log w.files; writer = w.writer; readers = map sight_of w.readers.items; spent = w.spent }
+
+abbrev pub tree_of : Scene → Tree
+tree_of s = after_all s.log s.start
+
+-- Nothing done yet, no writer, and so many readers that have loaded nothing.
+pub record IsFirst (readers : ℕ) (s : Scene) : Type 0 where
+  pub log : s.log ≡ []
+  pub writer : s.writer ≡ None
+  pub readers_are : s.readers ≡ replicate readers no_sight
+  pub unspent : s.spent ≡ false
+
+-- ---- events of the writer
+
+-- what stands in the locks of a writer
+abbrev pub who : List ℕ
+who = codes "hg-store"
+
+abbrev pub with_writer : Scene → List Op → Option Working → Scene
+with_writer s done writer = record s { log = s.log ++ done; writer = writer }
+
+-- nothing happens, and these words are written
+abbrev pub OnlySays : Scene → Scene → List ℕ → List ℕ → Type 0
+OnlySays old new words text = (new ≡ old) × (text ≡ word_line words)
+
+abbrev pub IfRunning : Option Working → Type 0 → (Working → Type 0) → Type 0
+IfRunning None Idle Holds = Idle
+IfRunning (Some w) Idle Holds = Holds w
+
+abbrev pub new_writer : Planned → Working
+new_writer p = record { machine = new_machine p.plan; part = 0; rev = p.rev; node = p.node }
+
+-- both locks are made and a transaction is planned, or the command is refused and no lock is left
+abbrev pub HasBegun : Begun → Scene → Scene → List Op → List ℕ → Type 0
+HasBegun (Ready planned) old new done text = (new ≡ with_writer old done (Some (new_writer planned))) × (text ≡ word_line (codes "begin ok"))
+HasBegun (Refused a) old new done text = (a.swept ≡ true) × (new ≡ with_writer old done None) × (text ≡ begun_line a.outcome)
+
+abbrev pub BeginsIn : Command → Scene → Scene → List ℕ → Type 0
+BeginsIn command old new text = (begun : Begun) × (done : List Op) × Begins who command (tree_of old) begun done × HasBegun begun old new done text
+
+-- what the writer did, and what is left of it
+abbrev pub LeavesWriter : Scene → Scene → List Op → Working → List ℕ → List ℕ → Type 0
+LeavesWriter old new done after words text = (new ≡ with_writer old done (writer_left (asked after.machine) after)) × (text ≡ line_at (asked after.machine) (word_line words) after)
+
+abbrev pub ActsIn : Deed → List ℕ → Scene → Scene → List ℕ → Type 0
+ActsIn deed words old new text =
+    IfRunning old.writer (OnlySays old new (codes "idle") text)
+    (λ w. (done : List Op) × (after : Working) × Acts deed (tree_of old) w done after × LeavesWriter old new done after words text)
+
+abbrev pub RunsIn : Goal → List ℕ → Scene → Scene → List ℕ → Type 0
+RunsIn goal words old new text =
+    IfRunning old.writer (OnlySays old new (codes "idle") text)
+    (λ w. (done : List Op) × (after : Working) × RunsTo goal (tree_of old) w done after × LeavesWriter old new done after words text)
+
+-- all readers lose what they have loaded, and their loads
+abbrev pub forgotten : ℕ → List Sight
+forgotten count = replicate count no_sight
+
+abbrev pub StopsIn : ℕ → Scene → Scene → List ℕ → Type 0
+StopsIn count old new text =
+    IfRunning old.writer (OnlySays old new (codes "idle") text)
+    (λ w. (done : List Op) × StopsWithin count (tree_of old) w done × (new ≡ record old { log = old.log ++ done; writer = None; readers = forgotten (length old.readers) }) × (text ≡ word_line (codes "stopped")))
+
+-- recovering came to an end, with all swept
+abbrev pub HasEnded : RecoverAnswer → Type 0
+HasEnded recoveries.Restored = Unit {0}
+HasEnded recoveries.NothingToDo = Unit {0}
+HasEnded (recoveries.Damaged d) = Unit {0}
+HasEnded _ = ⊥
+
+abbrev pub RecoversIn : Scene → Scene → List ℕ → Type 0
+RecoversIn old new text =
+    IfRunning old.writer
+    ((came : RecoverAnswer) × (done : List Op) × HasEnded came × (came ≡ answer_in (tree_of old)) × RecoversBy (tree_of old) came true done
+    × (new ≡ record old { log = old.log ++ done; readers = forgotten (length old.readers) }) × (text ≡ recovered_line came))
+    (λ w. OnlySays old new (codes "busy") text)
+
+-- ---- events of readers
+
+-- the files and the writer are as before
+abbrev pub KeepsWriter : Scene → Scene → Type 0
+KeepsWriter old new = new ≡ record old { readers = new.readers }
+
+-- ---- what an event does, and what it writes
+
+abbrev pub Happens : Event → Scene → Scene → List ℕ → Type 0
+Happens (Begin command) old new text = IfRunning old.writer (BeginsIn command old new text) (λ w. OnlySays old new (codes "busy") text)
+Happens (Write None) old new text = ActsIn deeds.All (codes "wrote") old new text
+Happens (Write (Some count)) old new text = ActsIn (deeds.Part count) (codes "wrote") old new text
+Happens (Fail count) old new text = ActsIn (deeds.Fail count) (codes "failed") old new text
+Happens UntilPublish old new text = RunsIn goals.Publishing (codes "at publish") old new text
+Happens UntilClean old new text = RunsIn goals.Cleaning (codes "at clean") old new text
+Happens Finish old new text = RunsIn goals.End [] old new text
+Happens (Stop count) old new text = StopsIn count old new text
+Happens Recover old new text = RecoversIn old new text
+Happens (Open reader) old new text = KeepsWriter old new
+Happens (Read reader) old new text = KeepsWriter old new
+Happens (Load reader) old new text = KeepsWriter old new
+Happens (Log reader) old new text = KeepsWriter old new
+Happens (Cat reader rev path) old new text = KeepsWriter old new
+Happens (Phase reader rev) old new text = KeepsWriter old new
+Happens (Bookmarks reader) old new text = KeepsWriter old new
+
+-- An event happened, unless there was no memory; then, and ever after, nothing happens any more.
+abbrev pub IsSeen : Event → Scene → Scene → Seen → Type 0
+IsSeen event old new (Text text) = (old.spent ≡ false) × Happens event old new text.items
+IsSeen event old new Memory = new.spent ≡ true

@@ -1,0 +1,52 @@
+use Rattle.std.proofs.Common.{Ok, Err, sym, ◌∙◌, refl, subst}
+use Rattle.std.specs.Prelude.{IfSome}
+use Rattle.hgs_answers.specs.declared.answer.Answer.{Answer}
+use Rattle.hgs_files.specs.Tree.{after_all}
+use Rattle.hgs_machine.specs.Carry.{tree_now}
+use Rattle.hgs_machine.specs.Course.{lock_removals}
+use Rattle.hgs_machine.specs.Locks.{AreLocked, AreRemoved, IsTurnedAway}
+use Rattle.hgs_writer.specs.Begun.{Begins, IsRefused, has_no_locks, has_no_plan}
+use Rattle.hgs_writer.specs.declared.begin.Begun.TheVariants.{Ready}
+use Rattle.hgs_writer.specs.Planning.{Plans}
+use Rattle.hgs_writer.proofs.WrittenLemmas.{and_told, as_well, in_turn}
+use Rattle.hgs_writer.proofs.begin.begin.Goals as goal
+
+pub returns-in-Err-clause-log : goal.returns-in-Err-clause-log
+returns-in-Err-clause-log g c =
+    let who = c.args.who.now in
+    let command = c.args.command.now in
+    let t = tree_now (g.F.Files.log c.args.files.now) (g.F.Reads.start c.args.files.now) in
+    let why = c.in-Err.refusal.why in
+    let answer = c.of_locks.result in
+    as_well (g.F.Files.log c.args.files.now) (g.F.Files.log c.take_locks.new.files) (IsTurnedAway who t why c.in-Err.refusal.swept) (IsRefused who command t answer)
+    (λ done h. has_no_locks why (subst (λ b. IsTurnedAway who t why b done) (sym c.of_locks.ensures.swept) h) c.of_locks.ensures.outcome) c.in-Err.ensures.log
+
+pub returns-in-Ok-plan-clause-log : goal.returns-in-Ok-plan-clause-log
+returns-in-Ok-plan-clause-log g c =
+    let who = c.args.who.now in
+    let command = c.args.command.now in
+    let planned = c.in-Ok-plan.planned in
+    let latest = g.met.F.Files.latest in
+    let locked_files = c.take_locks.new.files in
+    let planned_files = c.plan.new.files in
+    let told = subst (λ s. IfSome s (λ l. Plans command (after_all l (g.F.Reads.start planned_files)) (Ok planned))) (latest planned_files) (c.in-Ok-plan.ensures.found g.met.F.Files.only_writer) in
+    and_told (g.F.Files.log c.args.files.now) (g.F.Files.log locked_files) (g.F.Files.log planned_files) (g.F.Reads.start c.args.files.now) (g.F.Reads.start planned_files)
+    (λ t. AreLocked who t) (λ t. Begins who command t (Ready planned)) (λ t. Plans command t (Ok planned))
+    (sym (latest planned_files) ∙ (c.plan.ensures.still g.met.F.Files.only_writer ∙ latest locked_files)) (c.plan.ensures.same_start ∙ c.take_locks.ensures.same_start)
+    (λ t a locked plans. (locked, plans)) c.in-Ok.ensures.log told
+
+pub returns-clause-log : goal.returns-clause-log
+returns-clause-log g c =
+    let who = c.args.who.now in
+    let command = c.args.command.now in
+    let fault = c.in-Err-plan.fault in
+    let swept = c.release-swept.result in
+    let answer : Answer = record { outcome = c.of_commit-outcome.result; swept = swept } in
+    let latest = g.met.F.Files.latest in
+    let locked_files = c.take_locks.new.files in
+    let planned_files = c.plan.new.files in
+    let told = subst (λ s. IfSome s (λ l. Plans command (after_all l (g.F.Reads.start planned_files)) (Err fault))) (latest planned_files) (c.in-Err-plan.ensures.found g.met.F.Files.only_writer) in
+    in_turn (g.F.Files.log c.args.files.now) (g.F.Files.log locked_files) (g.F.Files.log planned_files) (g.F.Files.log c.release-swept.new.files) (g.F.Reads.start c.args.files.now) (g.F.Reads.start planned_files)
+    (λ t. AreLocked who t) (λ t. AreRemoved lock_removals swept) (λ t. IsRefused who command t answer) (λ t. Plans command t (Err fault))
+    (sym (latest planned_files) ∙ (c.plan.ensures.still g.met.F.Files.only_writer ∙ latest locked_files)) (c.plan.ensures.same_start ∙ c.take_locks.ensures.same_start)
+    (λ t a b locked plans removed. has_no_plan fault a b locked plans removed c.of_commit-outcome.ensures refl) c.in-Ok.ensures.log told c.release-swept.ensures.log
