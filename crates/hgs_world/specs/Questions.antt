@@ -6,16 +6,16 @@ use Rattle.std.specs.Prelude.{⊤}
 use Rattle.hgs_files.specs.Tree.{Tree}
 use Rattle.hgs_model.specs.Phase.{phase_name}
 use Rattle.hgs_model.specs.declared.phase.Phase.{Phase}
-use Rattle.hgs_reader.specs.Answer.{is_of_outside, refusal_line}
-use Rattle.hgs_reader.specs.Asks.{Asks, answer, read, at_rest, part_of}
+use Rattle.hgs_load.specs.Answer.{is_of_outside, refusal_line}
+use Rattle.hgs_load.specs.Asks.{Asks, answer, read, at_rest, part_of}
 use Rattle.hgs_reader.specs.Contents.{cat_asks}
 use Rattle.hgs_reader.specs.Line.{line_asks}
-use Rattle.hgs_reader.specs.Load.{asks_of}
+use Rattle.hgs_load.specs.Load.{asks_of}
 use Rattle.hgs_reader.specs.Names.{named}
-use Rattle.hgs_reader.specs.Open.{open_asks}
-use Rattle.hgs_reader.specs.Refresh.{refresh_asks}
-use Rattle.hgs_reader.specs.View.{View}
-use Rattle.hgs_reader.specs.declared.answer.ReadAnswer.{ReadAnswer}
+use Rattle.hgs_load.specs.Open.{open_asks}
+use Rattle.hgs_load.specs.Refresh.{refresh_asks}
+use Rattle.hgs_load.specs.View.{View}
+use Rattle.hgs_load.specs.declared.answer.ReadAnswer.{ReadAnswer}
 use Rattle.hgs_world.specs.Texts.{loaded_line, word_line}
 use Rattle.hgs_world.specs.declared.reading.Reading.{Reading}
 

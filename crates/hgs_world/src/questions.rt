@@ -1,14 +1,14 @@
 //! Questions to what a reader has loaded.
 ghost use Rattle.std.specs.Prelude.{◌≡◌, ◌++◌, ◌<◌, IfOk, OnOk, false};
 ghost use Rattle.hgs_mem.specs.Steady.{steady_log, steady_start, steady_tree};
-ghost use Rattle.hgs_reader.specs.Answer.{is_of_outside, refusal_line};
+ghost use Rattle.hgs_load.specs.Answer.{is_of_outside, refusal_line};
 ghost use Rattle.hgs_reader.specs.Shown.{marks_text};
 ghost use Rattle.hgs_world.specs.Questions.{phase_text};
 
 use crate::seen::NoMemory;
 use crate::texts::word_line;
 use hgs_mem::steady::SteadyFiles;
-use hgs_reader::answer::ReadAnswer;
+use hgs_load::answer::ReadAnswer;
 use hgs_reader::session::Session;
 use std::alloc::Global;
 

@@ -2,7 +2,7 @@
 ghost use Rattle.std.specs.Prelude.{◌≡◌, IfOk, IfSome, OnOk, Some, None, length};
 ghost use Rattle.std.specs.Option.{option_map};
 ghost use Rattle.hgs_mem.specs.Steady.{steady_log, steady_start, steady_tree};
-ghost use Rattle.hgs_reader.specs.Load.{asks_of};
+ghost use Rattle.hgs_load.specs.Load.{asks_of};
 ghost use Rattle.hgs_world.specs.Texts.{loaded_line};
 ghost use Rattle.hgs_world.specs.Questions.{IsRead, line_of, load_asks, no_sight, read_by, read_line, sight_at, sight_of};
 
@@ -11,9 +11,9 @@ use crate::seen::NoMemory;
 use crate::texts::{loaded_line, word_line};
 use hgs_bytes::bytes::Bytes;
 use hgs_mem::steady::SteadyFiles;
-use hgs_reader::answer::ReadAnswer;
-use hgs_reader::ask::read_part;
-use hgs_reader::load::{LoadMachine, LoadNext};
+use hgs_load::answer::ReadAnswer;
+use hgs_load::ask::read_part;
+use hgs_load::load::{LoadMachine, LoadNext};
 use hgs_reader::session::Session;
 use std::alloc::Global;
 
@@ -62,7 +62,7 @@ fn new_load(alloc: Global, last: &Option<Session>) -> Result<LoadMachine, NoMemo
 {
     match last {
         Some(session) => {
-            let load = LoadMachine::refresh(alloc, session)?;
+            let load = LoadMachine::refresh(alloc, session.loaded())?;
             Ok(load)
         }
         None => {
@@ -104,7 +104,7 @@ impl Reading {
                 word_line(alloc, b"read")
             }
             LoadNext::End => {
-                let session = load.take();
+                let session = Session::of(alloc, load.take())?;
                 let line = loaded_line(alloc, session.len())?;
                 self.session = Some(session);
                 Ok(line)

@@ -24,7 +24,7 @@ use hgs_files::files::Files;
 use hgs_machine::machine::Machine;
 use hgs_mem::steady::SteadyFiles;
 use hgs_model::command::Command;
-use hgs_reader::paths::path_of;
+use hgs_files::path::path_of;
 use hgs_recover::answer::{RecoverAnswer, Recovered};
 use hgs_recover::recover::recover;
 use hgs_schedule::event::Event;
