@@ -18,11 +18,10 @@ ghost use Rattle.hgs_verify.specs.Report.{of_all_unused, of_standing, of_unused}
 use crate::whole::{read_text, size_of};
 use hgs_bytes::bytes::Bytes;
 use hgs_files::files::Reads;
-use hgs_files::path::StorePath;
+use hgs_files::path::{StorePath, path_of};
 use hgs_judge::report::Finding;
 use hgs_load::answer::ReadAnswer;
 use hgs_load::ask::bytes_of;
-use hgs_files::path::path_of;
 use hgs_load::requirements::test_requirements;
 use hgs_report::laws::calls_that_stand;
 use hgs_report::lines::add_file;

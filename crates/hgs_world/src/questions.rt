@@ -7,8 +7,8 @@ ghost use Rattle.hgs_world.specs.Questions.{phase_text};
 
 use crate::seen::NoMemory;
 use crate::texts::word_line;
-use hgs_mem::steady::SteadyFiles;
 use hgs_load::answer::ReadAnswer;
+use hgs_mem::steady::SteadyFiles;
 use hgs_reader::session::Session;
 use std::alloc::Global;
 

@@ -10,10 +10,10 @@ use crate::questions::refusal_line;
 use crate::seen::NoMemory;
 use crate::texts::{loaded_line, word_line};
 use hgs_bytes::bytes::Bytes;
-use hgs_mem::steady::SteadyFiles;
 use hgs_load::answer::ReadAnswer;
 use hgs_load::ask::read_part;
 use hgs_load::load::{LoadMachine, LoadNext};
+use hgs_mem::steady::SteadyFiles;
 use hgs_reader::session::Session;
 use std::alloc::Global;
 
