@@ -42,7 +42,7 @@ def page(program, word):
 def main():
     program = subprocess.run([os.path.join(top, "bin/hg_store"), "--build"], capture_output=True, text=True, check=True).stdout.strip()
     help_page = page(program, "--help")
-    answers = statuses("docs/ANSWERS.md", r"^\| (\d+) \| (?:`abort|`no interrupted| ?\| the system failed a write)")
+    answers = statuses("docs/ANSWERS.md", r"^\| (\d+) \| (?:`abort|`no interrupted|`checked| ?\| the system failed a write)")
     kit = subprocess.run(["rt", "version"], capture_output=True, text=True, check=True).stdout.strip()
     checks = [
         ("hints", hints_of_program() == hints_of_document() and len(hints_of_document()) == len(answers)),

@@ -51,6 +51,7 @@ pub fn hint(status: u8) -> Option<&'static str> {
             "only repositories that require dotencode, fncache, revlogv1 and store, and at most generaldelta besides, are taken; `bin/from_hg` makes one of any repository of Mercurial's",
         ),
         28 => Some("`hg_store --help` lists the commands"),
+        29 => Some("docs/ANSWERS.md says what each kind of finding means; nothing was changed"),
         30 => Some("there was not enough memory; `hg_store log` shows whether a commit was made"),
         34 => Some(
             "this file stands where a new one is to be, and no list of the store names it; move it away; nothing was changed",

@@ -17,3 +17,4 @@ pub mod RepositoryLemmas
 pub mod ValidLemmas
 pub mod Written
 pub mod PlayLemmas
+pub mod VerifiedLemmas

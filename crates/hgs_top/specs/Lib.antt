@@ -6,4 +6,5 @@ pub mod Outcome
 pub mod Pages
 pub mod Repository
 pub mod Run
+pub mod Verified
 pub mod Words

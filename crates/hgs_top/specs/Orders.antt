@@ -41,7 +41,7 @@ use Rattle.hgs_top.specs.declared.words.Asked.TheVariants as asked
 use Rattle.hgs_top.specs.declared.orders.Order.{Order}
 use Rattle.hgs_top.specs.declared.orders.Order.TheVariants as orders
 use Rattle.hgs_top.specs.Run.{EndsLine, OfTree}
-use Rattle.hgs_top.specs.Words.{Job, do_init, do_commit, do_recover, do_move, do_mark, do_unmark, Request, to_answer, to_do, to_play}
+use Rattle.hgs_top.specs.Words.{Job, do_init, do_commit, do_recover, do_move, do_mark, do_unmark, Request, to_answer, to_do, to_play, to_verify}
 
 -- a bookmark's name is one that a bookmark can have
 abbrev pub IsFit : Order → Type 0
@@ -56,6 +56,7 @@ abbrev pub IsFitting : Asked → Type 0
 IsFitting (asked.Question command) = ⊤
 IsFitting (asked.Order order) = IsFit order
 IsFitting asked.Play = ⊤
+IsFitting asked.Verify = ⊤
 
 -- ---- what is said
 
@@ -185,6 +186,7 @@ abbrev pub Obeys : Result Request ℕ → Option (List ℕ) → Option (List Op)
 Obeys (Ok (to_do job)) left old new start status written_old written_new = Does job left old new start status written_old written_new
 Obeys (Ok (to_answer question)) left old new start status written_old written_new = new ≡ old
 Obeys (Ok to_play) left old new start status written_old written_new = new ≡ old
+Obeys (Ok to_verify) left old new start status written_old written_new = new ≡ old
 Obeys (Err place) left old new start status written_old written_new = new ≡ old
 
 -- only a commit reads the input
@@ -196,4 +198,5 @@ abbrev pub KeepsInput : Result Request ℕ → Option (List ℕ) → Option (Lis
 KeepsInput (Ok (to_do job)) old new faults_old faults_new = LeavesInput job old new faults_old faults_new
 KeepsInput (Ok (to_answer question)) old new faults_old faults_new = (new ≡ old) × (faults_new ≡ faults_old)
 KeepsInput (Ok to_play) old new faults_old faults_new = ⊤
+KeepsInput (Ok to_verify) old new faults_old faults_new = (new ≡ old) × (faults_new ≡ faults_old)
 KeepsInput (Err place) old new faults_old faults_new = (new ≡ old) × (faults_new ≡ faults_old)

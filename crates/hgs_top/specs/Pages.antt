@@ -24,6 +24,7 @@ page_lines Help =
     codes "  phase [--force] REV PHASE  sets a phase" ∷
     codes "  bookmark NAME REV          sets a bookmark" ∷
     codes "  bookmark --delete NAME     deletes one" ∷
+    codes "  verify                     says what is wrong with the repository, and changes nothing" ∷
     codes "  recover                    undoes a transaction that was left unfinished" ∷
     codes "  play                       plays the schedule on standard input, in memory" ∷
     codes "  --help                     this page" ∷
@@ -54,6 +55,7 @@ page_lines Help =
     codes "  26  the phase is raised only by --force" ∷
     codes "  27  the repository requires a word that is not of the profile, or lacks one" ∷
     codes "  28  the words do not fit" ∷
+    codes "  29  the repository has findings, a line for each: file, revision and kind" ∷
     codes "  30  there was no memory" ∷
     codes "  34  a file that is not the store's is in the way" ∷
     codes "" ∷

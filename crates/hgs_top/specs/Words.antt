@@ -75,6 +75,7 @@ pub data Request : Type 0 where
   to_answer : Question → Request
   to_do : Job → Request
   to_play : Request
+  to_verify : Request
 
 abbrev pub question_of : Command → Question
 question_of (Shown page) = ask_page page
@@ -98,6 +99,7 @@ abbrev pub request_of : Asked → Request
 request_of (asked.Question command) = to_answer (question_of command)
 request_of (asked.Order order) = to_do (job_of order)
 request_of asked.Play = to_play
+request_of asked.Verify = to_verify
 
 -- the request with these operands
 abbrev pub asked_with : (List (List ℕ) → Request) → Result (List (List ℕ)) ℕ → Result Request ℕ
@@ -118,6 +120,7 @@ alone_named name =
     else if same name (codes "commit") then Some (to_do do_commit)
     else if same name (codes "recover") then Some (to_do do_recover)
     else if same name (codes "play") then Some to_play
+    else if same name (codes "verify") then Some to_verify
     else None
 
 -- the words behind this one, where it stands first

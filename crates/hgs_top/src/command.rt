@@ -70,7 +70,7 @@ pub fn refuse_words<K: Sink>(alloc: Global, place: usize, out: &mut K) -> u8
 }
 
 // Writes the line of a refusal, and gives the status.
-fn refuse<K: Sink>(alloc: Global, refusal: &ReadAnswer, out: &mut K) -> u8
+pub(crate) fn refuse<K: Sink>(alloc: Global, refusal: &ReadAnswer, out: &mut K) -> u8
     ensures line { EndsLine (refusal_line refusal.now) (status_of refusal.now) result (K.written out.old) (K.written out.new) }
     ensures later { K.faults out.old ≤ K.faults out.new }
     ensures sink { result ≡ 19 → Rose (K.faults out.old) (K.faults out.new) }

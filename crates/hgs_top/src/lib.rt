@@ -18,4 +18,5 @@ pub mod play;
 pub mod run;
 pub mod stopped;
 pub mod told;
+pub mod verified;
 pub mod words;

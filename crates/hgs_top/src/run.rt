@@ -15,6 +15,7 @@ use crate::command::{refuse_words, run_command};
 use crate::laws::{replies_of_repository, runs_make_histories};
 use crate::play::run_play;
 use crate::told::run_order;
+use crate::verified::run_verify;
 use crate::words::{Asked, asked_by};
 use hgs_files::files::Files;
 use hgs_files::streams::{Sink, Source};
@@ -39,7 +40,7 @@ fn run_words<F: Files, S: Source, K: Sink>(
     requires { (log : List Op) → F.allows (F.start files.old) log }
     ensures repository { SaysOfRepository (Rose (F.faults files.old) (F.faults files.new)) (request_of_words (map string_bytes words.now)) (F.log files.old) (F.start files.old) result (K.written out.old) (K.written out.new) }
     ensures says { Says (Rose (F.faults files.old) (F.faults files.new)) (request_of_words (map string_bytes words.now)) (F.log files.old) (F.start files.old) result (K.written out.old) (K.written out.new) }
-    ensures statuses { IsOneOf (0 ∷ 1 ∷ 10 ∷ 11 ∷ 12 ∷ 13 ∷ 14 ∷ 15 ∷ 16 ∷ 17 ∷ 18 ∷ 19 ∷ 20 ∷ 21 ∷ 22 ∷ 23 ∷ 24 ∷ 25 ∷ 26 ∷ 27 ∷ 28 ∷ 30 ∷ 34 ∷ []) result }
+    ensures statuses { IsOneOf (0 ∷ 1 ∷ 10 ∷ 11 ∷ 12 ∷ 13 ∷ 14 ∷ 15 ∷ 16 ∷ 17 ∷ 18 ∷ 19 ∷ 20 ∷ 21 ∷ 22 ∷ 23 ∷ 24 ∷ 25 ∷ 26 ∷ 27 ∷ 28 ∷ 29 ∷ 30 ∷ 34 ∷ []) result }
     ensures words { result ≡ 28 → (place : ℕ) × (request_of_words (map string_bytes words.now) ≡ Err place) }
     ensures fault { result ≡ 16 → Rose (F.faults files.old) (F.faults files.new) }
     ensures unfinished { result ≡ 17 → Rose (F.faults files.old) (F.faults files.new) ⊎ Rose (F.denied files.old) (F.denied files.new) }
@@ -55,13 +56,14 @@ fn run_words<F: Files, S: Source, K: Sink>(
         Ok(Asked::Question(command)) => run_command(alloc, command, files, out),
         Ok(Asked::Order(order)) => run_order(alloc, order, files, input, out),
         Ok(Asked::Play) => run_play(alloc, input, out),
+        Ok(Asked::Verify) => run_verify(alloc, files, out),
         Err(place) => refuse_words(alloc, place, out),
     }
 }
 
 /// Does what the words ask for, over the files of the yard, and writes what it says to `out`.
 ///
-/// `rt` is the runtime's handle. The status is 0, or that of the refusal whose line was written last.
+/// `rt` is the runtime's handle. The status is 0, or that of the refusal whose line was written last; 29 says that the report has findings.
 pub fn run<T, Y: Yard, S: Source, K: Sink>(
     rt: &T,
     alloc: Global,
@@ -72,7 +74,7 @@ pub fn run<T, Y: Yard, S: Source, K: Sink>(
 ) -> Ran<Y>
     ensures repository { SaysOfRepository (IfWhole result.left (λ y. Rose (Y.A.faults (Y.files yard)) (Y.A.faults (Y.files y)))) (request_of_words (map string_bytes words.now)) (Y.A.log (Y.files yard)) (Y.A.start (Y.files yard)) result.status (K.written out.old) (K.written out.new) }
     ensures says { Says (IfWhole result.left (λ y. Rose (Y.A.faults (Y.files yard)) (Y.A.faults (Y.files y)))) (request_of_words (map string_bytes words.now)) (Y.A.log (Y.files yard)) (Y.A.start (Y.files yard)) result.status (K.written out.old) (K.written out.new) }
-    ensures statuses { IsOneOf (0 ∷ 1 ∷ 10 ∷ 11 ∷ 12 ∷ 13 ∷ 14 ∷ 15 ∷ 16 ∷ 17 ∷ 18 ∷ 19 ∷ 20 ∷ 21 ∷ 22 ∷ 23 ∷ 24 ∷ 25 ∷ 26 ∷ 27 ∷ 28 ∷ 30 ∷ 34 ∷ []) result.status }
+    ensures statuses { IsOneOf (0 ∷ 1 ∷ 10 ∷ 11 ∷ 12 ∷ 13 ∷ 14 ∷ 15 ∷ 16 ∷ 17 ∷ 18 ∷ 19 ∷ 20 ∷ 21 ∷ 22 ∷ 23 ∷ 24 ∷ 25 ∷ 26 ∷ 27 ∷ 28 ∷ 29 ∷ 30 ∷ 34 ∷ []) result.status }
     ensures words { result.status ≡ 28 → (place : ℕ) × (request_of_words (map string_bytes words.now) ≡ Err place) }
     ensures fault { result.status ≡ 16 → IfWhole result.left (λ y. Rose (Y.A.faults (Y.files yard)) (Y.A.faults (Y.files y))) }
     ensures unfinished { result.status ≡ 17 → IfWhole result.left (λ y. Rose (Y.A.faults (Y.files yard)) (Y.A.faults (Y.files y)) ⊎ Rose (Y.A.denied (Y.files yard)) (Y.A.denied (Y.files y))) }

@@ -33,6 +33,8 @@ pub enum Asked<'a> {
     Order(Order<'a>),
     /// Plays the schedule that stands on the input, in memory.
     Play,
+    /// Says what is wrong with the repository.
+    Verify,
 }
 
 // The command, where no operands stand behind its name.
@@ -168,6 +170,9 @@ fn alone_named(name: &String) -> Option<Asked<'static>>
     }
     if equal(name, b"play") {
         return Some(Asked::Play);
+    }
+    if equal(name, b"verify") {
+        return Some(Asked::Verify);
     }
     None
 }

@@ -1,0 +1,196 @@
+#!/usr/bin/env python3
+"""`verify` over small stores that are laid out byte by byte, with each kind of finding that such stores can have, and over the stores of
+real Mercurial: what is written, the status, and that no file is changed.
+
+The findings of the small stores are written by hand from the table of kinds in docs/ANSWERS.md. Kind 11 needs two paths with one SHA-1,
+so it has no row. The last line is 'N passed, M failed'.
+"""
+
+import hashlib
+import os
+import shutil
+import struct
+import subprocess
+import sys
+import tempfile
+
+sys.dont_write_bytecode = True
+from checks import HERE, Checks, built_program, bytes_of
+
+NULL = bytes(20)
+GONE = b"\xaa" * 20
+REQUIRES = b"dotencode\nfncache\nrevlogv1\nstore\n"
+
+
+def nodes(texts):
+    """The nodes of texts, each the child of the one before."""
+    found, parent = [], NULL
+    for text in texts:
+        parent = hashlib.sha1(NULL + parent + text).digest()
+        found.append(parent)
+    return found
+
+
+def revlog(*texts):
+    """Index and data of the same texts, stored whole behind a `u`."""
+    index, data = b"", b""
+    for rev, (text, own) in enumerate(zip(texts, nodes(texts))):
+        index += struct.pack(">QIIIIii20s12x", len(data) << 16, len(text) + 1, len(text), rev, rev, rev - 1, -1, own)
+        data += b"u" + text
+    return (b"\0\0\0\x01" + index[4:] if index else b""), data
+
+
+def manifest(node):
+    return b"a\0%s\n" % node.hex().encode()
+
+
+def changeset(node, *files):
+    return b"%s\ntest\n0 0\n%s\n%s" % (node.hex().encode(), b"".join(b"%s\n" % path for path in files), b"words")
+
+
+BODIES = [b"a\n", b"b\n"]
+MANIFESTS = [manifest(node) for node in nodes(BODIES)]
+CHANGESETS = [changeset(node, b"a") for node in nodes(MANIFESTS)]
+ZERO, ONE = nodes(CHANGESETS)
+CHANGELOG, CHANGELOG_DATA, MANIFEST, MANIFEST_DATA = (f"store/00{name}.{end}" for name in ("changelog", "manifest") for end in "id")
+FILE, FILE_DATA, NAMES, ROOTS = "store/data/a.i", "store/data/a.d", "store/fncache", "store/phaseroots"
+
+
+def store(changesets, manifests, bodies):
+    files = {"requires": REQUIRES}
+    files[CHANGELOG], files[CHANGELOG_DATA] = revlog(*changesets)
+    files[MANIFEST], files[MANIFEST_DATA] = revlog(*manifests)
+    files[FILE], files[FILE_DATA] = revlog(*bodies)
+    return {**files, NAMES: b"data/a.i\ndata/a.d\n"}
+
+
+# Two drafts of one file; the second is the working parent, and a bookmark names the first.
+DRAFTS = {
+    **store(CHANGESETS, MANIFESTS, BODIES),
+    ROOTS: b"1 %s\n" % ZERO.hex().encode(),
+    "bookmarks": b"%s main\n" % ZERO.hex().encode(),
+    "dirstate": ONE + NULL + struct.pack(">ciiii", b"n", 0o100644, 2, 0, 1) + b"a",
+}
+
+
+def at(name, place, data):
+    """The drafts with these bytes at a place of a file."""
+    old = DRAFTS[name]
+    return {**DRAFTS, name: old[:place] + data + old[place + len(data) :]}
+
+
+def behind(name, data):
+    return {**DRAFTS, name: DRAFTS[name] + data}
+
+
+def without(*names):
+    return {name: data for name, data in DRAFTS.items() if name not in names}
+
+
+# A store, its findings, and how many changesets and filelogs are checked.
+ROWS = [
+    ({"requires": REQUIRES}, [], 0, 0),
+    (DRAFTS, [], 2, 1),
+    ({**DRAFTS, "store/undo": b"x"}, [], 2, 1),  # a file that nothing names
+    # a journal, and locks
+    ({**DRAFTS, "store/journal": b""}, ["store/journal - 1"], 2, 1),
+    ({**DRAFTS, "wlock": b"w", "store/lock": b""}, ["store/lock - 2", "wlock - 2"], 2, 1),
+    # a byte of a text, of a file and of the last changeset, and what hangs on them
+    (at(FILE_DATA, 1, b"x"), [f"{FILE} 0 3", f"{FILE} 0 5", f"{FILE} 1 5"], 2, 1),
+    (at(CHANGELOG_DATA, len(CHANGESETS[0]) + 2, b"x"), [f"{CHANGELOG} 1 3", f"{MANIFEST} 1 6", f"{FILE} 1 6", "dirstate - 15"], 1, 1),
+    # texts that are out of form
+    ({**DRAFTS, ROOTS: b"x"}, [f"{ROOTS} - 4"], 2, 1),
+    ({**DRAFTS, "bookmarks": b"x"}, ["bookmarks - 4"], 2, 1),
+    ({**DRAFTS, "dirstate": bytes(39)}, ["dirstate - 4"], 2, 1),
+    ({**DRAFTS, NAMES: b"data/a"}, [f"{NAMES} - 4"], 2, 1),
+    (store([b"x"], [], []), [f"{CHANGELOG} 0 4"], 1, 0),
+    (store([changeset(nodes([b"x"])[0])], [b"x"], []), [f"{MANIFEST} 0 4"], 1, 0),
+    # revisions that are not there, that nobody names, with another link, with parents the other way round
+    (without(FILE, FILE_DATA), [f"{FILE} 0 5", f"{FILE} 1 5"], 2, 1),
+    (store([CHANGESETS[0]], [], []), [f"{MANIFEST} 0 5"], 1, 0),
+    ({**DRAFTS, **{name: data for name, data in store([], [], [*BODIES, b"c\n"]).items() if name in (FILE, FILE_DATA)}}, [f"{FILE} 2 6"], 2, 1),
+    (at(FILE, 20, b"\0\0\0\1"), [f"{FILE} 0 7"], 2, 1),
+    (at(CHANGELOG, 84, b"\0\0\0\0"), [f"{CHANGELOG} 1 7"], 2, 1),
+    (at(FILE, 64 + 24, b"\xff\xff\xff\xff\0\0\0\0"), [f"{FILE} 1 8"], 2, 1),
+    # a list of changed files that lacks one, and one that has one more
+    (store([changeset(nodes(MANIFESTS)[0])], MANIFESTS[:1], BODIES[:1]), [f"{CHANGELOG} 0 9"], 1, 1),
+    (store([changeset(nodes(MANIFESTS)[0], b"a"), changeset(nodes(MANIFESTS)[0], b"a")], MANIFESTS[:1], BODIES[:1]), [f"{CHANGELOG} 1 9", f"{MANIFEST} 0 8"], 2, 1),
+    # names of files
+    ({**DRAFTS, NAMES: b"data/a.i\n"}, [f"{FILE_DATA} - 10"], 2, 1),
+    ({**behind(NAMES, b"data/z.i\n"), "store/data/z.i": b"?"}, ["store/data/z.i - 12"], 2, 1),
+    # nodes of no changeset, and other tracked paths
+    (behind(ROOTS, b"2 %s\n" % GONE.hex().encode()), [f"{ROOTS} 2 13"], 2, 1),
+    (behind("bookmarks", b"%s gone\n" % GONE.hex().encode()), ["bookmarks 2 14"], 2, 1),
+    ({**DRAFTS, "dirstate": GONE + NULL}, ["dirstate - 15"], 2, 1),
+    ({**DRAFTS, "dirstate": ONE + NULL}, ["dirstate - 16"], 2, 1),
+    # bytes behind the last revision
+    (behind(MANIFEST_DATA, b"x"), [f"{MANIFEST_DATA} 2 17"], 2, 1),
+    (behind(FILE, b"x"), [f"{FILE} 2 17"], 2, 1),
+]
+
+# A store, the words, what is written, and the status.
+REFUSALS = [
+    ({}, ["verify"], b"abort: not a repository\n", 24),
+    ({**DRAFTS, "requires": b"dotencode\nfncache\ntreemanifest\n"}, ["verify"], b"abort: requirement treemanifest\n", 27),
+    (DRAFTS, ["verify", "x"], b"abort: bad word 1\n", 28),
+    (DRAFTS, ["verify", "--jobs", "2"], b"abort: bad word 1\n", 28),
+]
+
+
+def report(findings, changesets, filelogs):
+    ordered = sorted(findings, key=order)
+    last = f"checked {changesets} changesets, {filelogs} filelogs, {len(findings)} findings\n"
+    return "".join(f"{line}\n" for line in ordered).encode() + last.encode(), 29 if findings else 0
+
+
+def order(line):
+    path, rev, kind = line.rsplit(" ", 2)
+    return path.encode(), -1 if rev == "-" else int(rev), int(kind)
+
+
+def lay(folder, files):
+    for name, data in files.items():
+        path = os.path.join(folder, ".hg", name)
+        os.makedirs(os.path.dirname(path), exist_ok=True)
+        with open(path, "wb") as file:
+            file.write(data)
+
+
+def ask(program, folder, *words):
+    ended = subprocess.run([program, *words], stdin=subprocess.DEVNULL, stdout=subprocess.PIPE, stderr=subprocess.DEVNULL, cwd=folder, check=False)
+    return ended.stdout, ended.returncode
+
+
+def rows(program, checks):
+    wanted = [(files, ["verify"], *report(*found)) for files, *found in ROWS]
+    for files, words, text, status in wanted + REFUSALS:
+        with tempfile.TemporaryDirectory() as folder:
+            lay(folder, files)
+            before = bytes_of(folder)
+            said = ask(program, folder, *words)
+            checks.check(f"{words}: {said} ({text}, {status})", said == (text, status))
+            checks.check(f"{words}: other files stand", bytes_of(folder) == before)
+
+
+def stores_of_mercurial(program, checks):
+    """A store that Mercurial made has no damage; its merges may be recorded by rules of its own."""
+    for name in sorted(os.listdir(os.path.join(HERE, "fixtures"))):
+        with tempfile.TemporaryDirectory() as folder:
+            shutil.copytree(os.path.join(HERE, "fixtures", name), os.path.join(folder, ".hg"))
+            text, status = ask(program, folder, "verify")
+            *findings, last = text.decode().splitlines()
+            count = len(ask(program, folder, "log")[0].splitlines())
+            checks.check(f"{name}: {last}", last.startswith(f"checked {count} changesets, ") and last.endswith(f" filelogs, {len(findings)} findings"))
+            checks.check(f"{name}: status {status}", status == (29 if findings else 0))
+            checks.check(f"{name}: {findings}", all(line.rsplit(" ", 1)[1] in ("8", "9") for line in findings))
+
+
+def main():
+    program, checks = built_program(), Checks()
+    rows(program, checks)
+    stores_of_mercurial(program, checks)
+    print(f"{checks.passed} passed, {checks.failed} failed")
+    sys.exit(checks.failed > 0 or checks.passed == 0)
+
+
+main()
