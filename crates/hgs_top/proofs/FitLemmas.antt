@@ -1,13 +1,12 @@
 -- The words of a command that sets a bookmark have a name that a bookmark can have.
 use Rattle.std.proofs.Common.{◌≡◌, ℕ, ◌+◌, Bool, true, false, List, [], ◌∷◌, Option, Some, None, Result, Ok, Err, refl, sym, subst}
-use Rattle.std.specs.Prelude.{if◌then◌else◌, IfOk, ⊤, slice_index_or, codes, not, ◌&&◌}
+use Rattle.std.specs.Prelude.{if◌then◌else◌, IfOk, ⊤, codes, not, ◌&&◌}
 use Rattle.hgs_bytes.specs.Bytes.{same, begins_with}
 use Rattle.hgs_index.specs.MarkName.{is_mark_name}
-use Rattle.hgs_model.specs.declared.phase.Phase.{Phase}
 use Rattle.hgs_top.specs.declared.operands.Operand.{Operand}
 use Rattle.hgs_top.specs.declared.operands.Operand.TheVariants as operand_kinds
 use Rattle.hgs_top.specs.declared.pages.Page.{Page}
-use Rattle.hgs_top.specs.Words.{Question, Job, do_init, do_commit, do_recover, do_move, do_mark, do_unmark, Request, to_answer, to_do, to_play, to_verify, operands, operand, with_operand, asked_with, alone_named, alone_else, about_named, bookmark_with, phase_with, phase_or_move, moved_with, behind_word, request_named, request_of_words, page_named, page_else}
+use Rattle.hgs_top.specs.Words.{Job, do_init, do_commit, do_recover, do_move, do_mark, do_unmark, Request, to_answer, to_do, to_play, to_verify, operands, operand, with_operand, asked_with, alone_named, alone_else, about_named, bookmark_with, phase_with, phase_or_move, moved_with, behind_word, request_named, request_of_words, page_named, page_else}
 
 abbrev pub IsFitJob : Job → Type 0
 IsFitJob do_init = ⊤

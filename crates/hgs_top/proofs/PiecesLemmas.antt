@@ -1,7 +1,6 @@
 -- What a run did to the log is made of pieces of a legal log.
-use Rattle.std.proofs.Common.{◌≡◌, ◌++◌, ℕ, List, [], Option, Some, None, Result, Ok, Err, refl, sym, ◌∙◌, ap, subst}
+use Rattle.std.proofs.Common.{◌≡◌, ◌++◌, ℕ, List, [], Option, Some, None, Result, Ok, refl, sym, ◌∙◌, ap, subst}
 use Rattle.std.proofs.lemmas.List.{append-nil}
-use Rattle.std.specs.Prelude.{IfSome}
 use Rattle.hgs_answers.specs.declared.answer.Answer.{Answer}
 use Rattle.hgs_files.specs.declared.op.Op.{Op}
 use Rattle.hgs_files.specs.Tree.{Tree, after_all}
@@ -13,7 +12,7 @@ use Rattle.hgs_stands.specs.Stands.{Stands}
 use Rattle.hgs_writer.specs.Alone.{HasWhatItNeeds}
 use Rattle.hgs_top.specs.Histories.{GoesOnAs, IsWriting, MakesHistory, MakesPieces}
 use Rattle.hgs_top.specs.Orders.{ComesTo, IsCommandOf, Obeys}
-use Rattle.hgs_top.specs.Words.{Job, Request, do_init, do_recover, request_of_words, to_do}
+use Rattle.hgs_top.specs.Words.{Job, Request, request_of_words, to_do}
 use Rattle.hgs_top.specs.declared.ended.Ended.{Ended}
 use Rattle.hgs_top.specs.declared.ended.Ended.TheVariants.{Made, Exists, NotMade, NoInput, NoRecord, Refused, Answered, Recovered}
 

@@ -1,5 +1,5 @@
 -- A command that words and input give is valid.
-use Rattle.std.proofs.Common.{◌≡◌, ℕ, List, Some, Result, Ok, Err, subst, sym}
+use Rattle.std.proofs.Common.{◌≡◌, ℕ, List, Some, Result, Ok, subst, sym}
 use Rattle.std.specs.Prelude.{IfOk}
 use Rattle.hgs_input.specs.Read.{read_record}
 use Rattle.hgs_model.specs.Valid.{IsNewChange, IsValid}

@@ -1,6 +1,4 @@
-use Rattle.std.proofs.Common.{◌≡◌, ◌++◌, List, Some, sym, subst}
-use Rattle.hgs_files.specs.declared.op.Op.{Op}
-use Rattle.hgs_files.specs.Tree.{Tree, after_all}
+use Rattle.hgs_files.specs.Tree.{after_all}
 use Rattle.hgs_top.proofs.laws.answered_commands_make_histories.Goals as goal
 
 pub returns : goal.returns
