@@ -1,5 +1,5 @@
 //! What the definitions of this crate imply. Each function is one law; none does anything but to call laws that it rests on.
-ghost use Rattle.std.specs.Prelude.{◌≡◌, ℕ, List, Ok, Option, Some, None, length, slice_get};
+ghost use Rattle.std.specs.Prelude.{◌≡◌, ◌⊎◌, ℕ, List, Ok, Option, Some, None, length, slice_get};
 ghost use Rattle.hex.specs.Hex.{IsBytes};
 ghost use Rattle.hgs_files.specs.Tree.{Tree, bytes_at};
 ghost use Rattle.hgs_index.specs.Revision.{nodes};
@@ -13,7 +13,11 @@ ghost use Rattle.hgs_model.specs.Repo.{Repo};
 ghost use Rattle.hgs_shown.specs.Answers.{IsReadable};
 ghost use Rattle.hgs_top.specs.Outcome.{log_outcome};
 ghost use Rattle.hgs_top.specs.Repository.{reply_of};
-ghost use Rattle.hgs_top.specs.Run.{reply_to};
+ghost use Rattle.hgs_files.specs.Reads.{Rose};
+ghost use Rattle.hgs_files.specs.Streams.{IsWritten};
+ghost use Rattle.hgs_findings.specs.Findings.{Finding, IsReport};
+ghost use Rattle.hgs_top.specs.Run.{Verifies, reply_to};
+ghost use Rattle.hgs_top.specs.Verified.{report_status, report_text};
 ghost use Rattle.hgs_top.specs.Words.{Job, Question, request_of_words, to_do};
 ghost use Rattle.hgs_answers.specs.declared.answer.Answer.{Answer};
 ghost use Rattle.hgs_files.specs.declared.op.Op.{Op};
@@ -83,3 +87,10 @@ pub fn runs_make_histories()
     commands_are_valid();
     answered_commands_make_histories();
 }
+
+/// A run that verifies and ends with 0 or 29 has written the whole report of the tree, and ends with 29 exactly where that has a
+/// finding.
+pub fn reports_are_told_whole()
+    ensures { (faults_old faults_new : ℕ) (log : List Op) (start : Tree) (status : ℕ) (written_old written_new : Option (List ℕ)) → Verifies (Rose faults_old faults_new) (Some log) start status written_old written_new → (status ≡ 0) ⊎ (status ≡ 29) →
+        (findings : List Finding) × (changesets : ℕ) × (filelogs : ℕ) × IsReport (after_all log start) findings changesets filelogs × (status ≡ report_status findings) × IsWritten written_old written_new (report_text findings changesets filelogs) }
+{}
