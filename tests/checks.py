@@ -36,3 +36,12 @@ def bytes_of(folder):
             with open(path, "rb") as file:
                 found[os.path.relpath(path, root)] = file.read()
     return {path: data for path, data in found.items() if data}
+
+
+def lay(folder, files):
+    """Lays these files, by their names in it, into the folder's .hg."""
+    for name, data in files.items():
+        path = os.path.join(folder, ".hg", name)
+        os.makedirs(os.path.dirname(path), exist_ok=True)
+        with open(path, "wb") as file:
+            file.write(data)

@@ -7,14 +7,13 @@ Entries and nodes are made here by `struct` and `hashlib`; texts, lines and refu
 """
 
 import hashlib
-import os
 import struct
 import subprocess
 import sys
 import tempfile
 
 sys.dont_write_bytecode = True
-from checks import Checks, built_program, bytes_of
+from checks import Checks, built_program, bytes_of, lay
 
 NULL = bytes(20)
 REQUIRES = b"dotencode\nfncache\nrevlogv1\nstore\n"
@@ -261,14 +260,6 @@ COMMANDS = [
         )
     ),
 ]
-
-
-def lay(folder, files):
-    for name, data in files.items():
-        path = os.path.join(folder, ".hg", name)
-        os.makedirs(os.path.dirname(path), exist_ok=True)
-        with open(path, "wb") as file:
-            file.write(data)
 
 
 def main():

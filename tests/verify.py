@@ -15,7 +15,7 @@ import sys
 import tempfile
 
 sys.dont_write_bytecode = True
-from checks import HERE, Checks, built_program, bytes_of
+from checks import HERE, Checks, built_program, bytes_of, lay
 
 NULL = bytes(20)
 GONE = b"\xaa" * 20
@@ -146,14 +146,6 @@ def report(findings, changesets, filelogs):
 def order(line):
     path, rev, kind = line.rsplit(" ", 2)
     return path.encode(), -1 if rev == "-" else int(rev), int(kind)
-
-
-def lay(folder, files):
-    for name, data in files.items():
-        path = os.path.join(folder, ".hg", name)
-        os.makedirs(os.path.dirname(path), exist_ok=True)
-        with open(path, "wb") as file:
-            file.write(data)
 
 
 def ask(program, folder, *words):
