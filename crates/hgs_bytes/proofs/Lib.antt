@@ -1,4 +1,1 @@
 pub mod AnswerLemmas
-pub mod ByteLemmas
-pub mod TextLemmas
-pub mod TwoLemmas

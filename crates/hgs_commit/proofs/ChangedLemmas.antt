@@ -5,9 +5,9 @@ use Rattle.hgs_bytes.specs.Bytes.{same, among, is_below}
 use Rattle.hgs_bytes.specs.Text.{ascends}
 use Rattle.hgs_index.specs.Manifest.{Row, AscendFrom}
 use Rattle.hgs_model.specs.History.{in_order}
-use Rattle.hgs_model.proofs.ListLemmas.{ascends-head, ascends-tail, below-or, below-trans}
-use Rattle.hgs_model.proofs.NewChangesetLemmas.{in_order-ordered}
-use Rattle.hgs_ops.proofs.StandsCommit.{among-in_order}
+use Rattle.hgs_model.specs.Theorems.ListLemmas.{ascends-head, ascends-tail, below-or, below-trans}
+use Rattle.hgs_model.specs.Theorems.NewChangesetLemmas.{in_order-ordered}
+use Rattle.hgs_ops.specs.Theorems.StandsCommit.{among-in_order}
 use Rattle.hgs_commit.specs.Files.{OfFile, new_path}
 use Rattle.hgs_commit.specs.Texts.{changes_of}
 use Rattle.hgs_commit.specs.Tree.{OfTree, new_lines, passed_at, paths_of, rest_at, with_file, with_files}

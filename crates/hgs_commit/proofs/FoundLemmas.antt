@@ -7,7 +7,7 @@ use Rattle.hgs_files.specs.Tree.{Tree}
 use Rattle.hgs_index.specs.FileText.{plain_prefix}
 use Rattle.hgs_index.specs.Revision.{Parents, Revision}
 use Rattle.hgs_loading.specs.Found.{and_then}
-use Rattle.hgs_loading.proofs.FoundLemmas.{either}
+use Rattle.hgs_loading.specs.Theorems.FoundLemmas.{either}
 use Rattle.hgs_model.specs.History.{first_of}
 use Rattle.hgs_model.specs.declared.files.NewFile.{NewFile}
 use Rattle.hgs_path.specs.declared.name.Ext.{Ext}

@@ -7,7 +7,7 @@ use Rattle.std.specs.Ordering.{is_lt}
 use Rattle.hgs_bytes.specs.Bytes.{same, is_below}
 use Rattle.hgs_index.specs.Manifest.{Row, AscendFrom}
 use Rattle.hgs_manifest.specs.Held.{found_in}
-use Rattle.hgs_model.proofs.ListLemmas.{below-or, below-trans}
+use Rattle.hgs_model.specs.Theorems.ListLemmas.{below-or, below-trans}
 use Rattle.hgs_commit.specs.Tree.{rest_at, row_at}
 use Rattle.hgs_commit.specs.Walk.{behind_row, first_row, from_path, told_of_row}
 

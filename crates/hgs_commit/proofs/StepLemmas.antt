@@ -4,7 +4,7 @@ use Rattle.std.specs.Prelude.{⊤}
 use Rattle.std.specs.Bool.{MatchBool}
 use Rattle.hgs_files.specs.Tree.{Tree}
 use Rattle.hgs_index.specs.Revision.{Parents}
-use Rattle.hgs_loading.proofs.FoundLemmas.{either}
+use Rattle.hgs_loading.specs.Theorems.FoundLemmas.{either}
 use Rattle.hgs_loading.specs.Found.{and_then}
 use Rattle.hgs_model.specs.declared.command.NewChange.{NewChange}
 use Rattle.hgs_load.specs.Answer.{is_of_outside}

@@ -15,7 +15,7 @@ use Rattle.hgs_loading.specs.Found.{and_then}
 use Rattle.hgs_loading.specs.Logs.{text_in}
 use Rattle.hgs_loading.specs.Parent.{Files, change_in, rows_at, rows_in, rows_of_text}
 use Rattle.hgs_manifest.specs.Held.{found_in, is_row_path}
-use Rattle.hgs_model.proofs.ListLemmas.{below-trans}
+use Rattle.hgs_model.specs.Theorems.ListLemmas.{below-trans}
 use Rattle.hgs_model.specs.History.{first_of, in_order, manifest_parents_of}
 use Rattle.hgs_model.specs.Valid.{new_paths as paths_of_files}
 use Rattle.hgs_model.specs.declared.command.NewChange.{NewChange}

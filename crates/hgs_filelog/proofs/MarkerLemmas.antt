@@ -4,7 +4,7 @@ use Rattle.std.specs.Prelude.{◌==◌, option_map}
 use Rattle.std.proofs.lemmas.Bool.{false_from_ne_true}
 use Rattle.std.proofs.lemmas.List.{take-append-drop, take_at, drop_at, length-append, length-take-le}
 use Rattle.hgs_bytes.specs.Bytes.{begins_with}
-use Rattle.hgs_bytes.proofs.ByteLemmas.{same-eq}
+use Rattle.hgs_bytes.specs.Theorems.ByteLemmas.{same-eq}
 use Rattle.hgs_index.specs.FileText.{marker, split_at_marker, with_block, unpacked}
 use Rattle.hgs_filelog.specs.Packed.{block_of, packed, HasNoMarker}
 

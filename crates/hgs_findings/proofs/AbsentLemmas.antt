@@ -13,7 +13,7 @@ use Rattle.hgs_marks.specs.Bookmarks.{Mark, mark_lines}
 use Rattle.hgs_marks.specs.Dirstate.{Dirstate, no_dirstate, read_dirstate}
 use Rattle.hgs_model.specs.Repo.{Repo, Changeset, tree_at, tree_paths, paths_at}
 use Rattle.hgs_model.specs.History.{History, history, uses, changeset_nodes}
-use Rattle.hgs_model.proofs.HistoryLemmas.{length-changelog}
+use Rattle.hgs_model.specs.Theorems.HistoryLemmas.{length-changelog}
 use Rattle.hgs_path.specs.declared.name.Ext.{Ext}
 use Rattle.hgs_path.specs.declared.name.Ext.TheVariants.{I, D}
 use Rattle.hgs_path.specs.Fncache.{lists}
@@ -23,7 +23,7 @@ use Rattle.hgs_phases.specs.declared.roots.Root.{Root}
 use Rattle.hgs_phases.specs.Roots.{read_roots}
 use Rattle.hgs_stands.specs.Places.{bookmarks_path, dirstate_path, roots_path, fncache_path}
 use Rattle.hgs_stands.specs.Stands.{IsUsedName, Stands, IsClean}
-use Rattle.hgs_stands.proofs.ListedLemmas.{among-at}
+use Rattle.hgs_stands.specs.Theorems.ListedLemmas.{among-at}
 use Rattle.hgs_findings.specs.Namings.{FollowsRules}
 use Rattle.hgs_findings.specs.Sight.{Sight, Seen, value, place, row_paths, seen}
 use Rattle.hgs_findings.specs.Regular.{rows_of_seen, used_paths, is_used, has_file, IsRegular}

@@ -11,7 +11,7 @@ use Rattle.hgs_index.specs.Revision.{Revision}
 use Rattle.hgs_model.specs.Repo.{Changeset, tree_paths}
 use Rattle.hgs_model.specs.History.{History, no_history, history, history_from, with_changeset, EachChangeset, changeset_revision, text_at, uses}
 use Rattle.hgs_model.specs.IsRepo.{IsNextChangeset}
-use Rattle.hgs_model.proofs.HistoryLemmas.{history_from-extends, Extends}
+use Rattle.hgs_model.specs.Theorems.HistoryLemmas.{history_from-extends, Extends}
 use Rattle.hgs_findings.specs.Built.{IsBuilt, above}
 use Rattle.hgs_findings.specs.Namings.{FollowsRules, first_use}
 use Rattle.hgs_findings.specs.Sight.{Sight, Seen, value, place, row_paths, seen, seen_of, manifest_rule, manifest_naming, file_naming, is_wrongly_listed}

@@ -7,19 +7,19 @@ use Rattle.hgs_bytes.specs.Bytes.{same, among, IsPrefixOf}
 use Rattle.hgs_bytes.specs.Text.{ascends}
 use Rattle.hgs_index.specs.declared.kinds.Flag.{Flag}
 use Rattle.hgs_index.specs.ChangeText.{IsChange, change_text}
-use Rattle.hgs_index.proofs.ChangeTextLemmas.{change_found}
+use Rattle.hgs_index.specs.Theorems.ChangeTextLemmas.{change_found}
 use Rattle.hgs_index.specs.FileText.{unpacked}
-use Rattle.hgs_index.proofs.FileTextLemmas.{unpacked-joins}
+use Rattle.hgs_index.specs.Theorems.FileTextLemmas.{unpacked-joins}
 use Rattle.hgs_index.specs.Manifest.{Row, AscendFrom, AreRows, manifest_text}
-use Rattle.hgs_index.proofs.ManifestText.{manifest_found}
+use Rattle.hgs_index.specs.Theorems.ManifestText.{manifest_found}
 use Rattle.hgs_index.specs.Revision.{Parents, Revision, standing, with_revision, number_of}
 use Rattle.hgs_index.specs.TrackedPath.{is_tracked}
 use Rattle.hgs_model.specs.Repo.{Changeset, TreeFile, file_text, tree_paths}
 use Rattle.hgs_model.specs.History.{History, Placed, placed_at, placed_file, placed_of, text_at, node_at, kept, file_parents, rev_of_file, log_with_file, filelog_with, row_of, rows_of, manifest_at, manifest_parents_of, manifest_revision, manifest_with, manifest_number, first_of, parent_file, has_other_flag, is_changed, removed_paths, changed_paths, changeset_text_value, changeset_revision, with_changeset}
 use Rattle.hgs_model.specs.IsRepo.{IsNextChangeset, HasKeptPrefix}
-use Rattle.hgs_model.proofs.NewChangesetLemmas.{in_order-ordered}
-use Rattle.hgs_model.proofs.CountLemmas.{sound-more, changelog-one}
-use Rattle.hgs_stands.proofs.ListedLemmas.{node_at-front}
+use Rattle.hgs_model.specs.Theorems.NewChangesetLemmas.{in_order-ordered}
+use Rattle.hgs_model.specs.Theorems.CountLemmas.{sound-more, changelog-one}
+use Rattle.hgs_stands.specs.Theorems.ListedLemmas.{node_at-front}
 use Rattle.hgs_findings.specs.Built.{above}
 use Rattle.hgs_findings.specs.Namings.{makes, untold, Naming, FollowsRules}
 use Rattle.hgs_findings.specs.Sight.{Sight, Seen, Use, unknown, absent, at, place, row_paths, use_of_place, use_of_row, use_in, use_of, use_at, kept_or_made, file_rule, file_naming, naming_of, manifest_rule, manifest_naming, manifest_parent, told, tree_file, changeset_with, flag_in, is_other_flag, is_made, differ, lists_wrongly, is_wrongly_listed}

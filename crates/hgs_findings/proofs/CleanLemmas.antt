@@ -20,7 +20,7 @@ use Rattle.hgs_journal.specs.Names.{journal_path, locks}
 use Rattle.hgs_marks.specs.declared.fault.MarkFault.{MarkFault}
 use Rattle.hgs_marks.specs.Bookmarks.{Mark, mark_lines, with_mark, with_marks, all_with}
 use Rattle.hgs_marks.specs.Dirstate.{Dirstate, no_dirstate, read_dirstate}
-use Rattle.hgs_marks.proofs.MarkText.{bookmarks_found}
+use Rattle.hgs_marks.specs.Theorems.MarkText.{bookmarks_found}
 use Rattle.hgs_model.specs.declared.phase.Phase.{Phase}
 use Rattle.hgs_model.specs.declared.phase.Phase.TheVariants.{Public, Draft, Secret}
 use Rattle.hgs_model.specs.Phase.{phase_number, greater}
@@ -32,13 +32,13 @@ use Rattle.hgs_phases.specs.declared.roots.Root.{Root}
 use Rattle.hgs_phases.specs.Changelog.{IsChangelog, ArePhases}
 use Rattle.hgs_phases.specs.Phases.{history_of, parent_phase, phases_by}
 use Rattle.hgs_phases.specs.Roots.{read_roots}
-use Rattle.hgs_phases.proofs.RiseLemmas.{given_rise}
+use Rattle.hgs_phases.specs.Theorems.RiseLemmas.{given_rise}
 use Rattle.hgs_revlog.specs.Log.{nodes_of, place_of}
 use Rattle.hgs_stands.specs.Places.{bookmarks_path, dirstate_path, roots_path}
 use Rattle.hgs_stands.specs.Requires.{IsInProfile}
 use Rattle.hgs_stands.specs.Stands.{HasPhases, HasBookmarks, HasDirstate, IsClean, mark_of, changeset_entries}
-use Rattle.hgs_stands.proofs.ListedLemmas.{among-at, place-same, length-nodes}
-use Rattle.hgs_stands.proofs.PhaseLemmas.{entries-nodes, entries-parents}
+use Rattle.hgs_stands.specs.Theorems.ListedLemmas.{among-at, place-same, length-nodes}
+use Rattle.hgs_stands.specs.Theorems.PhaseLemmas.{entries-nodes, entries-parents}
 use Rattle.hgs_findings.specs.Sight.{Sight, Seen, value, place, row_paths, seen, seen_of, tree_file, changeset_of, changesets_of}
 use Rattle.hgs_findings.specs.Regular.{rows_of_seen}
 use Rattle.hgs_findings.specs.Reading.{the_changelog, sight_of}

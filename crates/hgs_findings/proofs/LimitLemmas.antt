@@ -12,9 +12,9 @@ use Rattle.hgs_revlog.specs.Log.{stored_sum}
 use Rattle.hgs_revlog.specs.Load.{entry_behind, fault_of, most_revisions, most_text, most_data}
 use Rattle.hgs_revlog.specs.Text.{text_at}
 use Rattle.hgs_revlog.specs.Held.{AreWithinLimits, chunk_in}
-use Rattle.hgs_revlog.proofs.LogLemmas.{sum_push}
-use Rattle.hgs_revlog.proofs.LoadLemmas.{IsFaultless, faultless, taken_entry}
-use Rattle.hgs_revlog.proofs.ReadLemmas.{sound, slice_get_seam}
+use Rattle.hgs_revlog.specs.Theorems.LogLemmas.{sum_push}
+use Rattle.hgs_revlog.specs.Theorems.LoadLemmas.{IsFaultless, faultless, taken_entry}
+use Rattle.hgs_revlog.specs.Theorems.ReadLemmas.{sound, slice_get_seam}
 use Rattle.hgs_findings.specs.Reading.{Log, the_changelog, the_manifest, the_filelog, index_path, data_path, reading, sight_of, text_behind, on_text, on_entry, read_on, reading_of, has_data_rest}
 use Rattle.hgs_findings.specs.Findings.{fault, data_rest, is_looked_at, repo_of, AreWithin}
 use Rattle.hgs_findings.proofs.Basics.{never}

@@ -17,9 +17,9 @@ use Rattle.hgs_bytes.specs.Bytes.{same}
 use Rattle.hgs_index.specs.Node.{null_node, node_hash}
 use Rattle.hgs_index.specs.Revision.{Parents, Revision, ParentsBefore, parent_node, node_after, nodes, same_parent, same_parents, is_as, standing}
 use Rattle.hgs_index.specs.Revlog.{all_different}
-use Rattle.hgs_index.proofs.RevisionLemmas.{nodes_from-append, nodes_from-prefix}
+use Rattle.hgs_index.specs.Theorems.RevisionLemmas.{nodes_from-append, nodes_from-prefix}
 use Rattle.hgs_model.specs.History.{node_at, parents_in}
-use Rattle.hgs_stands.proofs.ListedLemmas.{rev-same, length-nodes}
+use Rattle.hgs_stands.specs.Theorems.ListedLemmas.{rev-same, length-nodes}
 use Rattle.hgs_findings.proofs.Basics.{same-eq, same-refl, bool, never, some-same, none-some, and-left, and-right}
 use Rattle.hgs_findings.proofs.NamingLemmas.{eq-test}
 

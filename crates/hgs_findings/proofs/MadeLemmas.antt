@@ -8,11 +8,11 @@ use Rattle.std.proofs.lemmas.Option.{slice_get-get_or}
 use Rattle.hgs_bytes.specs.Bytes.{same, among, IsPrefixOf}
 use Rattle.hgs_index.specs.declared.kinds.Flag.{Flag}
 use Rattle.hgs_index.specs.ChangeText.{Change, read_change}
-use Rattle.hgs_index.proofs.ChangeTextLemmas.{change_back}
+use Rattle.hgs_index.specs.Theorems.ChangeTextLemmas.{change_back}
 use Rattle.hgs_index.specs.FileText.{body_of, prefix_of, unpacked}
-use Rattle.hgs_index.proofs.FileTextLemmas.{unpacked-joins}
+use Rattle.hgs_index.specs.Theorems.FileTextLemmas.{unpacked-joins}
 use Rattle.hgs_index.specs.Manifest.{Row, read_manifest}
-use Rattle.hgs_index.proofs.ManifestText.{manifest_back}
+use Rattle.hgs_index.specs.Theorems.ManifestText.{manifest_back}
 use Rattle.hgs_index.specs.Node.{null_node}
 use Rattle.hgs_index.specs.Revision.{Parents, Revision, nodes, standing, is_as, same_parents, with_revision, with_revision_at, number_of}
 use Rattle.hgs_index.specs.Revlog.{all_different}
@@ -20,10 +20,10 @@ use Rattle.hgs_index.specs.TrackedPath.{is_tracked}
 use Rattle.hgs_model.specs.Repo.{Changeset, TreeFile, file_text, tree_paths}
 use Rattle.hgs_model.specs.History.{History, Placed, placed_at, placed_file, placed_of, text_at, node_at, parents_in, kept, kept_of, file_parents, file_parents_of, file_revision, rev_of_file, log_with_file, filelog_with, row_of, rows_of, manifest_at, manifest_parents_of, manifest_revision, manifest_with, manifest_number, first_of, parent_file, has_other_flag, is_changed, removed_paths, changed_paths, changeset_text_value, changeset_revision, with_changeset}
 use Rattle.hgs_model.specs.IsRepo.{IsNextChangeset, HasKeptPrefix}
-use Rattle.hgs_model.proofs.HistoryLemmas.{Extends}
-use Rattle.hgs_model.proofs.CountLemmas.{IsSound, IsBelow, AreTwoBelow, number-below, file-revision-below, sound-more, changelog-one}
-use Rattle.hgs_stands.proofs.ListedLemmas.{rev-same, length-nodes, node_at-front, text_at-front, front-below, number-text}
-use Rattle.hgs_stands.proofs.ManifestLemmas.{rows-good}
+use Rattle.hgs_model.specs.Theorems.HistoryLemmas.{Extends}
+use Rattle.hgs_model.specs.Theorems.CountLemmas.{IsSound, IsBelow, AreTwoBelow, number-below, file-revision-below, sound-more, changelog-one}
+use Rattle.hgs_stands.specs.Theorems.ListedLemmas.{rev-same, length-nodes, node_at-front, text_at-front, front-below, number-text}
+use Rattle.hgs_stands.specs.Theorems.ManifestLemmas.{rows-good}
 use Rattle.hgs_findings.specs.Built.{above, IsOld, IsNew, IsGood, IsBuilt}
 use Rattle.hgs_findings.specs.Namings.{makes, untold, Naming}
 use Rattle.hgs_findings.specs.Sight.{Sight, Seen, Use, unknown, absent, at, value, place, row_paths, tracked_rows, seen, seen_of, rows_of as sight_rows, use_of_place, use_of_row, use_in, use_of, use_at, kept_or_made, rule_with, file_rule, file_naming, naming_of, manifest_rule, manifest_naming, manifest_parent, told, flag_in, is_other_flag, is_made, differ, lists_wrongly, is_wrongly_listed}

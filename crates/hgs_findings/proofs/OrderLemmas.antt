@@ -8,7 +8,7 @@ use Rattle.std.specs.Ordering.{is_lt}
 use Rattle.hgs_bytes.specs.Bytes.{same, among, is_below}
 use Rattle.hgs_bytes.specs.Text.{ascends}
 use Rattle.hgs_model.specs.History.{inserted, in_order}
-use Rattle.hgs_model.proofs.ListLemmas.{ascends-head, ascends-tail}
+use Rattle.hgs_model.specs.Theorems.ListLemmas.{ascends-head, ascends-tail}
 use Rattle.hgs_findings.proofs.Basics.{same-eq, same-refl, bool, never, below-or, below-trans}
 
 pub same-swap : (x y : List ℕ) → same x y ≡ false → same y x ≡ false

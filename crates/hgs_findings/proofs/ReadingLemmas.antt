@@ -16,10 +16,10 @@ use Rattle.hgs_revlog.specs.Log.{with_entry, stored_sum, nodes_of}
 use Rattle.hgs_revlog.specs.Load.{entry_behind, after, load_from}
 use Rattle.hgs_revlog.specs.Text.{text_of, text_at, entry_text, fitting_text, node_with}
 use Rattle.hgs_revlog.specs.Held.{chunk_in, with_text, read_from}
-use Rattle.hgs_revlog.proofs.LogLemmas.{sum_push}
-use Rattle.hgs_revlog.proofs.LoadLemmas.{IsFaultless, faultless, taken_entry}
-use Rattle.hgs_revlog.proofs.HeldLemmas.{below}
-use Rattle.hgs_revlog.proofs.ReadLemmas.{sound, parent_among, slice_get_seam, loaded-held}
+use Rattle.hgs_revlog.specs.Theorems.LogLemmas.{sum_push}
+use Rattle.hgs_revlog.specs.Theorems.LoadLemmas.{IsFaultless, faultless, taken_entry}
+use Rattle.hgs_revlog.specs.Theorems.HeldLemmas.{below}
+use Rattle.hgs_revlog.specs.Theorems.ReadLemmas.{sound, parent_among, slice_get_seam, loaded-held}
 use Rattle.hgs_findings.specs.Reading.{Reading, on_text, text_behind, on_entry, read_on, reading_of, has_index_rest, has_data_rest}
 use Rattle.hgs_findings.proofs.Basics.{never}
 

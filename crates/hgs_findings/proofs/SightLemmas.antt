@@ -11,7 +11,7 @@ use Rattle.hgs_index.specs.Manifest.{Row, read_manifest}
 use Rattle.hgs_index.specs.Revision.{Parents, Revision}
 use Rattle.hgs_index.specs.TrackedPath.{is_tracked}
 use Rattle.hgs_model.specs.History.{History, Placed, placed_at, placed_file, text_at, parents_in, file_parents_of, kept_of, manifest_at}
-use Rattle.hgs_model.proofs.CountLemmas.{IsSound, IsBelow}
+use Rattle.hgs_model.specs.Theorems.CountLemmas.{IsSound, IsBelow}
 use Rattle.hgs_findings.specs.Namings.{Rule}
 use Rattle.hgs_findings.specs.Sight.{Sight, Seen, Use, absent, at, place, row_paths, use_of_place, use_of_row, use_in, use_of, use_of_seen, use_at, rev_in, told, manifest_of_seen, manifest_parent, has_null_manifest}
 use Rattle.hgs_findings.proofs.Basics.{same-eq, bool, found-has}

@@ -8,14 +8,14 @@ use Rattle.hgs_bytes.specs.Bytes.{same}
 use Rattle.hgs_index.specs.declared.kinds.Flag.{Flag}
 use Rattle.hgs_index.specs.Ancestor.{is_ancestor}
 use Rattle.hgs_index.specs.FileText.{body_of, prefix_of}
-use Rattle.hgs_index.proofs.FileTextLemmas.{unpacked-joins}
+use Rattle.hgs_index.specs.Theorems.FileTextLemmas.{unpacked-joins}
 use Rattle.hgs_index.specs.Manifest.{Row}
 use Rattle.hgs_index.specs.Node.{null_node}
 use Rattle.hgs_index.specs.Revision.{Parents, Revision, nodes, standing, with_revision, with_revision_at, number_of}
 use Rattle.hgs_model.specs.Repo.{Changeset, TreeFile, file_text}
 use Rattle.hgs_model.specs.History.{History, placed_at, placed_file, text_at, node_at, parents_in, file_parents, file_parents_of, kept, kept_of, file_revision, rev_of_file, log_with_file}
-use Rattle.hgs_model.proofs.CountLemmas.{IsSound, IsBelow, AreTwoBelow}
-use Rattle.hgs_stands.proofs.ListedLemmas.{length-nodes}
+use Rattle.hgs_model.specs.Theorems.CountLemmas.{IsSound, IsBelow, AreTwoBelow}
+use Rattle.hgs_stands.specs.Theorems.ListedLemmas.{length-nodes}
 use Rattle.hgs_findings.specs.Built.{above, IsOld, IsNew}
 use Rattle.hgs_findings.specs.Namings.{Rule, Naming, FollowsRules}
 use Rattle.hgs_findings.specs.Sight.{Sight, Seen, Use, unknown, absent, at, place, use_of_place, use_of_row, use_in, use_of, use_at, kept_or_made, rule_with, file_rule, naming_of, file_naming, manifest_rule, manifest_naming, tree_file, changeset_with}

@@ -12,7 +12,7 @@ use Rattle.std.proofs.lemmas.Bool.{and_parts, and_from, true≢false, false_from
 use Rattle.std.proofs.lemmas.Fmt.{length-decimal-le, decimal_is_IsNumeral}
 use Rattle.hgs_bytes.specs.Bytes.{same, is_below}
 use Rattle.hgs_bytes.specs.Text.{ascends, Lacks}
-use Rattle.hgs_bytes.proofs.ByteLemmas.{same-eq}
+use Rattle.hgs_bytes.specs.Theorems.ByteLemmas.{same-eq}
 use Rattle.hgs_index.specs.declared.kinds.Flag.TheVariants.{Plain}
 use Rattle.hgs_model.specs.declared.files.NewFile.{NewFile}
 use Rattle.hgs_model.specs.Valid.{new_paths}

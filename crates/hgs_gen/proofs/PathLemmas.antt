@@ -5,7 +5,7 @@ use Rattle.std.specs.Fmt.{digits}
 use Rattle.std.specs.List.{list_any, AllByRecursion}
 use Rattle.std.proofs.lemmas.Bool.{false_from_ne_true, and_parts, cases_lt, ltb-true}
 use Rattle.hgs_bytes.specs.Bytes.{begins_with}
-use Rattle.hgs_bytes.proofs.ByteLemmas.{same-eq}
+use Rattle.hgs_bytes.specs.Theorems.ByteLemmas.{same-eq}
 use Rattle.hgs_index.specs.TrackedPath.{is_tracked}
 use Rattle.hgs_model.specs.Valid.{has_directory}
 use Rattle.hgs_gen.specs.Generated.{path_of}

@@ -12,8 +12,8 @@ use Rattle.hgs_index.specs.Entry.{entry_bytes, part, number_at, is_negative, has
 use Rattle.hgs_index.specs.Inline.{says_inline, is_inline, is_cut, whole_item, entries_in, chunks_in, without_inline, index_apart, chunks_apart}
 use Rattle.hgs_index.specs.Revision.{Revision, node_after}
 use Rattle.hgs_index.specs.Revlog.{Stored, Item, items_from, items, item_bytes, index_bytes, Holds, HoldsRevisions}
-use Rattle.hgs_index.proofs.EntryPartLemmas.{length-entry_bytes}
-use Rattle.hgs_index.proofs.UniqueLemmas.{chunk-same, held-unique}
+use Rattle.hgs_index.specs.Theorems.EntryPartLemmas.{length-entry_bytes}
+use Rattle.hgs_index.specs.Theorems.UniqueLemmas.{chunk-same, held-unique}
 
 -- the entries alone, and each with its chunk
 abbrev cells : Option Header → List Item → List ℕ

@@ -10,4 +10,5 @@ pub mod MarkName
 pub mod Node
 pub mod Revision
 pub mod Revlog
+pub mod Theorems
 pub mod TrackedPath

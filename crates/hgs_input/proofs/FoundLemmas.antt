@@ -9,9 +9,9 @@ use Rattle.std.proofs.lemmas.Str.Parse.{tells_digits, numerals_by_value}
 use Rattle.std.proofs.lemmas.List.{take-append-drop, length-take}
 use Rattle.hgs_bytes.specs.Bytes.{same, begins_with}
 use Rattle.hgs_bytes.specs.Text.{Lacks, line, split, ascends}
-use Rattle.hgs_bytes.proofs.ByteLemmas.{same-eq}
-use Rattle.hgs_bytes.proofs.TextLemmas.{split_parts, number_is}
-use Rattle.hgs_index.proofs.HeaderText.{line_then}
+use Rattle.hgs_bytes.specs.Theorems.ByteLemmas.{same-eq}
+use Rattle.hgs_bytes.specs.Theorems.TextLemmas.{split_parts, number_is}
+use Rattle.hgs_index.specs.Theorems.HeaderText.{line_then}
 use Rattle.hgs_index.specs.declared.kinds.Flag.{Flag}
 use Rattle.hgs_index.specs.declared.kinds.Flag.TheVariants.{Plain, Exec, Link}
 use Rattle.hgs_index.specs.declared.kinds.Which.TheVariants.{FileText, Tree}

@@ -6,7 +6,7 @@ use Rattle.std.proofs.Math.ListN.{get_or-append}
 use Rattle.std.proofs.lemmas.Bool.{le-leb, leb-true, leb-false, false_from_ne_true}
 use Rattle.std.proofs.lemmas.List.{nil_from_length, take-append-le, drop-append-le}
 use Rattle.hgs_bytes.specs.Text.{split}
-use Rattle.hgs_bytes.proofs.TextLemmas.{split_over, split_parts, number_is}
+use Rattle.hgs_bytes.specs.Theorems.TextLemmas.{split_over, split_parts, number_is}
 use Rattle.hgs_model.specs.declared.command.NewChange.{NewChange}
 use Rattle.hgs_model.specs.declared.files.NewFile.{NewFile}
 use Rattle.hgs_input.specs.declared.fault.InputFault.{InputFault}

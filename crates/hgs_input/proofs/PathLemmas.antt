@@ -13,8 +13,8 @@ use Rattle.std.proofs.lemmas.List.{take-append-drop}
 use Rattle.std.proofs.lemmas.List.Sorted.{searchable_from_sorted}
 use Rattle.hgs_bytes.specs.Bytes.{same, among, is_below, begins_with}
 use Rattle.hgs_bytes.specs.Text.{ascends}
-use Rattle.hgs_bytes.proofs.ByteLemmas.{same-refl, same-eq}
-use Rattle.hgs_bytes.proofs.TextLemmas.{number_is}
+use Rattle.hgs_bytes.specs.Theorems.ByteLemmas.{same-refl, same-eq}
+use Rattle.hgs_bytes.specs.Theorems.TextLemmas.{number_is}
 use Rattle.hgs_model.specs.declared.files.NewFile.{NewFile}
 use Rattle.hgs_model.specs.Valid.{has_directory, new_paths}
 use Rattle.hgs_input.specs.Read.{fits_behind}

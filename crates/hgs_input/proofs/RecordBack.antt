@@ -13,10 +13,10 @@ use Rattle.std.proofs.lemmas.Str.Parse.{digit_from_value}
 use Rattle.hgs_bytes.specs.Bytes.{same, among, is_below, begins_with}
 use Rattle.hgs_bytes.specs.Path.{components, is_line_byte}
 use Rattle.hgs_bytes.specs.Text.{Lacks, line, split, ascends}
-use Rattle.hgs_bytes.proofs.ByteLemmas.{same-refl}
-use Rattle.hgs_bytes.proofs.TextLemmas.{split_over, lacks-append, number_is}
-use Rattle.hgs_index.proofs.HeaderText.{line_then, split_lacks}
-use Rattle.hgs_index.proofs.NumberText.{number_lacks, number_back}
+use Rattle.hgs_bytes.specs.Theorems.ByteLemmas.{same-refl}
+use Rattle.hgs_bytes.specs.Theorems.TextLemmas.{split_over, lacks-append, number_is}
+use Rattle.hgs_index.specs.Theorems.HeaderText.{line_then, split_lacks}
+use Rattle.hgs_index.specs.Theorems.NumberText.{number_lacks, number_back}
 use Rattle.hgs_index.specs.declared.kinds.Flag.{Flag}
 use Rattle.hgs_index.specs.declared.kinds.Flag.TheVariants.{Plain, Exec, Link}
 use Rattle.hgs_index.specs.ChangeText.{When, date_text, most_seconds, most_offset, number_within, when_of, when_behind, when_parts, offset_and_extras, when_at}

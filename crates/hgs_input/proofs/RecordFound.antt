@@ -9,11 +9,11 @@ use Rattle.std.proofs.lemmas.List.{append-nil, nil_from_length, length_push}
 use Rattle.std.proofs.lemmas.Str.{IsUtf8-from_is_utf8}
 use Rattle.hgs_bytes.specs.Bytes.{same}
 use Rattle.hgs_bytes.specs.Text.{Lacks, line, split}
-use Rattle.hgs_bytes.proofs.ByteLemmas.{same-eq}
-use Rattle.hgs_bytes.proofs.TextLemmas.{split_parts, number_is}
-use Rattle.hgs_index.proofs.HeaderText.{line_then}
-use Rattle.hgs_index.proofs.NumberText.{number_found}
-use Rattle.hgs_index.proofs.RevlogLemmas.{all-append}
+use Rattle.hgs_bytes.specs.Theorems.ByteLemmas.{same-eq}
+use Rattle.hgs_bytes.specs.Theorems.TextLemmas.{split_parts, number_is}
+use Rattle.hgs_index.specs.Theorems.HeaderText.{line_then}
+use Rattle.hgs_index.specs.Theorems.NumberText.{number_found}
+use Rattle.hgs_index.specs.Theorems.RevlogLemmas.{all-append}
 use Rattle.hgs_index.specs.ChangeText.{When, date_text, most_seconds, most_offset, number_within, when_of, when_behind, when_parts, offset_and_extras, when_at}
 use Rattle.hgs_index.specs.MarkName.{is_mark_name}
 use Rattle.hgs_index.specs.TrackedPath.{is_tracked}

@@ -3,10 +3,10 @@ use Rattle.std.proofs.Common.{◌≡◌, ◌⊎◌, ℕ, ◌≤◌, List, [], �
 use Rattle.std.specs.Prelude.{Option, Some, None, Ok, unwrap_or}
 use Rattle.std.specs.List.{AllByRecursion, list_any}
 use Rattle.hgs_bytes.specs.Bytes.{same}
-use Rattle.hgs_bytes.proofs.ByteLemmas.{same-eq}
+use Rattle.hgs_bytes.specs.Theorems.ByteLemmas.{same-eq}
 use Rattle.hgs_files.specs.declared.op.Op.TheVariants.{Create, Remove}
 use Rattle.hgs_files.specs.Tree.{Tree, apply, bytes_at}
-use Rattle.hgs_files.proofs.TreeLemmas.{bytes_at-is, with_file-same}
+use Rattle.hgs_files.specs.Theorems.TreeLemmas.{bytes_at-is, with_file-same}
 use Rattle.hgs_journal.specs.declared.backups.BackupLine.{BackupLine}
 use Rattle.hgs_journal.specs.declared.journal.JournalLine.{JournalLine}
 use Rattle.hgs_journal.specs.Begun.{HasOffset, IsPrepared, LeadsBack, bytes_before}
@@ -15,15 +15,15 @@ use Rattle.hgs_journal.specs.Names.{backup_name, backups_path, in_store, journal
 use Rattle.hgs_journal.specs.Read.{read_backups, read_journal}
 use Rattle.hgs_journal.specs.Texts.{IsBackupLine, IsJournalText, backups_text, journal_text}
 use Rattle.hgs_journal.specs.Undo.{undo_list}
-use Rattle.hgs_journal.proofs.BackupText.{backups-found}
-use Rattle.hgs_journal.proofs.BackupText.{written-back as backups-written}
-use Rattle.hgs_journal.proofs.JournalText.{first-lines, journal-back, journal-found}
-use Rattle.hgs_journal.proofs.JournalText.{written-back as journal-written}
-use Rattle.hgs_journal.proofs.OwnNames.{AllOnes, IsOne, all-ones}
-use Rattle.hgs_journal.proofs.OwnNames.IsOne.{phaseroots, dirstate, bookmarks}
-use Rattle.hgs_journal.proofs.TreeFacts.{at, away, bool, same-sym}
-use Rattle.hgs_journal.proofs.Touched.{or-both, or-left, or-right}
-use Rattle.hgs_journal.proofs.UndoStops.{named-read}
+use Rattle.hgs_journal.specs.Theorems.BackupText.{backups-found}
+use Rattle.hgs_journal.specs.Theorems.BackupText.{written-back as backups-written}
+use Rattle.hgs_journal.specs.Theorems.JournalText.{first-lines, journal-back, journal-found}
+use Rattle.hgs_journal.specs.Theorems.JournalText.{written-back as journal-written}
+use Rattle.hgs_journal.specs.Theorems.OwnNames.{AllOnes, IsOne, all-ones}
+use Rattle.hgs_journal.specs.Theorems.OwnNames.IsOne.{phaseroots, dirstate, bookmarks}
+use Rattle.hgs_journal.specs.Theorems.TreeFacts.{at, away, bool, same-sym}
+use Rattle.hgs_journal.specs.Theorems.Touched.{or-both, or-left, or-right}
+use Rattle.hgs_journal.specs.Theorems.UndoStops.{named-read}
 
 -- ---- lists
 

@@ -3,15 +3,15 @@ use Rattle.std.proofs.Common.{◌≡◌, ◌⊎◌, ℕ, ◌≤◌, List, [], �
 use Rattle.std.specs.Prelude.{◌==◌, codes, Option, Some, None, unwrap_or, if◌then◌else◌}
 use Rattle.std.specs.List.{AllByRecursion, list_all}
 use Rattle.std.proofs.lemmas.List.{length-take}
-use Rattle.hgs_bytes.proofs.TextLemmas.{number_is}
+use Rattle.hgs_bytes.specs.Theorems.TextLemmas.{number_is}
 use Rattle.hgs_bytes.specs.Bytes.{same, among}
-use Rattle.hgs_bytes.proofs.ByteLemmas.{same-eq, same-refl}
+use Rattle.hgs_bytes.specs.Theorems.ByteLemmas.{same-eq, same-refl}
 use Rattle.hgs_files.specs.declared.op.Op.{Op}
 use Rattle.hgs_files.specs.declared.op.Op.TheVariants.{Append, Cut, Rename, Remove, Create, Sync, Settle}
 use Rattle.hgs_files.specs.Log.{Does, IsDone, IsPiece}
 use Rattle.hgs_files.specs.Tree.{Tree, after_all, apply, bytes_at, renamed, shortened, with_file}
-use Rattle.hgs_files.proofs.LogLemmas.{after-done}
-use Rattle.hgs_files.proofs.TreeLemmas.{after_all-append, bytes_at-is}
+use Rattle.hgs_files.specs.Theorems.LogLemmas.{after-done}
+use Rattle.hgs_files.specs.Theorems.TreeLemmas.{after_all-append, bytes_at-is}
 use Rattle.hgs_journal.specs.declared.backups.BackupLine.{BackupLine}
 use Rattle.hgs_journal.specs.declared.journal.JournalLine.{JournalLine}
 use Rattle.hgs_journal.specs.Begun.{IsPrepared, LeadsBack, bytes_before}
@@ -21,13 +21,13 @@ use Rattle.hgs_journal.specs.Texts.{journal_text}
 use Rattle.hgs_journal.specs.Undo.{undo_backups, undo_line, undo_list, undo_with}
 use Rattle.hgs_journal.proofs.BegunLemmas.{begun, begun-fronts, begun-same, front-leads, ones, undo-same, whole-leads}
 use Rattle.hgs_journal.proofs.FileLemmas.{undo-bytes}
-use Rattle.hgs_journal.proofs.OwnNames.{AllOnes, IsOne, all-ones, backup-own, new-own, own-loose}
-use Rattle.hgs_journal.proofs.OwnNames.IsOne.{phaseroots, dirstate, bookmarks}
+use Rattle.hgs_journal.specs.Theorems.OwnNames.{AllOnes, IsOne, all-ones, backup-own, new-own, own-loose}
+use Rattle.hgs_journal.specs.Theorems.OwnNames.IsOne.{phaseroots, dirstate, bookmarks}
 use Rattle.hgs_journal.proofs.Steps.{any-none, reads-stay}
-use Rattle.hgs_journal.proofs.Touched.{all-append, and-both, and-left, and-right, done-split, done-within, or-both, or-left, or-right, piece-within, remove-done, touched, touched-within, touches, untouched, within}
-use Rattle.hgs_journal.proofs.TreeFacts.{at, away, bool, bytes-same, never, same-sym}
-use Rattle.hgs_journal.proofs.UndoStops.{named-read, undo-leads}
-use Rattle.hgs_journal.proofs.Undoing.{all-reverse, front-same}
+use Rattle.hgs_journal.specs.Theorems.Touched.{all-append, and-both, and-left, and-right, done-split, done-within, or-both, or-left, or-right, piece-within, remove-done, touched, touched-within, touches, untouched, within}
+use Rattle.hgs_journal.specs.Theorems.TreeFacts.{at, away, bool, bytes-same, never, same-sym}
+use Rattle.hgs_journal.specs.Theorems.UndoStops.{named-read, undo-leads}
+use Rattle.hgs_journal.specs.Theorems.Undoing.{all-reverse, front-same}
 
 -- ---- trees that differ at one path alone
 

@@ -3,23 +3,23 @@ use Rattle.std.proofs.Common.{◌≡◌, ◌⊎◌, ℕ, List, [], ◌∷◌, �
 use Rattle.std.specs.Prelude.{◌==◌, Some, None}
 use Rattle.std.specs.List.{AllByRecursion}
 use Rattle.hgs_bytes.specs.Bytes.{same}
-use Rattle.hgs_bytes.proofs.ByteLemmas.{same-eq, same-refl}
+use Rattle.hgs_bytes.specs.Theorems.ByteLemmas.{same-eq, same-refl}
 use Rattle.hgs_files.specs.declared.op.Op.{Op}
 use Rattle.hgs_files.specs.declared.op.Op.TheVariants.{Append, Cut, Rename, Remove, Create, Sync, Settle}
 use Rattle.hgs_files.specs.Log.{append_of_rest, IsPiece, Does, IsDone}
 use Rattle.hgs_files.specs.Tree.{Tree, bytes_at, apply, after_all}
-use Rattle.hgs_files.proofs.LogLemmas.{after-piece}
-use Rattle.hgs_files.proofs.TreeLemmas.{after_all-append}
+use Rattle.hgs_files.specs.Theorems.LogLemmas.{after-piece}
+use Rattle.hgs_files.specs.Theorems.TreeLemmas.{after_all-append}
 use Rattle.hgs_journal.specs.declared.journal.JournalLine.{JournalLine}
 use Rattle.hgs_journal.specs.declared.backups.BackupLine.{BackupLine}
 use Rattle.hgs_journal.specs.Begun.{LeadsBack}
 use Rattle.hgs_journal.specs.Covers.{HasOwnStrays, KeepsFront, is_loose, kept_bytes, undo_ops}
 use Rattle.hgs_journal.specs.Names.{backup_name, in_store, place, new_name, journal_path}
 use Rattle.hgs_journal.specs.Undo.{undo_backup, undo_backups, undo_line, undo_with}
-use Rattle.hgs_journal.proofs.OwnNames.{AllOnes, IsOne, all-ones, new-own, own-loose}
-use Rattle.hgs_journal.proofs.TreeFacts.{apart, at, away, bool, bytes-same, same-sym}
-use Rattle.hgs_journal.proofs.Undoing.{AreKept, IsKept, all-reverse, are-kept, fronts-kept, line-other, line-restores, put-at, put-other, restored-bytes}
-use Rattle.hgs_journal.proofs.UndoStops.{named-read}
+use Rattle.hgs_journal.specs.Theorems.OwnNames.{AllOnes, IsOne, all-ones, new-own, own-loose}
+use Rattle.hgs_journal.specs.Theorems.TreeFacts.{apart, at, away, bool, bytes-same, same-sym}
+use Rattle.hgs_journal.specs.Theorems.Undoing.{AreKept, IsKept, all-reverse, are-kept, fronts-kept, line-other, line-restores, put-at, put-other, restored-bytes}
+use Rattle.hgs_journal.specs.Theorems.UndoStops.{named-read}
 
 module _ (strays : List (List ℕ)) (own : HasOwnStrays strays) (t q : Tree) (p : List ℕ) (free : is_loose strays p ≡ false) (off : same p journal_path ≡ false) where
   -- the file has the bytes of t or those of q

@@ -8,7 +8,7 @@ use Rattle.hgs_journal.specs.Begun.{LeadsBack}
 use Rattle.hgs_journal.specs.Covers.{HasOwnStrays, Restores, undo_ops}
 use Rattle.hgs_journal.specs.declared.backups.BackupLine.{BackupLine}
 use Rattle.hgs_journal.specs.declared.journal.JournalLine.{JournalLine}
-use Rattle.hgs_journal.proofs.UndoStops.{named-read, read-covers, undo-leads, undo-parts, undo-stops}
+use Rattle.hgs_journal.specs.Theorems.UndoStops.{named-read, read-covers, undo-leads, undo-parts, undo-stops}
 
 module _ (strays : List (List ℕ)) (own : HasOwnStrays strays) (journal : List JournalLine) (backups : List BackupLine) (t q : Tree) (leads : LeadsBack strays journal backups t q) where
   is : (leads.covers.journal ≡ journal) × (leads.covers.backups ≡ backups)

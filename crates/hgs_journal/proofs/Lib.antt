@@ -1,16 +1,5 @@
-pub mod FieldLemmas
-pub mod OffsetLemmas
 pub mod ReadLemmas
 pub mod UndoSteps
-pub mod LackLemmas
-pub mod LineLemmas
-pub mod JournalText
-pub mod BackupText
-pub mod TreeFacts
-pub mod Touched
-pub mod Undoing
-pub mod OwnNames
-pub mod UndoStops
 pub mod LeadLemmas
 pub mod Steps
 pub mod BegunLemmas

@@ -6,8 +6,8 @@ use Rattle.hgs_journal.specs.declared.backups.BackupLine.{BackupLine}
 use Rattle.hgs_journal.specs.declared.journal.JournalLine.{JournalLine}
 use Rattle.hgs_journal.specs.Read.{read_backups, read_journal}
 use Rattle.hgs_journal.specs.Texts.{AreBackupLines, HasPath, IsBackupLine, IsJournalLine}
-use Rattle.hgs_journal.proofs.BackupText.{backups-found}
-use Rattle.hgs_journal.proofs.JournalText.{journal-found}
+use Rattle.hgs_journal.specs.Theorems.BackupText.{backups-found}
+use Rattle.hgs_journal.specs.Theorems.JournalText.{journal-found}
 
 both : {A : Type 0} (P Q : A → Type 0) (x : A) (xs : List A) → Q x → All Q xs → All Q (x ∷ xs)
 both {A} P Q x xs here rest = at

@@ -1,7 +1,7 @@
 -- Lines that are read one after another.
 use Rattle.std.proofs.Common.{◌≡◌, ℕ, ◌+◌, Bool, List, [], ◌∷◌, ◌++◌, length, arith, Some, None, Result, Ok, Err, refl, sym, ◌∙◌, ap, append_assoc, append-nil}
 use Rattle.hgs_bytes.specs.Text.{lines_of, split}
-use Rattle.hgs_bytes.proofs.TextLemmas.{lines_split, lines_last}
+use Rattle.hgs_bytes.specs.Theorems.TextLemmas.{lines_split, lines_last}
 use Rattle.hgs_journal.specs.declared.fault.JournalFault.{JournalFault}
 use Rattle.hgs_journal.specs.declared.fault.JournalFault.TheVariants.{Line}
 use Rattle.hgs_journal.specs.declared.journal.JournalLine.{JournalLine}

@@ -16,7 +16,7 @@ use Rattle.hgs_journal.specs.Undo.{undo_list}
 use Rattle.hgs_journal.proofs.BegunLemmas.{undo-same, whole-leads}
 use Rattle.hgs_journal.proofs.LeadLemmas.{lead-restores}
 use Rattle.hgs_journal.proofs.Steps.{done-kept}
-use Rattle.hgs_journal.proofs.Touched.{or-left, touched-within, untouched}
+use Rattle.hgs_journal.specs.Theorems.Touched.{or-left, touched-within, untouched}
 
 small : (n : ℕ) → n < 100 → n < 2 ^ 64
 small n h = omega (arith, h)

@@ -2,7 +2,7 @@
 use Rattle.std.proofs.Common.{◌≡◌, ◌⊎◌, ℕ, List, [], ◌∷◌, ◌++◌, Bool, true, false, ◌&&◌, ◌||◌, not, refl, sym, ◌∙◌, ap, subst, inl, inr, map}
 use Rattle.std.specs.List.{AllByRecursion, list_any}
 use Rattle.hgs_bytes.specs.Bytes.{same, among}
-use Rattle.hgs_bytes.proofs.ByteLemmas.{same-eq, same-refl}
+use Rattle.hgs_bytes.specs.Theorems.ByteLemmas.{same-eq, same-refl}
 use Rattle.hgs_files.specs.declared.op.Op.{Op}
 use Rattle.hgs_files.specs.declared.op.Op.TheVariants.{Append, Cut, Rename, Remove, Create, Sync, Settle}
 use Rattle.hgs_files.specs.Log.{Does, IsDone, IsPiece, append_of_rest}
@@ -13,12 +13,12 @@ use Rattle.hgs_journal.specs.Begun.{IsAllowed, LeadsBack, is_free, is_needed}
 use Rattle.hgs_journal.specs.Covers.{HasOwnStrays, KeepsBackup, KeepsFront, ReadsAs, backup_places, is_loose, journal_paths}
 use Rattle.hgs_journal.specs.Names.{backup_name, locks, backups_path, in_store, is_replaced, journal_path, new_name, place}
 use Rattle.hgs_journal.specs.Read.{read_backups, read_journal}
-use Rattle.hgs_journal.proofs.OwnNames.{AllOnes, IsOne, all-ones, file-free, is-one, new-free, or-true, own-loose}
-use Rattle.hgs_journal.proofs.OwnNames.IsOne.{phaseroots, dirstate, bookmarks}
-use Rattle.hgs_journal.proofs.TreeFacts.{apart, bool, bytes-same, never, same-sym}
-use Rattle.hgs_journal.proofs.Touched.{apply-other, or-both, or-left, or-right}
-use Rattle.hgs_journal.proofs.Undoing.{front-same}
-use Rattle.hgs_journal.proofs.UndoStops.{covers-append, covers-rename, named-read}
+use Rattle.hgs_journal.specs.Theorems.OwnNames.{AllOnes, IsOne, all-ones, file-free, is-one, new-free, or-true, own-loose}
+use Rattle.hgs_journal.specs.Theorems.OwnNames.IsOne.{phaseroots, dirstate, bookmarks}
+use Rattle.hgs_journal.specs.Theorems.TreeFacts.{apart, bool, bytes-same, never, same-sym}
+use Rattle.hgs_journal.specs.Theorems.Touched.{apply-other, or-both, or-left, or-right}
+use Rattle.hgs_journal.specs.Theorems.Undoing.{front-same}
+use Rattle.hgs_journal.specs.Theorems.UndoStops.{covers-append, covers-rename, named-read}
 
 -- a test that is true of none of these
 pub any-none : (test : List ℕ → Bool) (xs : List (List ℕ)) (p : List ℕ) → list_any test xs ≡ false → among p xs ≡ true → test p ≡ false

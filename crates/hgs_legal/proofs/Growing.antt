@@ -3,13 +3,13 @@ use Rattle.std.proofs.Common.{◌≡◌, ◌⊎◌, ℕ, ◌<◌, ◌≤◌, suc
 use Rattle.std.specs.Prelude.{Option, Some, None, unwrap_or}
 use Rattle.std.specs.List.{list_all}
 use Rattle.hgs_bytes.specs.Bytes.{IsPrefixOf, among, same}
-use Rattle.hgs_bytes.proofs.ByteLemmas.{same-eq}
+use Rattle.hgs_bytes.specs.Theorems.ByteLemmas.{same-eq}
 use Rattle.hgs_files.specs.declared.op.Op.{Op}
 use Rattle.hgs_files.specs.declared.op.Op.TheVariants.{Create, Remove}
 use Rattle.hgs_files.specs.Log.{Does, IsDone}
 use Rattle.hgs_files.specs.Tree.{Tree, after_all, apply, bytes_at}
-use Rattle.hgs_files.proofs.LogLemmas.{after-done, done-behind, done-more}
-use Rattle.hgs_files.proofs.TreeLemmas.{after_all-append}
+use Rattle.hgs_files.specs.Theorems.LogLemmas.{after-done, done-behind, done-more}
+use Rattle.hgs_files.specs.Theorems.TreeLemmas.{after_all-append}
 use Rattle.hgs_journal.specs.Covers.{Covers, IsRestored, Restores, is_loose}
 use Rattle.hgs_journal.specs.Names.{journal_path}
 use Rattle.hgs_model.specs.declared.command.Command.{Command}
@@ -30,7 +30,7 @@ use Rattle.hgs_legal.proofs.LockLemmas.{behind, lock-aside, locks-aside}
 use Rattle.hgs_legal.proofs.Runs.{run-keeps}
 use Rattle.hgs_legal.proofs.Step.{goes-keeps, leaves-keeps}
 use Rattle.hgs_legal.proofs.Touched.{and-both, and-left, and-right, does-within, done-split, or-both, or-left, touched-within, untouched, within}
-use Rattle.hgs_legal.proofs.TreeFacts.{away, bool, bytes-same, never, same-sym}
+use Rattle.hgs_legal.specs.Theorems.TreeFacts.{away, bool, bytes-same, never, same-sym}
 use Rattle.hgs_legal.proofs.TurnLemmas.{all-done, next-stands, onward, part-made, since}
 
 -- what the crates below say of the files that grow

@@ -1,4 +1,3 @@
-pub mod TreeFacts
 pub mod Touched
 pub mod Below
 pub mod Runs

@@ -5,7 +5,7 @@ use Rattle.hgs_files.specs.declared.op.Op.{Op}
 use Rattle.hgs_files.specs.declared.op.Op.TheVariants.{Create, Remove}
 use Rattle.hgs_files.specs.Log.{Does, IsDone}
 use Rattle.hgs_files.specs.Tree.{Tree, after_all, apply}
-use Rattle.hgs_files.proofs.LogLemmas.{piece-whole}
+use Rattle.hgs_files.specs.Theorems.LogLemmas.{piece-whole}
 use Rattle.hgs_journal.specs.Names.{journal_path}
 use Rattle.hgs_model.specs.Repo.{Repo}
 use Rattle.hgs_ops.specs.Operations.{Transaction, lock_path, operations, removals, strays, wlock_path}

@@ -19,7 +19,7 @@ use Rattle.hgs_legal.proofs.Runs.{run-keeps}
 use Rattle.hgs_legal.proofs.StayLemmas.{run-repo_at}
 use Rattle.hgs_legal.proofs.Step.{at-work-open, at-work-shown, goes-keeps, preparing-stands, published-shown, settling-open, undone-open, undone-shown}
 use Rattle.hgs_legal.proofs.StopLemmas.{run-stopped}
-use Rattle.hgs_legal.proofs.TreeFacts.{never}
+use Rattle.hgs_legal.specs.Theorems.TreeFacts.{never}
 
 module _ (b : Below) where
   pub run-invariant : (t : Tree) (r : Repo) (log : List Op) (s : State) → Stands t r → IsRun t r log s → Invariant s

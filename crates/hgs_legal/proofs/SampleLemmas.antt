@@ -4,7 +4,7 @@ use Rattle.std.specs.Prelude.{Some, None}
 use Rattle.hgs_files.specs.declared.op.Op.{Op}
 use Rattle.hgs_files.specs.declared.op.Op.TheVariants.{Remove}
 use Rattle.hgs_files.specs.Log.{IsDone}
-use Rattle.hgs_files.proofs.LogLemmas.{piece-whole}
+use Rattle.hgs_files.specs.Theorems.LogLemmas.{piece-whole}
 use Rattle.hgs_journal.specs.Names.{journal_path}
 use Rattle.hgs_model.specs.Repo.{empty_repo}
 use Rattle.hgs_ops.specs.Operations.{operations, removals}

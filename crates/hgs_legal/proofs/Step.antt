@@ -5,8 +5,8 @@ use Rattle.hgs_files.specs.declared.op.Op.{Op}
 use Rattle.hgs_files.specs.declared.op.Op.TheVariants.{Create, Remove}
 use Rattle.hgs_files.specs.Log.{Does, IsDone}
 use Rattle.hgs_files.specs.Tree.{Tree, after_all, apply}
-use Rattle.hgs_files.proofs.LogLemmas.{after-done, done-more}
-use Rattle.hgs_files.proofs.TreeLemmas.{after_all-append, with_file-same, with_file-id}
+use Rattle.hgs_files.specs.Theorems.LogLemmas.{after-done, done-more}
+use Rattle.hgs_files.specs.Theorems.TreeLemmas.{after_all-append, with_file-same, with_file-id}
 use Rattle.hgs_journal.specs.Names.{journal_path}
 use Rattle.hgs_model.specs.Repo.{Repo}
 use Rattle.hgs_stands.specs.Open.{IsOpen}

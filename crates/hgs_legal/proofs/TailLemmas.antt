@@ -5,7 +5,7 @@ use Rattle.hgs_files.specs.declared.op.Op.{Op}
 use Rattle.hgs_files.specs.declared.op.Op.TheVariants.{Create, Remove}
 use Rattle.hgs_files.specs.Tree.{Tree, apply, after_all}
 use Rattle.hgs_files.specs.Log.{Does, IsDone}
-use Rattle.hgs_files.proofs.TreeLemmas.{after_all-append}
+use Rattle.hgs_files.specs.Theorems.TreeLemmas.{after_all-append}
 use Rattle.hgs_model.specs.Repo.{Repo}
 use Rattle.hgs_journal.specs.Names.{journal_path}
 use Rattle.hgs_ops.specs.Operations.{Transaction, lock_path, removals, wlock_path}

@@ -3,12 +3,12 @@ use Rattle.std.proofs.Common.{◌≡◌, ◌⊎◌, ℕ, List, [], ◌∷◌, �
 use Rattle.std.specs.Prelude.{Option, Some, None}
 use Rattle.std.specs.List.{list_any, list_all}
 use Rattle.hgs_bytes.specs.Bytes.{same}
-use Rattle.hgs_bytes.proofs.ByteLemmas.{same-eq}
+use Rattle.hgs_bytes.specs.Theorems.ByteLemmas.{same-eq}
 use Rattle.hgs_files.specs.declared.op.Op.{Op}
 use Rattle.hgs_files.specs.declared.op.Op.TheVariants.{Append, Cut, Rename, Remove, Create, Sync, Settle}
 use Rattle.hgs_files.specs.Log.{Does, IsDone, IsPiece, append_of_rest}
 use Rattle.hgs_files.specs.Tree.{Tree, with_file, shortened, renamed, apply, after_all}
-use Rattle.hgs_legal.proofs.TreeFacts.{bool, never, away as with_file-other}
+use Rattle.hgs_legal.specs.Theorems.TreeFacts.{bool, never, away as with_file-other}
 
 pub or-left : (a b : Bool) → (a || b) ≡ false → a ≡ false
 or-left true b e = e

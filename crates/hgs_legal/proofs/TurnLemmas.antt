@@ -2,14 +2,14 @@
 use Rattle.std.proofs.Common.{◌≡◌, ◌⊎◌, ℕ, List, [], ◌∷◌, ◌++◌, cond, false, refl, sym, ◌∙◌, ap, subst, inl, inr, length, suc, arith, append_assoc, append-nil}
 use Rattle.std.specs.Prelude.{Option, Some, None}
 use Rattle.hgs_bytes.specs.Bytes.{same}
-use Rattle.hgs_bytes.proofs.ByteLemmas.{same-eq}
+use Rattle.hgs_bytes.specs.Theorems.ByteLemmas.{same-eq}
 use Rattle.hgs_files.specs.declared.op.Op.{Op}
 use Rattle.hgs_files.specs.declared.op.Op.TheVariants.{Remove, Create}
 use Rattle.hgs_files.specs.Log.{IsDone}
 use Rattle.hgs_files.specs.Tree.{Tree, after_all, apply, bytes_at, with_file}
-use Rattle.hgs_files.proofs.LogLemmas.{after-done, done-append, done-behind, piece-whole}
-use Rattle.hgs_files.proofs.StopLemmas.{IsInPart, done-in-part}
-use Rattle.hgs_files.proofs.TreeLemmas.{after_all-append, bytes_at-is, with_file-id, with_file-same, with_file-twice}
+use Rattle.hgs_files.specs.Theorems.LogLemmas.{after-done, done-append, done-behind, piece-whole}
+use Rattle.hgs_files.specs.Theorems.StopLemmas.{IsInPart, done-in-part}
+use Rattle.hgs_files.specs.Theorems.TreeLemmas.{after_all-append, bytes_at-is, with_file-id, with_file-same, with_file-twice}
 use Rattle.hgs_journal.specs.Covers.{is_loose}
 use Rattle.hgs_journal.specs.Names.{journal_path}
 use Rattle.hgs_model.specs.Repo.{Repo}
@@ -17,15 +17,15 @@ use Rattle.hgs_stands.specs.Open.{IsOpen}
 use Rattle.hgs_stands.specs.Places.{requires_path}
 use Rattle.hgs_stands.specs.Shows.{Shows}
 use Rattle.hgs_stands.specs.Stands.{Stands}
-use Rattle.hgs_stands.proofs.LooseLemmas.{same-files}
-use Rattle.hgs_stands.proofs.StayLemmas.{stands-stays}
+use Rattle.hgs_stands.specs.Theorems.LooseLemmas.{same-files}
+use Rattle.hgs_stands.specs.Theorems.StayLemmas.{stands-stays}
 use Rattle.hgs_ops.specs.Operations.{Transaction, removals, strays}
 use Rattle.hgs_ops.specs.Shown.{lacks_bookmarks, lacks_dirstate}
 use Rattle.hgs_legal.specs.LegalLog.{Turn, IsTurn, through_publishing, through_removal, to_publishing}
 use Rattle.hgs_legal.proofs.Below.{Below}
 use Rattle.hgs_legal.proofs.Drops.{drop-nothing}
 use Rattle.hgs_legal.proofs.Touched.{done-split, remove-done}
-use Rattle.hgs_legal.proofs.TreeFacts.{at, away, bool, bytes-same}
+use Rattle.hgs_legal.specs.Theorems.TreeFacts.{at, away, bool, bytes-same}
 
 -- ---- lists that are done
 

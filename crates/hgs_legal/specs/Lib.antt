@@ -3,3 +3,4 @@ pub mod Pieces
 pub mod Numbers
 pub mod Recovers
 pub mod Samples
+pub mod Theorems

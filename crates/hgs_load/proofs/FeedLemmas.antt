@@ -1,7 +1,7 @@
 -- What is left to ask once a piece of the index was read.
 use Rattle.std.proofs.Common.{◌≡◌, Bor, ℕ, zero, suc, ◌-◌, ◌<◌, Bool, true, false, cond, List, [], ◌++◌, length, Option, Some, None, Result, Ok, Err, refl, sym, ◌∙◌, ap, arith}
 use Rattle.std.specs.Prelude.{unwrap_or, nat_lt, ◌||◌, ◌==◌, ⊤}
-use Rattle.hgs_bytes.proofs.TextLemmas.{number_is}
+use Rattle.hgs_bytes.specs.Theorems.TextLemmas.{number_is}
 use Rattle.std.specs.Bool.{MatchBool}
 use Rattle.std.specs.Option.{ForNone}
 use Rattle.hgs_revlog.specs.Log.{Log}

@@ -1,12 +1,7 @@
-pub mod AskLemmas
 pub mod FeedLemmas
-pub mod GivenLemmas
 pub mod HistoryLemmas
 pub mod MachineLemmas
-pub mod OpenedLemmas
-pub mod PartLemmas
 pub mod RefreshLemmas
-pub mod RestLemmas
 pub mod StepLemmas
 pub mod ViewLemmas
 pub mod WayLemmas

@@ -12,8 +12,8 @@ use Rattle.hgs_load.specs.Asks.{Asks, answer, read, MayAnswerWhereTold, IsPart, 
 use Rattle.hgs_load.specs.View.{View}
 use Rattle.hgs_load.specs.Given.{RisesBy, size_of, Gave, GaveRefused, TakesStep}
 use Rattle.hgs_load.specs.Load.{IsNext, rest_of, Advances}
-use Rattle.hgs_load.proofs.GivenLemmas.{gave-none, gave-read, gave-both, refused-both}
-use Rattle.hgs_load.proofs.AskLemmas.{continues-start, continues-read, continues-answer, continues-trans, continues-then, either}
+use Rattle.hgs_load.specs.Theorems.GivenLemmas.{gave-none, gave-read, gave-both, refused-both}
+use Rattle.hgs_load.specs.Theorems.AskLemmas.{continues-start, continues-read, continues-answer, continues-trans, continues-then, either}
 
 -- a read was answered, and what is left of the question has its answer
 pub asked_then : (before after : Option (List Op)) (start start_new : Tree) (q : Asks (Result View ReadAnswer)) (path : Bor (List ℕ)) (from most : ℕ) (part : Option (List ℕ)) (y : Result View ReadAnswer) →

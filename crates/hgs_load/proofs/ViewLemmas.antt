@@ -12,7 +12,7 @@ use Rattle.hgs_load.specs.Marks.{Nodes, Working, working_answer}
 use Rattle.hgs_load.specs.Open.{requires_asks, bookmarks_asks, dirstate_asks, log_asks, log_of, roots_asks, view_with, view_of, open_asks}
 use Rattle.hgs_load.specs.Refresh.{first_changed, unless_changed, log_after, newer_log_asks, refresh_asks}
 use Rattle.hgs_load.specs.View.{View, changelog_index, pieces_then, piece_length, most_pieces}
-use Rattle.hgs_load.proofs.OpenedLemmas.{rest_then}
+use Rattle.hgs_load.specs.Theorems.OpenedLemmas.{rest_then}
 
 pub opening : (t : Tree) (marks : List Mark) (nodes : Nodes) (log : Log) (roots : List Root) (working : Working) → at_rest t requires_asks ≡ Ok tt → at_rest t bookmarks_asks ≡ Ok marks → at_rest t dirstate_asks ≡ Ok nodes → at_rest t log_asks ≡ Ok log → at_rest t roots_asks ≡ Ok roots
     → working_answer log.entries nodes ≡ Ok working → at_rest t open_asks ≡ Ok (record { changelog = log; bookmarks = marks; working = working; phases = phases_by roots log.entries })

@@ -15,8 +15,8 @@ use Rattle.hgs_load.specs.Marks.{Nodes, Working, working_answer}
 use Rattle.hgs_load.specs.Open.{bookmarks_asks, dirstate_asks, roots_asks, log_of, view_of, view_with}
 use Rattle.hgs_load.specs.Refresh.{first_changed, unless_changed, log_after, newer_log_asks, refresh_asks}
 use Rattle.hgs_load.specs.View.{View, changelog_index, pieces_then, piece_length, most_pieces}
-use Rattle.hgs_load.proofs.AskLemmas.{grows-refl}
-use Rattle.hgs_load.proofs.GivenLemmas.{go-start}
+use Rattle.hgs_load.specs.Theorems.AskLemmas.{grows-refl}
+use Rattle.hgs_load.specs.Theorems.GivenLemmas.{go-start}
 use Rattle.hgs_load.proofs.HistoryLemmas.{front-of-new}
 
 abbrev answer_of : {A : Type 0} → Asks A → Option A

@@ -14,7 +14,7 @@ use Rattle.hgs_load.specs.Asks.{Asks, answer, part_of, at_rest}
 use Rattle.hgs_load.specs.Open.{log_asks, log_of}
 use Rattle.hgs_load.specs.View.{changelog_index, pieces_then, piece_length, most_pieces}
 use Rattle.hgs_load.specs.Whole.{within, whole_asks}
-use Rattle.hgs_load.proofs.PartLemmas.{part_is}
+use Rattle.hgs_load.specs.Theorems.PartLemmas.{part_is}
 
 -- ---- a file that is read whole
 

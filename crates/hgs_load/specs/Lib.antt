@@ -6,5 +6,6 @@ pub mod Marks
 pub mod Open
 pub mod Refresh
 pub mod Requirements
+pub mod Theorems
 pub mod View
 pub mod Whole

@@ -9,7 +9,7 @@ use Rattle.hgs_load.specs.declared.answer.ReadAnswer.{ReadAnswer}
 use Rattle.hgs_load.specs.Asks.{IsPart, part_of}
 use Rattle.hgs_load.specs.View.{piece_length}
 use Rattle.hgs_loading.specs.Logs.{most_index, index_in}
-use Rattle.hgs_loading.proofs.FoundLemmas.{told-read}
+use Rattle.hgs_loading.specs.Theorems.FoundLemmas.{told-read}
 use Rattle.hgs_loading.proofs.PartLemmas.{part-bytes}
 
 -- what was read is a front of the file

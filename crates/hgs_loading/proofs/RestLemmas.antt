@@ -17,7 +17,7 @@ use Rattle.hgs_reader.specs.Find.{text_answer, text_at_asks}
 use Rattle.hgs_loading.specs.Found.{Finds}
 use Rattle.hgs_reader.specs.Line.{chunk_asks}
 use Rattle.hgs_loading.specs.Logs.{chunk_at, text_in}
-use Rattle.hgs_loading.proofs.FoundLemmas.{either}
+use Rattle.hgs_loading.specs.Theorems.FoundLemmas.{either}
 use Rattle.hgs_loading.proofs.PartLemmas.{part-bytes}
 
 prefix-trans : {A : Type 0} (a b c : List A) → IsPrefixOf a b → IsPrefixOf b c → IsPrefixOf a c

@@ -3,3 +3,4 @@ pub mod Logs
 pub mod Parent
 pub mod Small
 pub mod Store
+pub mod Theorems

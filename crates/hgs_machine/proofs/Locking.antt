@@ -6,7 +6,7 @@ use Rattle.hgs_files.specs.declared.op.Op.TheVariants.{Create, Remove}
 use Rattle.hgs_files.specs.Files.{GoesOn}
 use Rattle.hgs_files.specs.Log.{IsDone}
 use Rattle.hgs_files.specs.Tree.{Tree, after_all}
-use Rattle.hgs_files.proofs.LogLemmas.{after-done}
+use Rattle.hgs_files.specs.Theorems.LogLemmas.{after-done}
 use Rattle.hgs_journal.specs.Names.{journal_path}
 use Rattle.hgs_ops.specs.Operations.{lock_path, wlock_path}
 use Rattle.hgs_machine.specs.declared.locks.LockRefusal.{LockRefusal}

@@ -5,7 +5,7 @@ use Rattle.hgs_bytes.specs.Bytes.{is_below}
 use Rattle.hgs_bytes.specs.Text.{split, lines_of}
 use Rattle.hgs_index.specs.declared.texts.ManifestFault.{ManifestFault}
 use Rattle.hgs_index.specs.Manifest.{Row, row_of_parts, row_at, with_row, rows_from, last_path}
-use Rattle.hgs_index.proofs.ManifestText.{row_step}
+use Rattle.hgs_index.specs.Theorems.ManifestText.{row_step}
 
 -- rows that stand before
 abbrev pub with_front : List Row → Result (List Row) ManifestFault → Result (List Row) ManifestFault

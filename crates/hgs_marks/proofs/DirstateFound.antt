@@ -9,7 +9,7 @@ use Rattle.std.proofs.lemmas.List.{length-take, length-drop}
 use Rattle.std.proofs.lemmas.List.Elements.{All-weaker, All-from_recursion}
 use Rattle.hex.specs.Hex.{IsBytes}
 use Rattle.hgs_bytes.specs.Text.{Lacks, split}
-use Rattle.hgs_bytes.proofs.TextLemmas.{split_parts}
+use Rattle.hgs_bytes.specs.Theorems.TextLemmas.{split_parts}
 use Rattle.hgs_marks.specs.declared.fault.MarkFault.{MarkFault}
 use Rattle.hgs_marks.specs.declared.fault.MarkFault.TheVariants.{Short, State}
 use Rattle.hgs_marks.specs.Dirstate.{Dirstate, Entry, no_dirstate, is_state, has_entry, first_entry, name_len, next_entry, entry_then, entry_and_more, entries_from, before_nul, entry_path, tracked, paths_with, read_paths, dirstate_with, read_dirstate}

@@ -10,8 +10,8 @@ use Rattle.hgs_marks.specs.declared.fault.MarkFault.{MarkFault}
 use Rattle.hgs_marks.specs.declared.fault.MarkFault.TheVariants.{Short, State}
 use Rattle.hgs_marks.specs.Dirstate.{Dirstate, Entry, is_state, has_entry, first_entry, name_len, next_entry, entry_then, entry_and_more, entries_from, tracked, paths_with, read_paths, dirstate_with, read_dirstate, no_dirstate}
 use Rattle.hgs_marks.specs.DirstateTexts.{entry_text, IsFirst, AreEntriesOf, HasParents, IsDirstateText}
-use Rattle.hgs_marks.proofs.DirstateLemmas.{one_step}
-use Rattle.hgs_marks.proofs.DirstateText.{within, parents_back}
+use Rattle.hgs_marks.specs.Theorems.DirstateLemmas.{one_step}
+use Rattle.hgs_marks.specs.Theorems.DirstateText.{within, parents_back}
 use Rattle.hgs_marks.proofs.DirstateFound.{bytes-drop, bytes-take, below_32, long_is}
 
 -- ---- entries are read again

@@ -1,11 +1,7 @@
 pub mod CopyLemmas
 pub mod DirstateFound
-pub mod DirstateLemmas
-pub mod DirstateText
 pub mod DirstateTextLemmas
 pub mod LineLemmas
 pub mod MapLemmas
 pub mod MarkLemmas
-pub mod MarkOrder
-pub mod MarkText
 pub mod MarkTextLemmas

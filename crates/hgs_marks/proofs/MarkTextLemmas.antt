@@ -6,18 +6,18 @@ use Rattle.std.specs.Option.{option_map}
 use Rattle.std.proofs.lemmas.List.{take-append-drop, drop-drop}
 use Rattle.hgs_bytes.specs.Bytes.{begins_with}
 use Rattle.hgs_bytes.specs.Text.{Line as TextLine, Lacks, lines_of, onto, split}
-use Rattle.hgs_bytes.proofs.ByteLemmas.{same-eq}
-use Rattle.hgs_bytes.proofs.TextLemmas.{lines_split, lines_last_of, split_over, unlines, unlines-lines_of}
+use Rattle.hgs_bytes.specs.Theorems.ByteLemmas.{same-eq}
+use Rattle.hgs_bytes.specs.Theorems.TextLemmas.{lines_split, lines_last_of, split_over, unlines, unlines-lines_of}
 use Rattle.hgs_index.specs.Hex.{hex, node_at}
 use Rattle.hgs_index.specs.MarkName.{is_mark_name}
 use Rattle.hgs_index.specs.Node.{IsNode}
-use Rattle.hgs_index.proofs.HexText.{hex_length, node_found}
+use Rattle.hgs_index.specs.Theorems.HexText.{hex_length, node_found}
 use Rattle.hgs_marks.specs.declared.fault.MarkFault.{MarkFault}
 use Rattle.hgs_marks.specs.declared.fault.MarkFault.TheVariants.{Line, Name}
 use Rattle.hgs_marks.specs.Bookmarks.{Mark, bookmarks_text, mark_with, mark_of, mark_then, marks_from, mark_lines, all_with, read_bookmarks, with_marks}
 use Rattle.hgs_marks.specs.Texts.{IsMark}
 use Rattle.hgs_marks.specs.MarkTexts.{AreLinesOf, IsTextOf}
-use Rattle.hgs_marks.proofs.MarkText.{item, item_lacks, mark_back, mark_found, marks_back}
+use Rattle.hgs_marks.specs.Theorems.MarkText.{item, item_lacks, mark_back, mark_found, marks_back}
 
 -- ---- lines are read again
 

@@ -5,3 +5,4 @@ pub mod Held
 pub mod Lines
 pub mod MarkTexts
 pub mod Texts
+pub mod Theorems

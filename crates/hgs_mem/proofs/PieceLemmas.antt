@@ -6,7 +6,7 @@ use Rattle.hgs_files.specs.declared.op.Op.{Op}
 use Rattle.hgs_files.specs.declared.op.Op.TheVariants.{Append, Create}
 use Rattle.hgs_files.specs.Log.{append_of_rest, Does, IsDone}
 use Rattle.hgs_files.specs.Files.{GoesOn}
-use Rattle.hgs_files.proofs.LogLemmas.{done-more, done-longer, create-front}
+use Rattle.hgs_files.specs.Theorems.LogLemmas.{done-more, done-longer, create-front}
 use Rattle.hgs_mem.specs.Pieces.{bytes_in, AreSmall}
 
 -- the next piece of an append, after which something is left

@@ -4,7 +4,7 @@ use Rattle.std.specs.Prelude.{slice_index_or}
 use Rattle.std.proofs.Math.Seq.{take-append_seam, take-length}
 use Rattle.hgs_index.specs.Ancestor.{is_ancestor}
 use Rattle.hgs_index.specs.Revision.{Parents}
-use Rattle.hgs_model.proofs.ReachedLemmas.{marks_from, marks-decide}
+use Rattle.hgs_model.specs.Theorems.ReachedLemmas.{marks_from, marks-decide}
 
 pub ancestor-front : (history more : List Parents) (a b : ℕ) → b < length history → is_ancestor (history ++ more) a b ≡ is_ancestor history a b
 ancestor-front history more a b lt =

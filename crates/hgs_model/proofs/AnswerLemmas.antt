@@ -3,7 +3,7 @@ use Rattle.std.proofs.Common.{◌≡◌, ℕ, zero, suc, ◌+◌, ◌<◌, List,
 use Rattle.std.specs.Prelude.{Option, Some, None, Result, Ok, Err, slice_get, slice_index, slice_index_or, nat_lt, ◌==◌}
 use Rattle.hgs_index.specs.Node.{null_node}
 use Rattle.hgs_index.specs.Revision.{Revision, nodes, node_after, standing, with_revision_at}
-use Rattle.hgs_index.proofs.RevisionLemmas.{nodes_from-append}
+use Rattle.hgs_index.specs.Theorems.RevisionLemmas.{nodes_from-append}
 use Rattle.hgs_model.specs.Repo.{Repo, Changeset}
 use Rattle.hgs_model.specs.History.{History, history, changeset_nodes, changeset_revision, first_of, with_changeset}
 use Rattle.hgs_model.specs.IsRepo.{IsRepo}
@@ -16,8 +16,8 @@ use Rattle.hgs_model.specs.declared.command.NewChange.{NewChange}
 use Rattle.hgs_model.specs.declared.command.Refusal.{Refusal}
 use Rattle.hgs_model.specs.declared.command.Refusal.TheVariants.{NeedsForce, NothingChanged}
 use Rattle.hgs_model.specs.declared.phase.Phase.{Phase}
-use Rattle.hgs_model.proofs.HistoryLemmas.{history-push}
-use Rattle.hgs_model.proofs.StepLemmas.{ok-next, err-next, length-changeset_nodes, named-below, mark-below}
+use Rattle.hgs_model.specs.Theorems.HistoryLemmas.{history-push}
+use Rattle.hgs_model.specs.Theorems.StepLemmas.{ok-next, err-next, length-changeset_nodes, named-below, mark-below}
 
 done-is : (b : Bool) (w : Refusal) (d next : Next) → (guard b w >>= λ changed. Ok d) ≡ Ok next → next ≡ d
 done-is true w d next e = err-next w next e

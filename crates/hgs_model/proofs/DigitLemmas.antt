@@ -4,12 +4,12 @@ use Rattle.std.specs.Prelude.{position}
 use Rattle.std.specs.List.{AllByRecursion, position_or_len}
 use Rattle.std.proofs.lemmas.Bool.Decides.{nat_tests}
 use Rattle.hgs_bytes.specs.Bytes.{same}
-use Rattle.hgs_bytes.proofs.ByteLemmas.{same-refl, same-eq}
+use Rattle.hgs_bytes.specs.Theorems.ByteLemmas.{same-refl, same-eq}
 use Rattle.hgs_index.specs.Hex.{hex, node_at}
 use Rattle.hgs_index.specs.Node.{IsNode}
-use Rattle.hgs_index.proofs.HexText.{node_back, node_found}
+use Rattle.hgs_index.specs.Theorems.HexText.{node_back, node_found}
 use Rattle.hgs_model.specs.Names.{place_in, node_named}
-use Rattle.hgs_model.proofs.ListLemmas.{never, none-some, some-same}
+use Rattle.hgs_model.specs.Theorems.ListLemmas.{never, none-some, some-same}
 
 places-same : {A : Type 0} (p q : A → Bool) (xs : List A) → AllByRecursion (λ x. p x ≡ q x) xs → position_or_len p xs ≡ position_or_len q xs
 places-same p q [] all = refl

@@ -8,4 +8,5 @@ pub mod Reached
 pub mod Repo
 pub mod Samples
 pub mod Step
+pub mod Theorems
 pub mod Valid

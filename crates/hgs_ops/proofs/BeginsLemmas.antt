@@ -4,12 +4,12 @@ use Rattle.std.specs.Prelude.{◌/◌, ◌*◌, Option, Ok, unwrap_or}
 use Rattle.std.specs.List.{AllByRecursion, list_all}
 use Rattle.std.proofs.lemmas.List.{take-append-drop}
 use Rattle.hgs_bytes.specs.Bytes.{same, among}
-use Rattle.hgs_bytes.proofs.ByteLemmas.{same-eq}
+use Rattle.hgs_bytes.specs.Theorems.ByteLemmas.{same-eq}
 use Rattle.hgs_files.specs.Tree.{Tree, bytes_at}
-use Rattle.hgs_files.proofs.TreeLemmas.{bytes_at-is}
+use Rattle.hgs_files.specs.Theorems.TreeLemmas.{bytes_at-is}
 use Rattle.hgs_index.specs.Revision.{Revision}
 use Rattle.hgs_index.specs.Revlog.{BeginsWithRevisions}
-use Rattle.hgs_index.proofs.RevlogLemmas.{begins-more, length-held}
+use Rattle.hgs_index.specs.Theorems.RevlogLemmas.{begins-more, length-held}
 use Rattle.hgs_journal.specs.declared.backups.BackupLine.{BackupLine}
 use Rattle.hgs_journal.specs.declared.journal.JournalLine.{JournalLine}
 use Rattle.hgs_journal.specs.Covers.{Covers, KeepsFront, backup_places, is_loose, journal_paths}
@@ -28,15 +28,15 @@ use Rattle.hgs_phases.specs.Roots.{read_roots}
 use Rattle.hgs_stands.specs.Places.{bookmarks_path, changelog_index, changelog_data, dirstate_path, manifest_index, manifest_data, requires_path, roots_path}
 use Rattle.hgs_stands.specs.Shows.{BeginsAt, Shows}
 use Rattle.hgs_stands.specs.Stands.{Stands, changeset_entries}
-use Rattle.hgs_stands.proofs.LooseLemmas.{store-not-loose}
-use Rattle.hgs_stands.proofs.ShowsLemmas.{stands-shows}
+use Rattle.hgs_stands.specs.Theorems.LooseLemmas.{store-not-loose}
+use Rattle.hgs_stands.specs.Theorems.ShowsLemmas.{stands-shows}
 use Rattle.hgs_ops.specs.Operations.{strays}
-use Rattle.hgs_ops.proofs.Apart.{fixed, among-part, stores-fixed}
+use Rattle.hgs_ops.specs.Theorems.Apart.{fixed, among-part, stores-fixed}
 use Rattle.hgs_ops.proofs.JournalLemmas.{small_paths}
 use Rattle.hgs_ops.proofs.SmallFiles.{IsOne, is-one}
 use Rattle.hgs_ops.proofs.SmallFiles.IsOne.{phaseroots, dirstate, bookmarks}
-use Rattle.hgs_ops.proofs.StandsCommit.{not-fixed}
-use Rattle.hgs_ops.proofs.Touch.{and-left, and-right, bool, bytes-same, never, or-both}
+use Rattle.hgs_ops.specs.Theorems.StandsCommit.{not-fixed}
+use Rattle.hgs_ops.specs.Theorems.Touch.{and-left, and-right, bool, bytes-same, never, or-both}
 
 abbrev pub Grown : Tree → Tree → List ℕ → Type 0
 Grown u q p = (rest : List ℕ) × (bytes_at u p ≡ bytes_at q p ++ rest)

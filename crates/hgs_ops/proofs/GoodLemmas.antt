@@ -9,23 +9,23 @@ use Rattle.hgs_journal.specs.Covers.{no_repeat}
 use Rattle.hgs_journal.specs.Names.{journal_path}
 use Rattle.hgs_model.specs.History.{history}
 use Rattle.hgs_model.specs.Repo.{Repo}
-use Rattle.hgs_model.proofs.ListLemmas.{all-join}
+use Rattle.hgs_model.specs.Theorems.ListLemmas.{all-join}
 use Rattle.hgs_path.specs.declared.name.Ext.{Ext}
 use Rattle.hgs_path.specs.declared.name.Ext.TheVariants.{I, D}
 use Rattle.hgs_path.specs.StoreName.{listed_name, store_name}
-use Rattle.hgs_path.proofs.ReadableLemmas.{listed-small}
-use Rattle.hgs_path.proofs.ShapeLemmas.{encoded-path, small-of}
+use Rattle.hgs_path.specs.Theorems.ReadableLemmas.{listed-small}
+use Rattle.hgs_path.specs.Theorems.ShapeLemmas.{encoded-path, small-of}
 use Rattle.hgs_stands.specs.Places.{changelog_data, changelog_index, fncache_path, manifest_data, manifest_index}
-use Rattle.hgs_stands.proofs.LooseLemmas.{store-not-loose}
+use Rattle.hgs_stands.specs.Theorems.LooseLemmas.{store-not-loose}
 use Rattle.hgs_ops.specs.Growth.{append_some, filelogs_grow, growth, grown, new_chunks, new_entries, new_items, new_paths}
 use Rattle.hgs_ops.specs.Operations.{journal_lines, strays}
 use Rattle.hgs_ops.specs.Replaced.{Replacement, dirstate_with, marks_with, roots_with}
-use Rattle.hgs_ops.proofs.Apart.{fixed, among-part, stores-fixed}
-use Rattle.hgs_ops.proofs.CommitLemmas.{part_data, part_files, part_lines, part_manifest}
-use Rattle.hgs_ops.proofs.CommitTree.{files_of, first_of, second_of}
+use Rattle.hgs_ops.specs.Theorems.Apart.{fixed, among-part, stores-fixed}
+use Rattle.hgs_ops.specs.Theorems.CommitLemmas.{part_data, part_files, part_lines, part_manifest}
+use Rattle.hgs_ops.specs.Theorems.CommitTree.{files_of, first_of, second_of}
 use Rattle.hgs_ops.proofs.JournalLemmas.{IsGood, IsGoodPath, IsOneFile, place_of_file, small_paths}
-use Rattle.hgs_ops.proofs.StandsCommit.{not-fixed}
-use Rattle.hgs_ops.proofs.Touch.{or-both}
+use Rattle.hgs_ops.specs.Theorems.StandsCommit.{not-fixed}
+use Rattle.hgs_ops.specs.Theorems.Touch.{or-both}
 
 -- ---- the paths that a commit appends to
 

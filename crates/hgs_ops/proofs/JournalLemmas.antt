@@ -3,12 +3,12 @@ use Rattle.std.proofs.Common.{◌≡◌, ℕ, ◌<◌, List, [], ◌∷◌, ◌+
 use Rattle.std.specs.Prelude.{◌^◌, Option, Some, None, flat_map, is_some}
 use Rattle.std.specs.List.{AllByRecursion, list_all, list_any}
 use Rattle.hgs_bytes.specs.Bytes.{same, among}
-use Rattle.hgs_bytes.proofs.ByteLemmas.{same-refl}
+use Rattle.hgs_bytes.specs.Theorems.ByteLemmas.{same-refl}
 use Rattle.hgs_files.specs.declared.op.Op.{Op}
 use Rattle.hgs_files.specs.declared.op.Op.TheVariants.{Append, Cut, Rename, Remove, Create, Sync, Settle}
 use Rattle.hgs_files.specs.Path.{is_store_path}
 use Rattle.hgs_files.specs.Tree.{Tree, after_all, apply, bytes_at}
-use Rattle.hgs_files.proofs.TreeLemmas.{after_all-append, with_file-same}
+use Rattle.hgs_files.specs.Theorems.TreeLemmas.{after_all-append, with_file-same}
 use Rattle.hgs_journal.specs.declared.backups.BackupLine.{BackupLine}
 use Rattle.hgs_journal.specs.Begun.{HasOffset}
 use Rattle.hgs_journal.specs.Covers.{KeepsBackup, backup_places, is_loose, journal_paths, no_repeat}
@@ -18,8 +18,8 @@ use Rattle.hgs_stands.specs.Places.{bookmarks_path, dirstate_path, roots_path}
 use Rattle.hgs_ops.specs.Operations.{journal_lines, lock_path, preparations, strays, wlock_path}
 use Rattle.hgs_ops.specs.Replaced.{Replacement, backup_line_of, backup_put, new_put, standing_file}
 use Rattle.hgs_ops.proofs.SmallFiles.{apart, backups-apart, is-one, list-apart, names-loose, new-backup}
-use Rattle.hgs_ops.proofs.Touch.{and-both, and-left, and-right, apply-other, or-both, or-left, or-right, same-sym, touched, touched-append, touched-within, untouched, within}
-use Rattle.hgs_ops.proofs.CommitTree.{IsSmall, preparations-within}
+use Rattle.hgs_ops.specs.Theorems.Touch.{and-both, and-left, and-right, apply-other, or-both, or-left, or-right, same-sym, touched, touched-append, touched-within, untouched, within}
+use Rattle.hgs_ops.specs.Theorems.CommitTree.{IsSmall, preparations-within}
 
 -- ---- what is known of the operations
 

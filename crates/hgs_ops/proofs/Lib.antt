@@ -1,19 +1,6 @@
-pub mod Touch
 pub mod Parts
 pub mod SmallFiles
-pub mod Apart
-pub mod Replace
-pub mod NodeLemmas
-pub mod RootsLemmas
-pub mod SmallLemmas
 pub mod OneLemmas
-pub mod GrowLemmas
-pub mod CommitTree
-pub mod FileGrowth
-pub mod NameLines
-pub mod StandsCommit
-pub mod RootsStay
-pub mod CommitLemmas
 pub mod Below
 pub mod JournalLemmas
 pub mod GoodLemmas
@@ -25,6 +12,5 @@ pub mod TransactionLemmas
 pub mod ShowLemmas
 pub mod Settling
 pub mod SampleLemmas
-pub mod OnceLemmas
 pub mod NextLemmas
 pub mod StayingFiles

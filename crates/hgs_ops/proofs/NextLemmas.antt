@@ -10,8 +10,8 @@ use Rattle.hgs_model.specs.Phase.{phase_number}
 use Rattle.hgs_model.specs.Repo.{Repo}
 use Rattle.hgs_model.specs.Step.{Answer, new_changeset, step}
 use Rattle.hgs_model.specs.Valid.{IsValid}
-use Rattle.hgs_model.proofs.NewChangesetLemmas.{step_commit-did}
-use Rattle.hgs_model.proofs.StepLemmas.{step_mark-did, step_move-did, step_unmark-did}
+use Rattle.hgs_model.specs.Theorems.NewChangesetLemmas.{step_commit-did}
+use Rattle.hgs_model.specs.Theorems.StepLemmas.{step_mark-did, step_move-did, step_unmark-did}
 
 pub goes-on : (r next : Repo) (command : Command) (answer : Answer) → IsRepo r → IsValid command → step r command ≡ Ok (next, answer) → IsPrefixOf r.changesets next.changesets
 goes-on r next (Commit n) answer is valid e = let d = step_commit-did r n next answer is e in (new_changeset (history r.changesets) d.parents n ∷ [], ap (λ (q : Repo). q.changesets) d.is)

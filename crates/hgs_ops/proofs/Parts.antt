@@ -5,10 +5,10 @@ use Rattle.hgs_files.specs.declared.op.Op.{Op}
 use Rattle.hgs_files.specs.declared.op.Op.TheVariants.{Append, Cut, Rename, Remove, Create, Sync, Settle}
 use Rattle.hgs_files.specs.Log.{Does, IsDone, IsPiece, append_of_rest}
 use Rattle.hgs_files.specs.Tree.{Tree, after_all, apply, bytes_at}
-use Rattle.hgs_files.proofs.TreeLemmas.{bytes_at-with_file}
+use Rattle.hgs_files.specs.Theorems.TreeLemmas.{bytes_at-with_file}
 use Rattle.hgs_bytes.specs.Bytes.{same}
-use Rattle.hgs_bytes.proofs.ByteLemmas.{same-refl}
-use Rattle.hgs_ops.proofs.Touch.{all-append, and-both, and-left, and-right, or-left, or-right, touched, touched-within, touches, untouched, within}
+use Rattle.hgs_bytes.specs.Theorems.ByteLemmas.{same-refl}
+use Rattle.hgs_ops.specs.Theorems.Touch.{all-append, and-both, and-left, and-right, or-left, or-right, touched, touched-within, touches, untouched, within}
 
 rest-within : (ok : List ℕ → Bool) (path bytes : List ℕ) → ok path ≡ true → list_all (within ok) (append_of_rest path bytes) ≡ true
 rest-within ok path [] e = refl

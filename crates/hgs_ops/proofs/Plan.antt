@@ -5,14 +5,14 @@ use Rattle.std.specs.Prelude.{length, unwrap_or}
 use Rattle.std.specs.List.{AllByRecursion, list_any}
 use Rattle.std.proofs.lemmas.List.Elements.{filter_map-append}
 use Rattle.hgs_bytes.specs.Bytes.{same, among}
-use Rattle.hgs_bytes.proofs.ByteLemmas.{same-refl}
+use Rattle.hgs_bytes.specs.Theorems.ByteLemmas.{same-refl}
 use Rattle.hgs_files.specs.declared.op.Op.{Op}
 use Rattle.hgs_files.specs.declared.op.Op.TheVariants.{Append, Cut, Rename, Remove, Create, Sync, Settle}
 use Rattle.hgs_files.specs.Log.{IsDone}
 use Rattle.hgs_files.specs.Tree.{Tree, after_all, apply, bytes_at}
-use Rattle.hgs_files.proofs.LogLemmas.{after-done}
-use Rattle.hgs_files.proofs.StopLemmas.{IsInPart, done-in-part}
-use Rattle.hgs_files.proofs.TreeLemmas.{after_all-append}
+use Rattle.hgs_files.specs.Theorems.LogLemmas.{after-done}
+use Rattle.hgs_files.specs.Theorems.StopLemmas.{IsInPart, done-in-part}
+use Rattle.hgs_files.specs.Theorems.TreeLemmas.{after_all-append}
 use Rattle.hgs_journal.specs.declared.backups.BackupLine.{BackupLine}
 use Rattle.hgs_journal.specs.declared.journal.JournalLine.{JournalLine}
 use Rattle.hgs_journal.specs.Begun.{HasOffset, IsAllowed, IsPrepared, LeadsBack, bytes_before}
@@ -29,10 +29,10 @@ use Rattle.hgs_ops.specs.Stops.{IsBetween}
 use Rattle.hgs_ops.proofs.Below.{Below}
 use Rattle.hgs_ops.proofs.JournalLemmas.{IsGood, IsOneFile, backups-kept, list-stands, offsets, or-true, paths-fail, place_of_file, places-same, prep-loose, prep-stays, replaced-all, small-unnamed, small_paths}
 use Rattle.hgs_ops.proofs.Parts.{done-split, done-within}
-use Rattle.hgs_ops.proofs.Replace.{gone-none}
+use Rattle.hgs_ops.specs.Theorems.Replace.{gone-none}
 use Rattle.hgs_ops.proofs.SmallFiles.{IsOne, is-one}
 use Rattle.hgs_ops.proofs.SmallFiles.IsOne.{phaseroots, dirstate, bookmarks}
-use Rattle.hgs_ops.proofs.Touch.{never, or-both, touched-within, untouched}
+use Rattle.hgs_ops.specs.Theorems.Touch.{never, or-both, touched-within, untouched}
 
 -- What the laws of a journal ask of a transaction: it appends to paths that a journal may name, and renames new texts to
 -- the files that it replaces, each once; behind the publishing operation it appends to nothing.

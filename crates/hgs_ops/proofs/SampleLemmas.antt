@@ -8,7 +8,7 @@ use Rattle.std.proofs.lemmas.Str.{IsUtf8-from_ascii, is_utf8-from_IsUtf8}
 use Rattle.hex.specs.Hex.{IsBytes, encode_with}
 use Rattle.sha1.specs.Sha1.{sha1, first_words, schedule, rounds, compress, hash_after, digest_bytes}
 use Rattle.hgs_bytes.specs.Bytes.{same, among}
-use Rattle.hgs_bytes.proofs.ByteLemmas.{same-eq}
+use Rattle.hgs_bytes.specs.Theorems.ByteLemmas.{same-eq}
 use Rattle.hgs_files.specs.Tree.{after_all, bytes_at}
 use Rattle.hgs_index.specs.declared.kinds.Flag.TheVariants.{Plain}
 use Rattle.hgs_model.specs.declared.command.Command.TheVariants.{Commit}
@@ -23,11 +23,11 @@ use Rattle.hgs_path.specs.StoreName.{store_name}
 use Rattle.hgs_stands.specs.Places.{fncache_path, requires_path}
 use Rattle.hgs_stands.specs.Samples.{first_draft}
 use Rattle.hgs_stands.specs.Stands.{IsClean, Stands}
-use Rattle.hgs_stands.proofs.EmptyLemmas.{empty-stands}
+use Rattle.hgs_stands.specs.Theorems.EmptyLemmas.{empty-stands}
 use Rattle.hgs_ops.specs.Operations.{operations, transaction_of}
 use Rattle.hgs_ops.specs.Samples.{after_delete, after_first, after_publish, after_set, bare, delete_here, first_change, one_draft, one_marked, one_public, one_unmarked, publish_here, requires_text, set_here}
 use Rattle.hgs_ops.specs.Unhindered.{AreNewRevisions, IsReady}
-use Rattle.hgs_ops.proofs.Touch.{and-both, and-left, and-right, never}
+use Rattle.hgs_ops.specs.Theorems.Touch.{and-both, and-left, and-right, never}
 use Rattle.hgs_ops.proofs.TransactionLemmas.{transaction-leads}
 
 small : (a b : ℕ) → nat_lt a b ≡ true → a < b

@@ -24,13 +24,13 @@ use Rattle.hgs_phases.specs.Roots.{read_roots}
 use Rattle.hgs_stands.specs.Places.{bookmarks_path, changelog_data, changelog_index, dirstate_path, manifest_data, manifest_index, requires_path, roots_path}
 use Rattle.hgs_stands.specs.Shows.{BeginsAt, Shows, ShowsWorking}
 use Rattle.hgs_stands.specs.Stands.{Stands, mark_of}
-use Rattle.hgs_stands.proofs.ShowsLemmas.{stands-shows}
+use Rattle.hgs_stands.specs.Theorems.ShowsLemmas.{stands-shows}
 use Rattle.hgs_ops.specs.Operations.{Transaction, strays, transaction_of}
 use Rattle.hgs_ops.specs.Replaced.{only_if, new_rename, new_roots}
-use Rattle.hgs_ops.proofs.CommitTree.{is_quiet}
+use Rattle.hgs_ops.specs.Theorems.CommitTree.{is_quiet}
 use Rattle.hgs_ops.proofs.Parts.{remove-done}
-use Rattle.hgs_ops.proofs.Apart.{among-part, fixed, stores-fixed}
-use Rattle.hgs_ops.proofs.Touch.{bytes-same, or-both, touched, touched-within, untouched}
+use Rattle.hgs_ops.specs.Theorems.Apart.{among-part, fixed, stores-fixed}
+use Rattle.hgs_ops.specs.Theorems.Touch.{bytes-same, or-both, touched, touched-within, untouched}
 use Rattle.hgs_ops.proofs.TransactionLemmas.{before-loose, commit-quiet}
 use Rattle.hgs_ops.specs.Shown.{lacks_bookmarks, lacks_dirstate}
 

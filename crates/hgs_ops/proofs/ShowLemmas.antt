@@ -6,8 +6,8 @@ use Rattle.hgs_files.specs.declared.op.Op.{Op}
 use Rattle.hgs_files.specs.declared.op.Op.TheVariants.{Append, Create, Rename}
 use Rattle.hgs_files.specs.Log.{IsDone}
 use Rattle.hgs_files.specs.Tree.{Tree, after_all, apply, bytes_at, renamed, with_file}
-use Rattle.hgs_files.proofs.TreeLemmas.{after_all-append, bytes_at-is, bytes_at-with_file, with_file-same}
-use Rattle.hgs_index.proofs.RevlogLemmas.{length-held}
+use Rattle.hgs_files.specs.Theorems.TreeLemmas.{after_all-append, bytes_at-is, bytes_at-with_file, with_file-same}
+use Rattle.hgs_index.specs.Theorems.RevlogLemmas.{length-held}
 use Rattle.hgs_journal.specs.Covers.{is_loose}
 use Rattle.hgs_journal.specs.Names.{journal_path}
 use Rattle.hgs_journal.specs.Texts.{journal_text}
@@ -19,8 +19,8 @@ use Rattle.hgs_model.specs.IsRepo.{IsRepo}
 use Rattle.hgs_model.specs.Repo.{Changeset, Repo}
 use Rattle.hgs_model.specs.Step.{Answer, new_changeset, step}
 use Rattle.hgs_model.specs.Valid.{IsNewChange, IsValid}
-use Rattle.hgs_model.proofs.HistoryLemmas.{length-changelog}
-use Rattle.hgs_model.proofs.NewChangesetLemmas.{commit-keeps, step_commit-did}
+use Rattle.hgs_model.specs.Theorems.HistoryLemmas.{length-changelog}
+use Rattle.hgs_model.specs.Theorems.NewChangesetLemmas.{commit-keeps, step_commit-did}
 use Rattle.hgs_phases.specs.Roots.{read_roots}
 use Rattle.hgs_stands.specs.Places.{bookmarks_path, changelog_index, dirstate_path, roots_path}
 use Rattle.hgs_stands.specs.Shows.{Shows}
@@ -31,13 +31,13 @@ use Rattle.hgs_ops.specs.Replaced.{new_bookmarks, new_dirstate, replacements, ro
 use Rattle.hgs_ops.specs.Unhindered.{IsReady}
 use Rattle.hgs_ops.proofs.BeginsLemmas.{GivesPhases, IsStill, gives-own}
 use Rattle.hgs_ops.proofs.Below.{Below}
-use Rattle.hgs_ops.proofs.CommitLemmas.{commit-leads, growth-appends, growth-index, growth-quiet}
-use Rattle.hgs_ops.proofs.CommitTree.{commit-leaves, first_of, new_roots_path, roots-put}
+use Rattle.hgs_ops.specs.Theorems.CommitLemmas.{commit-leads, growth-appends, growth-index, growth-quiet}
+use Rattle.hgs_ops.specs.Theorems.CommitTree.{commit-leaves, first_of, new_roots_path, roots-put}
 use Rattle.hgs_ops.proofs.FrontPhases.{roots-front}
 use Rattle.hgs_ops.proofs.Parts.{append-less, done-split, part-other}
-use Rattle.hgs_ops.proofs.RootsLemmas.{written-phases}
+use Rattle.hgs_ops.specs.Theorems.RootsLemmas.{written-phases}
 use Rattle.hgs_ops.proofs.ShowPlan.{begun-same, begun-shows, begun-still, early-shows, undoing-shows, working-shows}
-use Rattle.hgs_ops.proofs.Touch.{appended, appended-none, apply-other, bytes-same, touched, touched-append}
+use Rattle.hgs_ops.specs.Theorems.Touch.{appended, appended-none, apply-other, bytes-same, touched, touched-append}
 use Rattle.hgs_ops.proofs.TransactionLemmas.{commit-quiet, plan-of, text-of}
 
 -- ---- an operation that is never done in part

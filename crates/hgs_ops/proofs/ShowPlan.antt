@@ -6,7 +6,7 @@ use Rattle.hgs_files.specs.declared.op.Op.{Op}
 use Rattle.hgs_files.specs.declared.op.Op.TheVariants.{Create}
 use Rattle.hgs_files.specs.Log.{IsDone}
 use Rattle.hgs_files.specs.Tree.{Tree, after_all, apply, bytes_at}
-use Rattle.hgs_files.proofs.LogLemmas.{done-behind}
+use Rattle.hgs_files.specs.Theorems.LogLemmas.{done-behind}
 use Rattle.hgs_journal.specs.Covers.{Covers, IsRestored, Restores, is_loose}
 use Rattle.hgs_journal.specs.Names.{journal_path}
 use Rattle.hgs_journal.specs.Texts.{journal_text}
@@ -15,14 +15,14 @@ use Rattle.hgs_model.specs.Repo.{Repo}
 use Rattle.hgs_stands.specs.Places.{bookmarks_path, changelog_index, dirstate_path, roots_path}
 use Rattle.hgs_stands.specs.Shows.{Shows}
 use Rattle.hgs_stands.specs.Stands.{Stands}
-use Rattle.hgs_stands.proofs.ShowsLemmas.{stands-shows}
+use Rattle.hgs_stands.specs.Theorems.ShowsLemmas.{stands-shows}
 use Rattle.hgs_ops.specs.Operations.{journal_lines, preparations, strays}
 use Rattle.hgs_ops.specs.Replaced.{Replacement, backup_line_of}
 use Rattle.hgs_ops.proofs.BeginsLemmas.{IsStill, still-either, still-own, still-shows}
 use Rattle.hgs_ops.proofs.Below.{Below}
 use Rattle.hgs_ops.proofs.JournalLemmas.{prep-stays}
 use Rattle.hgs_ops.proofs.Plan.{IsPlan, changes-lead-back, early-files, early-lead, front-covers, old_bytes, undo-files, undo-lead}
-use Rattle.hgs_ops.proofs.Touch.{away, bytes-same, or-both, same-sym}
+use Rattle.hgs_ops.specs.Theorems.Touch.{away, bytes-same, or-both, same-sym}
 
 module _ (below : Below) (t : Tree) (who : List ℕ) (files : List Replacement) (changes : List Op) (publish : Op) (renames : List Op) (plan : IsPlan t files changes publish renames) (r : Repo) (s : Stands t r) where
   abbrev t0 : Tree

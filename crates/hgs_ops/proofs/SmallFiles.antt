@@ -2,11 +2,11 @@
 use Rattle.std.proofs.Common.{◌≡◌, ◌⊎◌, ℕ, List, Bool, true, false, ◌||◌, refl, sym, ◌∙◌, ap, subst, inl, inr}
 use Rattle.std.specs.Prelude.{codes}
 use Rattle.hgs_bytes.specs.Bytes.{same}
-use Rattle.hgs_bytes.proofs.ByteLemmas.{same-eq}
+use Rattle.hgs_bytes.specs.Theorems.ByteLemmas.{same-eq}
 use Rattle.hgs_journal.specs.Covers.{is_loose}
 use Rattle.hgs_journal.specs.Names.{backup_name, backups_path, is_replaced, new_name, place}
 use Rattle.hgs_ops.specs.Operations.{strays}
-use Rattle.hgs_ops.proofs.Touch.{bool, never}
+use Rattle.hgs_ops.specs.Theorems.Touch.{bool, never}
 
 -- two paths that a test tells apart
 pub apart : (test : List ℕ → Bool) (p q : List ℕ) → test p ≡ true → test q ≡ false → same p q ≡ false

@@ -14,10 +14,10 @@ use Rattle.hgs_model.specs.declared.command.Command.TheVariants.{Commit, Move, M
 use Rattle.hgs_model.specs.Repo.{Repo}
 use Rattle.hgs_ops.specs.Operations.{renames_after, strays, transaction_of}
 use Rattle.hgs_ops.specs.Replaced.{new_bookmarks, new_dirstate}
-use Rattle.hgs_ops.proofs.CommitTree.{second_of}
+use Rattle.hgs_ops.specs.Theorems.CommitTree.{second_of}
 use Rattle.hgs_ops.proofs.JournalLemmas.{small_paths}
 use Rattle.hgs_ops.proofs.Parts.{done-within}
-use Rattle.hgs_ops.proofs.Touch.{or-both, touched-within, untouched, within}
+use Rattle.hgs_ops.specs.Theorems.Touch.{or-both, touched-within, untouched, within}
 use Rattle.hgs_ops.proofs.TransactionLemmas.{before-loose}
 
 pub before-stays : (t u : Tree) (r next : Repo) (command : Command) (who : List ℕ) (done left : List Op) (path : List ℕ) → IsDone (transaction_of t r command who next).before done left → is_loose strays path ≡ false → after_all done u path ≡ u path

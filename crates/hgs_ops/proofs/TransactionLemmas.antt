@@ -6,10 +6,10 @@ use Rattle.hgs_files.specs.declared.op.Op.{Op}
 use Rattle.hgs_files.specs.declared.op.Op.TheVariants.{Append, Create, Remove}
 use Rattle.hgs_files.specs.Log.{IsDone}
 use Rattle.hgs_files.specs.Tree.{Tree, after_all, apply}
-use Rattle.hgs_files.proofs.TreeLemmas.{after_all-append}
+use Rattle.hgs_files.specs.Theorems.TreeLemmas.{after_all-append}
 use Rattle.hgs_journal.specs.Covers.{Covers, Restores, is_loose}
 use Rattle.hgs_journal.specs.Names.{journal_path}
-use Rattle.hgs_model.proofs.ListLemmas.{all-join}
+use Rattle.hgs_model.specs.Theorems.ListLemmas.{all-join}
 use Rattle.hgs_model.specs.declared.command.Command.{Command}
 use Rattle.hgs_model.specs.declared.command.Command.TheVariants.{Commit, Move, Mark, Unmark}
 use Rattle.hgs_model.specs.declared.command.NewChange.{NewChange}
@@ -25,14 +25,14 @@ use Rattle.hgs_ops.specs.Replaced.{Replacement, new_bookmarks, new_dirstate, new
 use Rattle.hgs_ops.specs.Stops.{IsBetween}
 use Rattle.hgs_ops.specs.Unhindered.{CanBeJournalled, IsReady}
 use Rattle.hgs_ops.proofs.Below.{Below}
-use Rattle.hgs_ops.proofs.CommitLemmas.{commit-leads, growth-quiet}
-use Rattle.hgs_ops.proofs.CommitTree.{is_quiet, files_of, first_of, second_of}
+use Rattle.hgs_ops.specs.Theorems.CommitLemmas.{commit-leads, growth-quiet}
+use Rattle.hgs_ops.specs.Theorems.CommitTree.{is_quiet, files_of, first_of, second_of}
 use Rattle.hgs_ops.proofs.GoodLemmas.{files-ones, files-once, first-good, growth-good, publish-good, second-good, second-none}
 use Rattle.hgs_ops.proofs.JournalLemmas.{IsGood, lines-good, prep-loose}
 use Rattle.hgs_ops.proofs.OneLemmas.{mark-leads, move-leads, unmark-leads}
 use Rattle.hgs_ops.proofs.Plan.{IsPlan, before-stands, changes-lead-back, changes-open, created-open, early-back, front-covers, may-stop, removed-stands, undo-back, undo-may-stop, undone-clean}
 use Rattle.hgs_ops.proofs.Plan.{undo-early as plan-early}
-use Rattle.hgs_ops.proofs.Touch.{or-both, touched, touched-append, touches, within}
+use Rattle.hgs_ops.specs.Theorems.Touch.{or-both, touched, touched-append, touches, within}
 
 -- the operations of a transaction of any command lead to the next repository
 pub transaction-leads : (t : Tree) (r next : Repo) (command : Command) (who : List ℕ) (answer : Answer) → Stands t r → IsValid command → step r command ≡ Ok (next, answer) → IsReady t r command next → IsClean (after_all (operations (transaction_of t r command who next)) t) next

@@ -12,7 +12,7 @@ use Rattle.hex.proofs.HexLemmas.{length-encode_with, decode_of-encode_lower, dec
 use Rattle.sha1.specs.Sha1.{sha1}
 use Rattle.hgs_bytes.specs.Bytes.{same}
 use Rattle.hgs_bytes.specs.Path.{components}
-use Rattle.hgs_bytes.proofs.ByteLemmas.{same-eq, same-refl}
+use Rattle.hgs_bytes.specs.Theorems.ByteLemmas.{same-eq, same-refl}
 use Rattle.hgs_path.specs.declared.name.Ext.{Ext}
 use Rattle.hgs_path.specs.declared.name.Ext.TheVariants.{I, D}
 use Rattle.hgs_path.specs.declared.spell.Form.TheVariants.{Plain, Hashed}
@@ -20,11 +20,11 @@ use Rattle.hgs_path.specs.StoreName.{ext_text, ends_in, directory_step, listed_n
 use Rattle.hgs_path.specs.declared.fncache.Fncache.{Fncache}
 use Rattle.hgs_path.specs.Owners.{has_path, is_hashed_as, has_hashed, owns_name, IsOther}
 use Rattle.hgs_path.specs.Fncache.{clashes, is_path_of, listing, IsClash, IsClashAt}
-use Rattle.hgs_path.proofs.FncacheLemmas.{ends-appended, other-end}
+use Rattle.hgs_path.specs.Theorems.FncacheLemmas.{ends-appended, other-end}
 use Rattle.hgs_path.proofs.OwnersLemmas.{and-parts, and-both, or-first, or-last, not-true}
-use Rattle.hgs_path.proofs.PartLemmas.{listed-front, spelled-step}
-use Rattle.hgs_path.proofs.ReadableLemmas.{names-once}
-use Rattle.hgs_path.proofs.ShapeLemmas.{Small, small-sha1, length-sha1}
+use Rattle.hgs_path.specs.Theorems.PartLemmas.{listed-front, spelled-step}
+use Rattle.hgs_path.specs.Theorems.ReadableLemmas.{names-once}
+use Rattle.hgs_path.specs.Theorems.ShapeLemmas.{Small, small-sha1, length-sha1}
 
 or-cases : (a b : Bool) (P : Type 0) → (a ≡ true → P) → (b ≡ true → P) → (a || b) ≡ true → P
 or-cases true b P f g h = f refl

@@ -7,13 +7,13 @@ use Rattle.std.specs.BTreeSet.{insert_key}
 use Rattle.std.specs.Cmp.Lexicographic.{slice_cmp}
 use Rattle.std.specs.Ordering.{nat_cmp}
 use Rattle.hgs_bytes.specs.Bytes.{same}
-use Rattle.hgs_bytes.proofs.ByteLemmas.{same-eq}
+use Rattle.hgs_bytes.specs.Theorems.ByteLemmas.{same-eq}
 use Rattle.hgs_path.specs.declared.name.Ext.{Ext}
 use Rattle.hgs_path.specs.declared.name.Ext.TheVariants.{I, D}
 use Rattle.hgs_path.specs.StoreName.{listed_name, is_plain, store_name}
 use Rattle.hgs_path.specs.Owners.{with_owner, with_file_name, with_path, is_hashed_as, has_hashed, has_path, owns_name}
 use Rattle.hgs_path.proofs.OwnersLemmas.{or-and-false, and-parts}
-use Rattle.hgs_path.proofs.FncacheLemmas.{path-inserted}
+use Rattle.hgs_path.specs.Theorems.FncacheLemmas.{path-inserted}
 
 both-false : (a b : Bool) → a ≡ false → b ≡ false → (a || b) ≡ false
 both-false true b h k = cc

@@ -7,14 +7,14 @@ use Rattle.std.proofs.lemmas.List.Sums.{sum_by-cons, sum_by-append, sum_by-le-su
 use Rattle.hex.specs.Hex.{encode_with}
 use Rattle.hgs_bytes.specs.Path.{components}
 use Rattle.hgs_bytes.specs.Text.{split}
-use Rattle.hgs_bytes.proofs.ByteLemmas.{same-eq}
+use Rattle.hgs_bytes.specs.Theorems.ByteLemmas.{same-eq}
 use Rattle.hgs_index.specs.TrackedPath.{lower}
 use Rattle.hgs_path.specs.declared.name.Ext.{Ext}
 use Rattle.hgs_path.specs.declared.name.Ext.TheVariants.{I, D}
 use Rattle.hgs_path.specs.declared.spell.Form.TheVariants.{Plain}
 use Rattle.hgs_path.specs.StoreName.{joined, escaped, is_escaped, is_upper, spelled, is_dot_or_space, is_device, before_dot, escaped_at, with_front, with_end, spelled_component, spelled_name, map_front, marked_directory, ends_in, directory_step, whole_path, listed_name, most_spelled, is_short, is_plain}
-use Rattle.hgs_path.proofs.FncacheLemmas.{directory-parts}
-use Rattle.hgs_path.proofs.ReadableLemmas.{Letters, letter-back, device-letters, text-letters, digit-plain, end-parts, last_of}
+use Rattle.hgs_path.specs.Theorems.FncacheLemmas.{directory-parts}
+use Rattle.hgs_path.specs.Theorems.ReadableLemmas.{Letters, letter-back, device-letters, text-letters, digit-plain, end-parts, last_of}
 
 -- ---- what a byte can come to
 

@@ -1,15 +1,7 @@
-pub mod AddedLemmas
-pub mod ApartLemmas
-pub mod CheckLemmas
 pub mod ClashLemmas
 pub mod EnterLemmas
-pub mod FncacheLemmas
 pub mod LengthLemmas
 pub mod ListTextLemmas
 pub mod ListedLemmas
 pub mod OwnersLemmas
-pub mod PartLemmas
-pub mod ReadNamesLemmas
-pub mod ReadableLemmas
-pub mod ShapeLemmas
 pub mod OneFileLemmas

@@ -5,17 +5,17 @@ use Rattle.std.proofs.lemmas.List.{take-append-drop}
 use Rattle.hex.specs.Hex.{IsBytes, encode_lower}
 use Rattle.sha1.specs.Sha1.{sha1}
 use Rattle.hgs_bytes.specs.Bytes.{begins_with}
-use Rattle.hgs_bytes.proofs.ByteLemmas.{same-eq}
+use Rattle.hgs_bytes.specs.Theorems.ByteLemmas.{same-eq}
 use Rattle.hgs_path.specs.declared.name.Ext.{Ext}
 use Rattle.hgs_path.specs.declared.name.Ext.TheVariants.{I, D}
 use Rattle.hgs_path.specs.declared.spell.Form.TheVariants.{Plain}
 use Rattle.hgs_path.specs.ListedNames.{is_listed, listed_file}
 use Rattle.hgs_path.specs.StoreName.{ends_in, ext_text, hashed_name, is_plain, spelled_name}
 use Rattle.hgs_path.proofs.ClashLemmas.{before_digits, before_ext, digits-length, digits-once, plain-front, same-end}
-use Rattle.hgs_path.proofs.FncacheLemmas.{ends-appended, other-end}
+use Rattle.hgs_path.specs.Theorems.FncacheLemmas.{ends-appended, other-end}
 use Rattle.hgs_path.proofs.OwnersLemmas.{and-parts}
-use Rattle.hgs_path.proofs.ReadableLemmas.{plain-once}
-use Rattle.hgs_path.proofs.ShapeLemmas.{small-of}
+use Rattle.hgs_path.specs.Theorems.ReadableLemmas.{plain-once}
+use Rattle.hgs_path.specs.Theorems.ShapeLemmas.{small-of}
 
 abbrev kind : List ℕ → Ext
 kind name = cond (ends_in name (codes ".i")) I D

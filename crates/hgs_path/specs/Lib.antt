@@ -4,3 +4,4 @@ pub mod ListText
 pub mod ListedNames
 pub mod Owners
 pub mod StoreName
+pub mod Theorems

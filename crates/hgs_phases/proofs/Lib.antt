@@ -1,10 +1,4 @@
-pub mod AdvanceLemmas
-pub mod AloneLemmas
 pub mod ModelLemmas
-pub mod PhaseLemmas
 pub mod PrintLemmas
 pub mod RetractLemmas
-pub mod RiseLemmas
-pub mod RootTextLemmas
 pub mod RootsLemmas
-pub mod WrittenLemmas

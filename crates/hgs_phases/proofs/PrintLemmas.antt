@@ -6,7 +6,7 @@ use Rattle.hgs_model.specs.declared.phase.Phase.{Phase}
 use Rattle.hgs_phases.specs.declared.roots.Root.{Root}
 use Rattle.hgs_phases.specs.Printed.{root_at, roots_in}
 use Rattle.hgs_phases.specs.Roots.{root_text, roots_text}
-use Rattle.hgs_phases.proofs.PhaseLemmas.{some_is}
+use Rattle.hgs_phases.specs.Theorems.PhaseLemmas.{some_is}
 
 pub text_append : (rs ss : List Root) → roots_text (rs ++ ss) ≡ roots_text rs ++ roots_text ss
 text_append [] ss = refl

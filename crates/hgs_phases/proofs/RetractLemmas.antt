@@ -10,7 +10,7 @@ use Rattle.hgs_model.specs.declared.phase.Phase.TheVariants.{Public}
 use Rattle.hgs_model.specs.Phase.{greater}
 use Rattle.hgs_phases.specs.Phases.{history_of, raised}
 use Rattle.hgs_phases.specs.Moves.{retracted, retracted_at, is_marked}
-use Rattle.hgs_phases.proofs.PhaseLemmas.{reaches_parent, earlier, earlier-low, cut-some, ancestor_step, below-or-here, history-at, by_place}
+use Rattle.hgs_phases.specs.Theorems.PhaseLemmas.{reaches_parent, earlier, earlier-low, cut-some, ancestor_step, below-or-here, history-at, by_place}
 
 -- the first n changesets are raised, and marked where they are descendants
 pub record Raised (n : ℕ) (history : List Parents) (rev : ℕ) (to : Phase) (old phases : List Phase) (marks : List Bool) : Type 0 where

@@ -3,3 +3,4 @@ pub mod Moves
 pub mod Phases
 pub mod Printed
 pub mod Roots
+pub mod Theorems

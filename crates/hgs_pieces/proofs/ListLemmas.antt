@@ -3,7 +3,7 @@ use Rattle.std.proofs.Common.{◌≡◌, ℕ, ◌+◌, ◌<◌, List, [], ◌∷
 use Rattle.std.proofs.Math.Seq.{drop-append_seam, take-append-add, take-append_seam}
 use Rattle.hgs_files.specs.declared.op.Op.{Op}
 use Rattle.hgs_files.specs.Log.{IsDone}
-use Rattle.hgs_files.proofs.LogLemmas.{done-append, done-behind}
+use Rattle.hgs_files.specs.Theorems.LogLemmas.{done-append, done-behind}
 use Rattle.hgs_legal.specs.Pieces as legal
 use Rattle.hgs_machine.specs.Course.{AreSome, between}
 

@@ -6,8 +6,8 @@ use Rattle.hgs_files.specs.declared.op.Op.{Op}
 use Rattle.hgs_files.specs.declared.op.Op.TheVariants.{Create, Remove}
 use Rattle.hgs_files.specs.Log.{IsDone}
 use Rattle.hgs_files.specs.Tree.{Tree, after_all, same_path, with_file}
-use Rattle.hgs_files.proofs.LogLemmas.{after-done}
-use Rattle.hgs_files.proofs.TreeLemmas.{after_all-append, with_file-other}
+use Rattle.hgs_files.specs.Theorems.LogLemmas.{after-done}
+use Rattle.hgs_files.specs.Theorems.TreeLemmas.{after_all-append, with_file-other}
 use Rattle.hgs_journal.specs.Names.{journal_path}
 use Rattle.hgs_machine.specs.Course.{AreGone, CarriedOut, lock_removals}
 use Rattle.hgs_machine.specs.Locks.{AreLocked, AreRemoved, IsTurnedAway, at_journal, at_lock, at_wlock}

@@ -10,7 +10,7 @@ use Rattle.hgs_files.specs.Tree.{Tree, after_all}
 use Rattle.hgs_index.specs.Revision.{Revision}
 use Rattle.hgs_journal.specs.Names.{locks, new_name, place}
 use Rattle.hgs_journal.specs.Covers.{is_loose}
-use Rattle.hgs_legal.proofs.TreeFacts.{other-path, same-sym}
+use Rattle.hgs_legal.specs.Theorems.TreeFacts.{other-path, same-sym}
 use Rattle.hgs_machine.specs.Locks.{AreLocked}
 use Rattle.hgs_model.specs.History.{history}
 use Rattle.hgs_model.specs.Repo.{Repo}
@@ -19,8 +19,8 @@ use Rattle.hgs_model.specs.declared.command.Command.TheVariants.{Commit, Move, M
 use Rattle.hgs_ops.specs.Growth.{append_some, filelogs_grow, grown, growth, new_changelog_entry, new_chunks, new_entries, new_items, new_names, new_paths}
 use Rattle.hgs_ops.specs.Operations.{changes_before, lock_path, publishing, strays, wlock_path}
 use Rattle.hgs_ops.specs.Replaced.{new_rename, new_roots, roots_change}
-use Rattle.hgs_ops.proofs.CommitLemmas.{growth-quiet}
-use Rattle.hgs_journal.proofs.Touched.{touched, touched-append, touches}
+use Rattle.hgs_ops.specs.Theorems.CommitLemmas.{growth-quiet}
+use Rattle.hgs_journal.specs.Theorems.Touched.{touched, touched-append, touches}
 use Rattle.hgs_path.specs.declared.name.Ext.{Ext}
 use Rattle.hgs_path.specs.declared.name.Ext.TheVariants.{I, D}
 use Rattle.hgs_path.specs.StoreName.{store_name}

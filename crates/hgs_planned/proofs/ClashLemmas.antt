@@ -4,11 +4,11 @@ use Rattle.std.specs.Prelude.{Option, Some, None}
 use Rattle.std.specs.List.{AllZip}
 use Rattle.hex.specs.Hex.{IsBytes}
 use Rattle.hgs_bytes.specs.Bytes.{among, same}
-use Rattle.hgs_bytes.proofs.ByteLemmas.{same-eq, same-refl}
+use Rattle.hgs_bytes.specs.Theorems.ByteLemmas.{same-eq, same-refl}
 use Rattle.hgs_files.specs.Tree.{Tree}
 use Rattle.hgs_model.specs.History.{History}
 use Rattle.hgs_model.specs.Repo.{Changeset, TreeFile, tree_paths}
-use Rattle.hgs_ops.proofs.Touch.{bool, same-sym}
+use Rattle.hgs_ops.specs.Theorems.Touch.{bool, same-sym}
 use Rattle.hgs_path.specs.declared.name.Ext.{Ext}
 use Rattle.hgs_path.specs.declared.name.Ext.TheVariants.{I, D}
 use Rattle.hgs_path.specs.Fncache.{IsClash, clashes, is_path_of, with_both}

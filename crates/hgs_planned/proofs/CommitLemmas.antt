@@ -14,7 +14,7 @@ use Rattle.hgs_model.specs.Valid.{IsNewChange}
 use Rattle.hgs_model.specs.declared.command.Command.TheVariants.{Commit}
 use Rattle.hgs_model.specs.declared.command.NewChange.{NewChange}
 use Rattle.hgs_model.specs.declared.command.Refusal.{Refusal}
-use Rattle.hgs_model.proofs.HistoryLemmas.{history-push, length-changelog}
+use Rattle.hgs_model.specs.Theorems.HistoryLemmas.{history-push, length-changelog}
 use Rattle.hgs_ops.specs.Unhindered.{IsReady}
 use Rattle.hgs_load.specs.declared.answer.ReadAnswer.{ReadAnswer}
 use Rattle.hgs_revlog.specs.Add.{next_entry}

@@ -6,19 +6,19 @@ use Rattle.hex.specs.Hex.{IsBytes}
 use Rattle.sha1.specs.Sha1.{sha1}
 use Rattle.hgs_bytes.specs.Bytes.{among, same}
 use Rattle.hgs_bytes.specs.Text.{Line as TextLine, lines_of, onto}
-use Rattle.hgs_bytes.proofs.ByteLemmas.{same-eq}
+use Rattle.hgs_bytes.specs.Theorems.ByteLemmas.{same-eq}
 use Rattle.hgs_files.specs.Tree.{Tree, bytes_at}
 use Rattle.hgs_model.specs.Repo.{Repo}
 use Rattle.hgs_ops.specs.Growth.{new_paths}
-use Rattle.hgs_ops.proofs.OnceLemmas.{new-used}
-use Rattle.hgs_ops.proofs.Touch.{bool}
+use Rattle.hgs_ops.specs.Theorems.OnceLemmas.{new-used}
+use Rattle.hgs_ops.specs.Theorems.Touch.{bool}
 use Rattle.hgs_path.specs.declared.fncache.FncacheFault.{FncacheFault}
 use Rattle.hgs_path.specs.declared.fncache.FncacheFault.TheVariants.{Line}
 use Rattle.hgs_path.specs.declared.name.Ext.{Ext}
 use Rattle.hgs_path.specs.ListedNames.{is_listed, listed_file, names_from, names_of, with_name}
 use Rattle.hgs_path.specs.StoreName.{listed_name, store_name}
-use Rattle.hgs_path.proofs.ReadableLemmas.{listed-small}
-use Rattle.hgs_path.proofs.ShapeLemmas.{Small, small-of}
+use Rattle.hgs_path.specs.Theorems.ReadableLemmas.{listed-small}
+use Rattle.hgs_path.specs.Theorems.ShapeLemmas.{Small, small-of}
 use Rattle.hgs_stands.specs.Places.{fncache_path}
 use Rattle.hgs_planned.specs.Ready.{HasOwnDigests, NeedsNoTest}
 use Rattle.hgs_planned.proofs.Basics.{never}

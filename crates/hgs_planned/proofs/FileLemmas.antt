@@ -4,19 +4,19 @@ use Rattle.std.proofs.lemmas.Bool.Decides.{nat_tests}
 use Rattle.std.specs.Prelude.{◌<◌, Option, Some, None, IfSome, Result, Ok, Err, option_map, slice_get, slice_index_or}
 use Rattle.std.specs.List.{AllByRecursion}
 use Rattle.hgs_bytes.specs.Bytes.{same}
-use Rattle.hgs_bytes.proofs.ByteLemmas.{same-eq}
+use Rattle.hgs_bytes.specs.Theorems.ByteLemmas.{same-eq}
 use Rattle.hgs_files.specs.Tree.{Tree, bytes_at}
 use Rattle.hgs_index.specs.declared.entry.Entry.{Entry}
 use Rattle.hgs_index.specs.FileText.{body_of, prefix_of}
 use Rattle.hgs_index.specs.Revision.{Parents, Revision}
 use Rattle.hgs_index.specs.Revlog.{chunk_text}
-use Rattle.hgs_index.proofs.FileTextLemmas.{unpacked-joins}
+use Rattle.hgs_index.specs.Theorems.FileTextLemmas.{unpacked-joins}
 use Rattle.hgs_loading.specs.Found.{and_then}
 use Rattle.hgs_loading.specs.Logs.{text_in}
 use Rattle.hgs_manifest.specs.Held.{found_in}
 use Rattle.hgs_model.specs.History.{History, Placed, file_parents, file_parents_of, kept_of, node_at, placed_at, placed_file, row_of, text_at}
-use Rattle.hgs_model.proofs.CountLemmas.{IsSound}
-use Rattle.hgs_model.proofs.ListLemmas.{found-has}
+use Rattle.hgs_model.specs.Theorems.CountLemmas.{IsSound}
+use Rattle.hgs_model.specs.Theorems.ListLemmas.{found-has}
 use Rattle.hgs_load.specs.declared.answer.ReadAnswer.{ReadAnswer}
 use Rattle.hgs_revlog.specs.declared.fault.RevFault.{RevFault}
 use Rattle.hgs_revlog.specs.declared.fault.RevFault.TheVariants as faults

@@ -18,7 +18,7 @@ use Rattle.hgs_revlog.specs.declared.fault.Tail.TheVariants.{Refuse}
 use Rattle.hgs_revlog.specs.Load.{loaded}
 use Rattle.hgs_revlog.specs.Log.{Log}
 use Rattle.hgs_stands.specs.Stands.{IsUsedName, Stands}
-use Rattle.hgs_stands.proofs.FilesLemmas.{name-used}
+use Rattle.hgs_stands.specs.Theorems.FilesLemmas.{name-used}
 use Rattle.hgs_steps.specs.Planned.{IsLoadedOf}
 use Rattle.hgs_steps.specs.declared.loaded.Loaded.{Loaded}
 use Rattle.hgs_commit.specs.Files.{empty_log, filelog_in, filelog_with}

@@ -25,7 +25,7 @@ use Rattle.hgs_model.specs.Step.{new_changeset, new_file, with_optional_mark}
 use Rattle.hgs_model.specs.Valid.{new_paths as paths_of_files}
 use Rattle.hgs_model.specs.declared.command.NewChange.{NewChange}
 use Rattle.hgs_model.specs.declared.files.NewFile.{NewFile}
-use Rattle.hgs_model.proofs.ListLemmas.{bool}
+use Rattle.hgs_model.specs.Theorems.ListLemmas.{bool}
 use Rattle.hgs_ops.specs.Growth.{new_paths}
 use Rattle.hgs_path.specs.declared.name.Ext.{Ext}
 use Rattle.hgs_path.specs.declared.name.Ext.TheVariants.{I, D}

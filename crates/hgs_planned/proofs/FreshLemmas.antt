@@ -8,10 +8,10 @@ use Rattle.hgs_files.specs.Tree.{Tree}
 use Rattle.hgs_index.specs.Node.{null_node}
 use Rattle.hgs_index.specs.Revision.{Revision, node_after, nodes}
 use Rattle.hgs_index.specs.Revlog.{HoldsRevisions, all_different}
-use Rattle.hgs_index.proofs.RevisionLemmas.{nodes_from-append}
+use Rattle.hgs_index.specs.Theorems.RevisionLemmas.{nodes_from-append}
 use Rattle.hgs_ops.specs.Unhindered.{AreNewRevisions}
-use Rattle.hgs_ops.proofs.GrowLemmas.{drop-front}
-use Rattle.hgs_ops.proofs.Touch.{and-both, and-left, and-right, or-both, or-left, or-right, same-sym}
+use Rattle.hgs_ops.specs.Theorems.GrowLemmas.{drop-front}
+use Rattle.hgs_ops.specs.Theorems.Touch.{and-both, and-left, and-right, or-both, or-left, or-right, same-sym}
 use Rattle.hgs_revlog.specs.Load.{most_text}
 use Rattle.hgs_commit.specs.Texts.{OfLog}
 use Rattle.hgs_planned.specs.Logs.{IsLogOf}

@@ -13,8 +13,8 @@ use Rattle.hgs_model.specs.Repo.{Changeset, Repo, TreeFile}
 use Rattle.hgs_model.specs.Step.{new_changeset, new_file}
 use Rattle.hgs_model.specs.declared.command.NewChange.{NewChange}
 use Rattle.hgs_model.specs.declared.files.NewFile.{NewFile}
-use Rattle.hgs_model.proofs.CountLemmas.{file-revision-below, sound}
-use Rattle.hgs_model.proofs.ListLemmas.{bool}
+use Rattle.hgs_model.specs.Theorems.CountLemmas.{file-revision-below, sound}
+use Rattle.hgs_model.specs.Theorems.ListLemmas.{bool}
 use Rattle.hgs_ops.specs.Growth.{filelog_growth}
 use Rattle.hgs_ops.specs.Unhindered.{AreNewRevisions}
 use Rattle.hgs_path.specs.declared.name.Ext.{Ext}

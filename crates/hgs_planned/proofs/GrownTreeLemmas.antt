@@ -16,12 +16,12 @@ use Rattle.hgs_model.specs.Step.{new_changeset, new_file}
 use Rattle.hgs_model.specs.Valid.{new_paths as paths_of_files}
 use Rattle.hgs_model.specs.declared.command.NewChange.{NewChange}
 use Rattle.hgs_model.specs.declared.files.NewFile.{NewFile}
-use Rattle.hgs_model.proofs.HistoryLemmas.{history-push}
-use Rattle.hgs_model.proofs.ListLemmas.{ascends-head, ascends-tail}
+use Rattle.hgs_model.specs.Theorems.HistoryLemmas.{history-push}
+use Rattle.hgs_model.specs.Theorems.ListLemmas.{ascends-head, ascends-tail}
 use Rattle.hgs_ops.specs.Growth.{filelog_growth, filelogs_grow, new_names, new_names_of, new_paths}
-use Rattle.hgs_ops.proofs.FileGrowth.{head-others}
-use Rattle.hgs_ops.proofs.GrowLemmas.{drop-front}
-use Rattle.hgs_ops.proofs.Touch.{same-sym}
+use Rattle.hgs_ops.specs.Theorems.FileGrowth.{head-others}
+use Rattle.hgs_ops.specs.Theorems.GrowLemmas.{drop-front}
+use Rattle.hgs_ops.specs.Theorems.Touch.{same-sym}
 use Rattle.hgs_path.specs.Fncache.{listing}
 use Rattle.hgs_load.specs.declared.answer.ReadAnswer.{ReadAnswer}
 use Rattle.hgs_stands.specs.Stands.{Stands}

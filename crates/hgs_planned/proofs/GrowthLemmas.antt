@@ -11,17 +11,17 @@ use Rattle.hgs_index.specs.declared.entry.Header.{Header}
 use Rattle.hgs_index.specs.Entry.{entry_bytes}
 use Rattle.hgs_index.specs.Revision.{Revision, nodes, parent_node, with_revision_at}
 use Rattle.hgs_index.specs.Revlog.{HoldsRevisions, chunk_of, entry_after, next_header}
-use Rattle.hgs_index.proofs.EntryPartLemmas.{length-entry_bytes}
-use Rattle.hgs_model.proofs.ListedLemmas.{length-nodes}
-use Rattle.hgs_model.proofs.NodeLemmas.{node_hash-node}
+use Rattle.hgs_index.specs.Theorems.EntryPartLemmas.{length-entry_bytes}
+use Rattle.hgs_model.specs.Theorems.ListedLemmas.{length-nodes}
+use Rattle.hgs_model.specs.Theorems.NodeLemmas.{node_hash-node}
 use Rattle.hgs_ops.specs.Growth.{append_some, as_stored, grown, new_chunks, new_entries, new_items, own_header}
-use Rattle.hgs_ops.proofs.GrowLemmas.{drop-front}
+use Rattle.hgs_ops.specs.Theorems.GrowLemmas.{drop-front}
 use Rattle.hgs_revlog.specs.Add.{next_entry}
 use Rattle.hgs_revlog.specs.declared.fault.Tail.TheVariants.{Refuse}
 use Rattle.hgs_revlog.specs.Held.{Agrees}
 use Rattle.hgs_revlog.specs.Load.{loaded}
 use Rattle.hgs_revlog.specs.Log.{Log, new_header, stored_sum}
-use Rattle.hgs_revlog.proofs.HeldLemmas.{stored_sum-agrees}
+use Rattle.hgs_revlog.specs.Theorems.HeldLemmas.{stored_sum-agrees}
 use Rattle.hgs_transaction.specs.OfTransaction.{IsOfTree}
 use Rattle.hgs_transaction.specs.Parts.{change_op}
 use Rattle.hgs_transaction.specs.declared.parts.Appending.{Appending}

@@ -10,10 +10,10 @@ use Rattle.std.specs.Cmp.{unsigned_ties}
 use Rattle.std.proofs.lemmas.Bool.Decides.{nat_tests}
 use Rattle.std.proofs.lemmas.List.Sums.{fails_before_first}
 use Rattle.sha1.specs.Sha1.{sha1}
-use Rattle.hgs_bytes.proofs.ByteLemmas.{same-eq}
+use Rattle.hgs_bytes.specs.Theorems.ByteLemmas.{same-eq}
 use Rattle.hgs_index.specs.Node.{null_node, node_hash}
 use Rattle.hgs_index.specs.Revision.{Parents, parent_node, same_parent, same_parents}
-use Rattle.hgs_model.proofs.ListLemmas.{and-left, and-right, bool, never, none-some}
+use Rattle.hgs_model.specs.Theorems.ListLemmas.{and-left, and-right, bool, never, none-some}
 
 eq-test : (a b : ℕ) → (a == b) ≡ true → a ≡ b
 eq-test a b e = grind (arith, nat_tests, e)

@@ -7,9 +7,9 @@ use Rattle.hgs_index.specs.Revision.{Revision}
 use Rattle.hgs_model.specs.History.{EachChangeset, History, Placed, changeset_revision, history, history_from, manifest_number, no_history, placed_of, row_of, text_at, with_changeset}
 use Rattle.hgs_model.specs.IsRepo.{IsNextChangeset}
 use Rattle.hgs_model.specs.Repo.{Changeset}
-use Rattle.hgs_model.proofs.CountLemmas.{IsSound, changelog-one, sound-more}
-use Rattle.hgs_model.proofs.HistoryLemmas.{Extends, history_from-extends}
-use Rattle.hgs_model.proofs.ListedLemmas.{node_at-front, slice_get-front, slice_get-last}
+use Rattle.hgs_model.specs.Theorems.CountLemmas.{IsSound, changelog-one, sound-more}
+use Rattle.hgs_model.specs.Theorems.HistoryLemmas.{Extends, history_from-extends}
+use Rattle.hgs_model.specs.Theorems.ListedLemmas.{node_at-front, slice_get-front, slice_get-last}
 
 pub got : {A : Type 0} (xs : List A) (i : ℕ) → i < length xs → (x : A) × (slice_get xs i ≡ Some x)
 got [] i lt = absurd (omega (arith, lt))

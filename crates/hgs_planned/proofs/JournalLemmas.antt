@@ -4,7 +4,7 @@ use Rattle.std.specs.Prelude.{◌^◌, flat_map}
 use Rattle.std.specs.List.{AllByRecursion}
 use Rattle.hgs_bytes.specs.Bytes.{among, same}
 use Rattle.hgs_bytes.specs.Text.{line}
-use Rattle.hgs_bytes.proofs.ByteLemmas.{same-eq}
+use Rattle.hgs_bytes.specs.Theorems.ByteLemmas.{same-eq}
 use Rattle.hgs_files.specs.declared.op.Op.{Op}
 use Rattle.hgs_files.specs.declared.op.Op.TheVariants.{Append, Cut, Rename, Remove, Create, Sync, Settle}
 use Rattle.hgs_files.specs.Tree.{Tree, bytes_at}
@@ -17,8 +17,8 @@ use Rattle.hgs_model.specs.declared.command.NewChange.{NewChange}
 use Rattle.hgs_ops.specs.Growth.{append_some, filelogs_grow, growth, grown, new_changelog_entry, new_chunks, new_items, new_names, new_paths}
 use Rattle.hgs_ops.specs.Operations.{journal_lines, journal_of}
 use Rattle.hgs_ops.specs.Replaced.{new_rename, new_roots, roots_change}
-use Rattle.hgs_ops.proofs.OnceLemmas.{EachPath, each-joined, filelogs-each, grown-each, some-each}
-use Rattle.hgs_ops.proofs.Touch.{bool}
+use Rattle.hgs_ops.specs.Theorems.OnceLemmas.{EachPath, each-joined, filelogs-each, grown-each, some-each}
+use Rattle.hgs_ops.specs.Theorems.Touch.{bool}
 use Rattle.hgs_path.specs.declared.name.Ext.TheVariants.{I, D}
 use Rattle.hgs_path.specs.StoreName.{store_name}
 use Rattle.hgs_stands.specs.Places.{changelog_data, changelog_index, fncache_path, manifest_data, manifest_index}

@@ -13,19 +13,19 @@ use Rattle.hgs_index.specs.Entry.{Fits, entry_bytes}
 use Rattle.hgs_index.specs.Node.{null_node}
 use Rattle.hgs_index.specs.Revision.{ParentsBefore, Revision, node_after, nodes, nodes_from}
 use Rattle.hgs_index.specs.Revlog.{HoldsRevisions, Item, Stored, all_different, entry_after, index_bytes, item_bytes, items, items_from}
-use Rattle.hgs_index.proofs.EntryPartLemmas.{length-entry_bytes}
-use Rattle.hgs_index.proofs.RevisionLemmas.{nodes_from-prefix}
-use Rattle.hgs_index.proofs.RevlogLemmas.{map-append}
+use Rattle.hgs_index.specs.Theorems.EntryPartLemmas.{length-entry_bytes}
+use Rattle.hgs_index.specs.Theorems.RevisionLemmas.{nodes_from-prefix}
+use Rattle.hgs_index.specs.Theorems.RevlogLemmas.{map-append}
 use Rattle.hgs_revlog.specs.declared.fault.RevFault.{RevFault}
 use Rattle.hgs_revlog.specs.declared.fault.RevFault.TheVariants as faults
 use Rattle.hgs_revlog.specs.declared.fault.Tail.TheVariants.{Refuse}
 use Rattle.hgs_revlog.specs.Load.{after, checked, entry_behind, fault_of, is_above, is_taken, load_from, loaded, most_data, most_revisions, most_text, unless}
 use Rattle.hgs_revlog.specs.Log.{Log, nodes_of, place_of, stored_sum, with_entry}
-use Rattle.hgs_revlog.proofs.AddedLemmas.{not_above, written-read}
-use Rattle.hgs_revlog.proofs.HeldLemmas.{among_none, swap_same}
-use Rattle.hgs_revlog.proofs.LoadLemmas.{neither}
-use Rattle.hgs_revlog.proofs.LogLemmas.{sum_push}
-use Rattle.hgs_revlog.proofs.TestLemmas.{number_test}
+use Rattle.hgs_revlog.specs.Theorems.AddedLemmas.{not_above, written-read}
+use Rattle.hgs_revlog.specs.Theorems.HeldLemmas.{among_none, swap_same}
+use Rattle.hgs_revlog.specs.Theorems.LoadLemmas.{neither}
+use Rattle.hgs_revlog.specs.Theorems.LogLemmas.{sum_push}
+use Rattle.hgs_revlog.specs.Theorems.TestLemmas.{number_test}
 
 -- a limit, or no fault
 abbrev pub IsLimitFault : RevFault → Type 0

@@ -12,7 +12,7 @@ use Rattle.hgs_revlog.specs.Held.{Agrees, AreWithinLimits, read_all}
 use Rattle.hgs_revlog.specs.Load.{loaded, most_data, most_text}
 use Rattle.hgs_revlog.specs.Loaded.{AreEntries, HaveSmallTexts}
 use Rattle.hgs_revlog.specs.Log.{Log}
-use Rattle.hgs_revlog.proofs.HeldLemmas.{stored_sum-agrees}
+use Rattle.hgs_revlog.specs.Theorems.HeldLemmas.{stored_sum-agrees}
 use Rattle.hgs_commit.specs.Texts.{OfLog}
 use Rattle.hgs_planned.specs.Below.{Below}
 use Rattle.hgs_planned.specs.Logs.{IsLogOf}

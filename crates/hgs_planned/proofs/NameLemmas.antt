@@ -10,7 +10,7 @@ use Rattle.hgs_model.specs.Step.{◌>>=◌, as_parents, done_at, named_all as mo
 use Rattle.hgs_model.specs.declared.command.Command.TheVariants.{Commit}
 use Rattle.hgs_model.specs.declared.command.NewChange.{NewChange}
 use Rattle.hgs_model.specs.declared.command.Refusal.{Refusal}
-use Rattle.hgs_model.proofs.NewChangesetLemmas.{named_all-below}
+use Rattle.hgs_model.specs.Theorems.NewChangesetLemmas.{named_all-below}
 use Rattle.hgs_steps.specs.Parents.{named_all, parents_answer}
 use Rattle.hgs_steps.specs.declared.loaded.Loaded.{Loaded}
 use Rattle.hgs_commit.specs.Commit.{commit_in, or_refused, step_on}

@@ -8,7 +8,7 @@ use Rattle.std.proofs.lemmas.List.{length-map}
 use Rattle.std.proofs.lemmas.List.Quantifiers.{position-Some}
 use Rattle.std.proofs.lemmas.Option.{get_or_from_slice_get}
 use Rattle.hgs_bytes.specs.Bytes.{among, same}
-use Rattle.hgs_bytes.proofs.ByteLemmas.{same-eq}
+use Rattle.hgs_bytes.specs.Theorems.ByteLemmas.{same-eq}
 use Rattle.hgs_files.specs.Tree.{Tree, bytes_at}
 use Rattle.hgs_index.specs.declared.entry.Entry.{Entry}
 use Rattle.hgs_index.specs.declared.kinds.Which.TheVariants as limits
@@ -16,12 +16,12 @@ use Rattle.hgs_index.specs.Entry.{entry_bytes}
 use Rattle.hgs_index.specs.Node.{node_hash, null_node}
 use Rattle.hgs_index.specs.Revision.{Parents, Revision, is_as, node_after, nodes, number_of, parent_node, same_parents, standing as standing_in, with_revision, with_revision_at}
 use Rattle.hgs_index.specs.Revlog.{all_different, chunk_of, chunk_text}
-use Rattle.hgs_index.proofs.RevisionLemmas.{nodes_from-append}
+use Rattle.hgs_index.specs.Theorems.RevisionLemmas.{nodes_from-append}
 use Rattle.hgs_loading.specs.Found.{and_then}
 use Rattle.hgs_loading.specs.Logs.{chunk_at, chunk_of_rev}
 use Rattle.hgs_model.specs.History.{node_at, text_at}
-use Rattle.hgs_model.proofs.ListLemmas.{and-left, and-right, some-same}
-use Rattle.hgs_model.proofs.ListedLemmas.{length-nodes}
+use Rattle.hgs_model.specs.Theorems.ListLemmas.{and-left, and-right, some-same}
+use Rattle.hgs_model.specs.Theorems.ListedLemmas.{length-nodes}
 use Rattle.hgs_ops.specs.Unhindered.{AreNewRevisions}
 use Rattle.hgs_load.specs.declared.answer.ReadAnswer.{ReadAnswer}
 use Rattle.hgs_revlog.specs.declared.add.Added.{Added}
@@ -33,8 +33,8 @@ use Rattle.hgs_revlog.specs.Held.{chunk_in}
 use Rattle.hgs_revlog.specs.Load.{most_data, most_revisions, most_text}
 use Rattle.hgs_revlog.specs.Log.{new_header, nodes_of, place_of, stored_sum}
 use Rattle.hgs_revlog.specs.Text.{entry_text, fitting_text, node_with, text_at as text_with, text_of}
-use Rattle.hgs_ops.proofs.GrowLemmas.{drop-front}
-use Rattle.hgs_revlog.proofs.HeldLemmas.{among_none, not_among}
+use Rattle.hgs_ops.specs.Theorems.GrowLemmas.{drop-front}
+use Rattle.hgs_revlog.specs.Theorems.HeldLemmas.{among_none, not_among}
 use Rattle.hgs_commit.specs.declared.growth.Became.TheVariants.{New as NewRevision}
 use Rattle.hgs_commit.specs.Obstacles.{Obstacle, collides, passes}
 use Rattle.hgs_commit.specs.Revised.{revised}

@@ -4,16 +4,16 @@ use Rattle.std.specs.Prelude.{Option, Some, None, slice_index_or, unwrap_or}
 use Rattle.std.proofs.lemmas.List.{map-append}
 use Rattle.hgs_index.specs.Node.{null_node}
 use Rattle.hgs_index.specs.Revision.{Parents, node_after, nodes, number_of, standing, with_revision_at}
-use Rattle.hgs_index.proofs.RevisionLemmas.{nodes_from-append}
+use Rattle.hgs_index.specs.Theorems.RevisionLemmas.{nodes_from-append}
 use Rattle.hgs_model.specs.History.{History, changeset_nodes, changeset_revision, first_of, history, manifest_with, node_at, with_changeset}
 use Rattle.hgs_model.specs.IsRepo.{IsRepo}
 use Rattle.hgs_model.specs.Repo.{Changeset, Repo, all_parents, tracked_paths, tree_at, tree_paths}
 use Rattle.hgs_model.specs.Step.{new_changeset, nothing_changed, unchanged_from, with_new}
 use Rattle.hgs_model.specs.Valid.{new_paths}
 use Rattle.hgs_model.specs.declared.command.NewChange.{NewChange}
-use Rattle.hgs_model.proofs.HistoryLemmas.{history-push, length-changelog}
-use Rattle.hgs_model.proofs.ListLemmas.{none-some}
-use Rattle.hgs_model.proofs.ListedLemmas.{length-nodes}
+use Rattle.hgs_model.specs.Theorems.HistoryLemmas.{history-push, length-changelog}
+use Rattle.hgs_model.specs.Theorems.ListLemmas.{none-some}
+use Rattle.hgs_model.specs.Theorems.ListedLemmas.{length-nodes}
 use Rattle.hgs_planned.proofs.TreeLemmas.{new-paths-are}
 
 first-none : (a b : Option ℕ) → first_of a b ≡ None → (a ≡ None) × (b ≡ None)

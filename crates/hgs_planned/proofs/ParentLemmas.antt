@@ -10,16 +10,16 @@ use Rattle.hgs_index.specs.declared.texts.ManifestFault.{ManifestFault}
 use Rattle.hgs_index.specs.declared.entry.Entry.{Entry}
 use Rattle.hgs_index.specs.Node.{null_node}
 use Rattle.hgs_index.specs.Revision.{nodes}
-use Rattle.hgs_index.proofs.ChangeTextLemmas.{change_back}
-use Rattle.hgs_index.proofs.ManifestText.{manifest_back}
-use Rattle.hgs_index.proofs.PlaceLemmas.{not-null}
+use Rattle.hgs_index.specs.Theorems.ChangeTextLemmas.{change_back}
+use Rattle.hgs_index.specs.Theorems.ManifestText.{manifest_back}
+use Rattle.hgs_index.specs.Theorems.PlaceLemmas.{not-null}
 use Rattle.hgs_loading.specs.Found.{and_then}
 use Rattle.hgs_loading.specs.Parent.{Files, change_in, rows_at, rows_in, rows_of_text}
 use Rattle.hgs_model.specs.History.{History, changeset_revision, changeset_text_value, history, manifest_number, manifest_revision, manifest_with, node_at, placed_of, row_of, rows_of, text_at}
 use Rattle.hgs_model.specs.Repo.{Changeset, Repo}
-use Rattle.hgs_model.proofs.CountLemmas.{number-below}
-use Rattle.hgs_model.proofs.ListedLemmas.{front-below, length-nodes, node_at-front, number-text, text_at-front}
-use Rattle.hgs_model.proofs.RowLemmas.{rows-good}
+use Rattle.hgs_model.specs.Theorems.CountLemmas.{number-below}
+use Rattle.hgs_model.specs.Theorems.ListedLemmas.{front-below, length-nodes, node_at-front, number-text, text_at-front}
+use Rattle.hgs_model.specs.Theorems.RowLemmas.{rows-good}
 use Rattle.hgs_load.specs.declared.answer.ReadAnswer.{ReadAnswer}
 use Rattle.hgs_load.specs.declared.answer.ReadAnswer.TheVariants.{Limit}
 use Rattle.hgs_reader.specs.Contents.{manifest_data, most_files, rows_answer}

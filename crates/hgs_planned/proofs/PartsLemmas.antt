@@ -6,7 +6,7 @@ use Rattle.std.proofs.lemmas.List.{map-append}
 use Rattle.hgs_files.specs.declared.op.Op.{Op}
 use Rattle.hgs_files.specs.Tree.{Tree}
 use Rattle.hgs_ops.specs.Replaced.{Replacement, new_rename, only_if}
-use Rattle.hgs_ops.proofs.CommitTree.{is_append}
+use Rattle.hgs_ops.specs.Theorems.CommitTree.{is_append}
 use Rattle.hgs_transaction.specs.OfTransaction.{IsOfTree}
 use Rattle.hgs_transaction.specs.Parts.{change_op, replacement_of, replacings_of}
 use Rattle.hgs_transaction.specs.declared.parts.Appending.{Appending}

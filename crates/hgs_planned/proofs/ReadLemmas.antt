@@ -14,8 +14,8 @@ use Rattle.hgs_model.specs.History.{History, Placed, file_parents, filelog_with 
 use Rattle.hgs_model.specs.Repo.{Changeset, Repo, TreeFile}
 use Rattle.hgs_model.specs.declared.command.NewChange.{NewChange}
 use Rattle.hgs_model.specs.declared.files.NewFile.{NewFile}
-use Rattle.hgs_model.proofs.CountLemmas.{file-revision-below, sound}
-use Rattle.hgs_model.proofs.ListLemmas.{none-some, some-same}
+use Rattle.hgs_model.specs.Theorems.CountLemmas.{file-revision-below, sound}
+use Rattle.hgs_model.specs.Theorems.ListLemmas.{none-some, some-same}
 use Rattle.hgs_path.specs.declared.name.Ext.{Ext}
 use Rattle.hgs_path.specs.declared.name.Ext.TheVariants.{I, D}
 use Rattle.hgs_path.specs.Fncache.{listing, lists}
@@ -28,7 +28,7 @@ use Rattle.hgs_revlog.specs.declared.fault.Tail.TheVariants.{Refuse}
 use Rattle.hgs_revlog.specs.Load.{loaded, most_revisions}
 use Rattle.hgs_revlog.specs.Log.{Log, stored_sum}
 use Rattle.hgs_stands.specs.Stands.{IsUsedName, Stands}
-use Rattle.hgs_stands.proofs.FilesLemmas.{name-used}
+use Rattle.hgs_stands.specs.Theorems.FilesLemmas.{name-used}
 use Rattle.hgs_steps.specs.Planned.{IsLoadedOf}
 use Rattle.hgs_steps.specs.declared.loaded.Loaded.{Loaded}
 use Rattle.hgs_commit.specs.Changeset.{of_changelog, of_manifest}

@@ -5,7 +5,7 @@ use Rattle.std.specs.List.{AllByRecursion, AllZip}
 use Rattle.hex.specs.Hex.{IsBytes}
 use Rattle.hgs_bytes.specs.Bytes.{among, same}
 use Rattle.hgs_bytes.specs.Text.{ascends}
-use Rattle.hgs_bytes.proofs.ByteLemmas.{same-eq, same-refl}
+use Rattle.hgs_bytes.specs.Theorems.ByteLemmas.{same-eq, same-refl}
 use Rattle.hgs_files.specs.Tree.{Tree, bytes_at}
 use Rattle.hgs_index.specs.Revision.{Parents, Revision}
 use Rattle.hgs_model.specs.History.{History, filelog_with, history, uses, with_changeset}
@@ -14,10 +14,10 @@ use Rattle.hgs_model.specs.Step.{new_changeset}
 use Rattle.hgs_model.specs.Valid.{new_paths as paths_of_files}
 use Rattle.hgs_model.specs.declared.command.Command.TheVariants.{Commit}
 use Rattle.hgs_model.specs.declared.command.NewChange.{NewChange}
-use Rattle.hgs_model.proofs.CountLemmas.{filelog-same, length-placed, uses-push}
+use Rattle.hgs_model.specs.Theorems.CountLemmas.{filelog-same, length-placed, uses-push}
 use Rattle.hgs_ops.specs.Growth.{new_paths}
 use Rattle.hgs_ops.specs.Unhindered.{AreNewRevisions, HasRoom, IsReady, IsUnhindered}
-use Rattle.hgs_ops.proofs.Touch.{bool}
+use Rattle.hgs_ops.specs.Theorems.Touch.{bool}
 use Rattle.hgs_path.specs.declared.name.Ext.{Ext}
 use Rattle.hgs_path.specs.declared.name.Ext.TheVariants.{I, D}
 use Rattle.hgs_path.specs.Fncache.{clashes, is_path_of, listing, lists}
@@ -26,7 +26,7 @@ use Rattle.hgs_path.specs.StoreName.{listed_name, store_name}
 use Rattle.hgs_revlog.specs.Load.{most_data}
 use Rattle.hgs_stands.specs.Places.{changelog_data, changelog_index, fncache_path, manifest_data, manifest_index}
 use Rattle.hgs_stands.specs.Stands.{IsUsedName, Stands}
-use Rattle.hgs_stands.proofs.FilesLemmas.{name-used}
+use Rattle.hgs_stands.specs.Theorems.FilesLemmas.{name-used}
 use Rattle.hgs_steps.specs.Planned.{IsLoadedOf}
 use Rattle.hgs_steps.specs.declared.loaded.Loaded.{Loaded}
 use Rattle.hgs_commit.specs.Changeset.{of_changelog, of_manifest}

@@ -12,7 +12,7 @@ use Rattle.hgs_model.specs.Repo.{Changeset, Repo, TreeFile, file_text}
 use Rattle.hgs_model.specs.Step.{new_changeset, new_file, new_prefix}
 use Rattle.hgs_model.specs.declared.command.NewChange.{NewChange}
 use Rattle.hgs_model.specs.declared.files.NewFile.{NewFile}
-use Rattle.hgs_model.proofs.CountLemmas.{file-revision-below, sound}
+use Rattle.hgs_model.specs.Theorems.CountLemmas.{file-revision-below, sound}
 use Rattle.hgs_path.specs.Fncache.{listing}
 use Rattle.hgs_load.specs.declared.answer.ReadAnswer.{ReadAnswer}
 use Rattle.hgs_stands.specs.Stands.{Stands}

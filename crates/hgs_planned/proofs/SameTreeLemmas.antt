@@ -7,13 +7,13 @@ use Rattle.std.specs.Ordering.{is_lt}
 use Rattle.std.proofs.lemmas.Cmp.{tied_itself}
 use Rattle.hgs_bytes.specs.Bytes.{among, is_below, same}
 use Rattle.hgs_bytes.specs.Text.{ascends}
-use Rattle.hgs_bytes.proofs.ByteLemmas.{same-eq, same-refl}
+use Rattle.hgs_bytes.specs.Theorems.ByteLemmas.{same-eq, same-refl}
 use Rattle.hgs_index.specs.declared.kinds.Flag.{Flag}
 use Rattle.hgs_index.specs.declared.kinds.Flag.TheVariants.{Plain, Exec, Link}
 use Rattle.hgs_model.specs.History.{same_flag}
 use Rattle.hgs_model.specs.Repo.{TreeFile, tree_paths}
 use Rattle.hgs_model.specs.Step.{same_file, same_tree}
-use Rattle.hgs_model.proofs.ListLemmas.{all-map, and-left, and-right, ascends-head, ascends-tail, below-trans, never, none-some, some-same}
+use Rattle.hgs_model.specs.Theorems.ListLemmas.{all-map, and-left, and-right, ascends-head, ascends-tail, below-trans, never, none-some, some-same}
 
 -- ---- files and trees that are the same
 

@@ -16,8 +16,8 @@ use Rattle.hgs_model.specs.declared.command.Command.TheVariants.{Commit}
 use Rattle.hgs_model.specs.declared.command.NewChange.{NewChange}
 use Rattle.hgs_ops.specs.Growth.{append_some, as_stored, filelogs_grow, grown, growth, new_changelog_entry, new_chunks, new_entries, new_items, new_names, new_paths, own_header}
 use Rattle.hgs_ops.specs.Replaced.{Replacement, new_bookmarks, new_dirstate, new_rename, new_roots, only_if, roots_change}
-use Rattle.hgs_ops.proofs.CommitLemmas.{growth-appends}
-use Rattle.hgs_ops.proofs.GrowLemmas.{drop-front}
+use Rattle.hgs_ops.specs.Theorems.CommitLemmas.{growth-appends}
+use Rattle.hgs_ops.specs.Theorems.GrowLemmas.{drop-front}
 use Rattle.hgs_revlog.specs.Add.{next_entry}
 use Rattle.hgs_revlog.specs.Log.{new_header, stored_sum}
 use Rattle.hgs_stands.specs.Places.{changelog_data, changelog_index, fncache_path, manifest_data, manifest_index}

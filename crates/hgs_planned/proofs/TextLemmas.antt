@@ -7,9 +7,9 @@ use Rattle.hgs_index.specs.Node.{null_node}
 use Rattle.hgs_index.specs.Revision.{Revision, parent_node}
 use Rattle.hgs_loading.specs.Logs.{chunk_at, text_in}
 use Rattle.hgs_model.specs.History.{node_at, text_at}
-use Rattle.hgs_model.proofs.ListedLemmas.{there}
+use Rattle.hgs_model.specs.Theorems.ListedLemmas.{there}
 use Rattle.hgs_reader.specs.Find.{text_answer}
-use Rattle.hgs_reader.proofs.EntryLemmas.{entry-there}
+use Rattle.hgs_reader.specs.Theorems.EntryLemmas.{entry-there}
 use Rattle.hgs_revlog.specs.Held.{chunk_in}
 use Rattle.hgs_revlog.specs.Log.{nodes_of, place_of}
 use Rattle.hgs_revlog.specs.Text.{text_of}

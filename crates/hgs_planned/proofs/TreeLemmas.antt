@@ -16,9 +16,9 @@ use Rattle.hgs_model.specs.Step.{new_changeset, new_file}
 use Rattle.hgs_model.specs.Valid.{new_paths}
 use Rattle.hgs_model.specs.declared.command.NewChange.{NewChange}
 use Rattle.hgs_model.specs.declared.files.NewFile.{NewFile}
-use Rattle.hgs_model.proofs.CountLemmas.{found-self, length-placed}
-use Rattle.hgs_model.proofs.HeldLemmas.{count}
-use Rattle.hgs_model.proofs.ListedLemmas.{length-nodes}
+use Rattle.hgs_model.specs.Theorems.CountLemmas.{found-self, length-placed}
+use Rattle.hgs_model.specs.Theorems.HeldLemmas.{count}
+use Rattle.hgs_model.specs.Theorems.ListedLemmas.{length-nodes}
 use Rattle.hgs_index.specs.declared.entry.Entry.{Entry}
 use Rattle.std.proofs.lemmas.List.{length-map}
 use Rattle.hgs_commit.specs.Changeset.{of_changelog, of_manifest}

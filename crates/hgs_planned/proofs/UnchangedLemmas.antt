@@ -5,19 +5,19 @@ use Rattle.std.specs.List.{AllByRecursion}
 use Rattle.std.proofs.lemmas.Bool.Decides.{nat_tests}
 use Rattle.hgs_bytes.specs.Bytes.{among, is_below, same}
 use Rattle.hgs_bytes.specs.Text.{ascends}
-use Rattle.hgs_bytes.proofs.ByteLemmas.{same-eq, same-refl}
+use Rattle.hgs_bytes.specs.Theorems.ByteLemmas.{same-eq, same-refl}
 use Rattle.hgs_index.specs.FileText.{body_of, prefix_of, unpacked}
 use Rattle.hgs_index.specs.Revision.{Parents, Revision, number_of, with_revision}
-use Rattle.hgs_index.proofs.FileTextLemmas.{unpacked-joins}
+use Rattle.hgs_index.specs.Theorems.FileTextLemmas.{unpacked-joins}
 use Rattle.hgs_model.specs.History.{History, Placed, changed_paths, file_parents, file_parents_of, file_revision, filelog_with, has_other_flag, history, in_order, inserted, first_of, is_changed, kept, kept_of, log_with_file, parent_file, parents_in, placed_at, placed_file, placed_of, removed_paths, rev_of_file, same_flag, text_at}
 use Rattle.hgs_model.specs.IsRepo.{HasKeptPrefix, IsRepo}
 use Rattle.hgs_model.specs.Repo.{Changeset, Repo, TreeFile, file_text, tree_at, tree_paths}
 use Rattle.hgs_model.specs.Step.{new_changeset, new_file, new_prefix, same_tree}
 use Rattle.hgs_model.specs.declared.command.NewChange.{NewChange}
 use Rattle.hgs_model.specs.declared.files.NewFile.{NewFile}
-use Rattle.hgs_model.proofs.CountLemmas.{found-self}
-use Rattle.hgs_model.proofs.ListLemmas.{all-map, found-has, found-is, never, none-some, some-same}
-use Rattle.hgs_model.proofs.ListedLemmas.{number-text, text_at-front}
+use Rattle.hgs_model.specs.Theorems.CountLemmas.{found-self}
+use Rattle.hgs_model.specs.Theorems.ListLemmas.{all-map, found-has, found-is, never, none-some, some-same}
+use Rattle.hgs_model.specs.Theorems.ListedLemmas.{number-text, text_at-front}
 use Rattle.hgs_planned.proofs.HistoryLemmas.{IsAddedAt, added, all-last, got, index-is}
 use Rattle.hgs_planned.proofs.SameTreeLemmas.{alike, found-among, same_flag-eq, same_flag-refl, same_tree-eq, same_tree-refl}
 

@@ -11,7 +11,7 @@ use Rattle.hgs_model.specs.History.{History, file_parents, first_of, history, ke
 use Rattle.hgs_model.specs.Repo.{Repo}
 use Rattle.hgs_model.specs.declared.command.NewChange.{NewChange}
 use Rattle.hgs_model.specs.declared.files.NewFile.{NewFile}
-use Rattle.hgs_model.proofs.CountLemmas.{file-revision-below, sound}
+use Rattle.hgs_model.specs.Theorems.CountLemmas.{file-revision-below, sound}
 use Rattle.hgs_path.specs.declared.name.Ext.{Ext}
 use Rattle.hgs_path.specs.declared.name.Ext.TheVariants.{I, D}
 use Rattle.hgs_path.specs.Fncache.{listing, lists}

@@ -12,9 +12,9 @@ use Rattle.hgs_model.specs.History.{History, changeset_revision, history, manife
 use Rattle.hgs_model.specs.Repo.{Changeset, Repo}
 use Rattle.hgs_model.specs.Step.{new_changeset}
 use Rattle.hgs_model.specs.declared.command.NewChange.{NewChange}
-use Rattle.hgs_model.proofs.CountLemmas.{length-placed}
-use Rattle.hgs_model.proofs.HeldLemmas.{count}
-use Rattle.hgs_model.proofs.ListedLemmas.{length-nodes}
+use Rattle.hgs_model.specs.Theorems.CountLemmas.{length-placed}
+use Rattle.hgs_model.specs.Theorems.HeldLemmas.{count}
+use Rattle.hgs_model.specs.Theorems.ListedLemmas.{length-nodes}
 use Rattle.hgs_ops.specs.Unhindered.{AreNewRevisions}
 use Rattle.hgs_load.specs.declared.answer.ReadAnswer.{ReadAnswer}
 use Rattle.hgs_revlog.specs.Log.{stored_sum}

@@ -14,8 +14,8 @@ use Rattle.hgs_load.specs.Answer.{is_of_outside}
 use Rattle.hgs_load.specs.Asks.{Asks, answer, MayAnswerWhereTold, Answers, IsPart}
 use Rattle.hgs_reader.specs.Line.{chunk_asks}
 use Rattle.hgs_load.specs.Given.{RisesBy, size_of, Gave, Takes}
-use Rattle.hgs_load.proofs.GivenLemmas.{gave-read, takes-ended}
-use Rattle.hgs_load.proofs.AskLemmas.{continues-start, continues-read, continues-answer, either}
+use Rattle.hgs_load.specs.Theorems.GivenLemmas.{gave-read, takes-ended}
+use Rattle.hgs_load.specs.Theorems.AskLemmas.{continues-start, continues-read, continues-answer, either}
 
 some_is : {A : Type 0} (x y : A) → Some x ≡ Some y → x ≡ y
 some_is x y e = cc

@@ -10,8 +10,8 @@ use Rattle.hgs_load.specs.Answer.{is_of_outside}
 use Rattle.hgs_load.specs.Asks.{Asks, answer, read, Answers, IsPart, MayAnswerWhereTold}
 use Rattle.hgs_load.specs.Given.{RisesBy, size_of, Takes}
 use Rattle.hgs_load.specs.View.{piece_length}
-use Rattle.hgs_load.proofs.AskLemmas.{continues-read, continues-start, continues-then, either}
-use Rattle.hgs_load.proofs.GivenLemmas.{gave-both, gave-read, refused-both}
+use Rattle.hgs_load.specs.Theorems.AskLemmas.{continues-read, continues-start, continues-then, either}
+use Rattle.hgs_load.specs.Theorems.GivenLemmas.{gave-both, gave-read, refused-both}
 use Rattle.hgs_reader.specs.Find.{inline_behind, separate_behind, text_asks}
 
 told-read : {B : Type 0} (before now next : Option (List Op)) (start start_now : Tree) (path : List ℕ) (from most : ℕ) (rest : Option (List ℕ) → Asks B) (part : Option (List ℕ)) (y : B) →

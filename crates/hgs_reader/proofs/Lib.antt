@@ -1,10 +1,7 @@
 pub mod ChunkLemmas
 pub mod ContentLemmas
-pub mod EntryLemmas
-pub mod FindLemmas
 pub mod FirstLemmas
 pub mod HeadLemmas
-pub mod HeldLemmas
 pub mod ItemLemmas
 pub mod NumberLemmas
 pub mod TreeLemmas

@@ -6,9 +6,9 @@ use Rattle.std.proofs.lemmas.Bool.Decides.{nat_tests}
 use Rattle.std.proofs.lemmas.List.FromFn.{get_or-range_with_len, length-range_with_len}
 use Rattle.std.proofs.lemmas.List.Quantifiers.{position-Some}
 use Rattle.hgs_bytes.specs.Bytes.{same}
-use Rattle.hgs_bytes.proofs.ByteLemmas.{same-eq, same-refl}
+use Rattle.hgs_bytes.specs.Theorems.ByteLemmas.{same-eq, same-refl}
 use Rattle.hgs_model.specs.Names.{number_named}
-use Rattle.hgs_model.proofs.NameLemmas.{number-named}
+use Rattle.hgs_model.specs.Theorems.NameLemmas.{number-named}
 
 both_true : (a b : Bool) → (a && b) ≡ true → (a ≡ true) × (b ≡ true)
 both_true true b e = (refl, e)

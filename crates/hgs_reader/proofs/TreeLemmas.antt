@@ -14,7 +14,7 @@ use Rattle.hgs_index.specs.Manifest.{Row, AreRows, manifest_text, read_manifest}
 use Rattle.hgs_index.specs.Node.{null_node}
 use Rattle.hgs_index.specs.Revision.{Revision}
 use Rattle.hgs_index.specs.Revlog.{BeginsWithRevisions, HoldsRevisions}
-use Rattle.hgs_index.proofs.ManifestText.{manifest_back}
+use Rattle.hgs_index.specs.Theorems.ManifestText.{manifest_back}
 use Rattle.hgs_manifest.specs.Held.{found_in}
 use Rattle.hgs_path.specs.Check.{checked}
 use Rattle.hgs_path.specs.StoreName.{store_name}
@@ -27,10 +27,10 @@ use Rattle.hgs_reader.specs.Find.{inline_behind, separate_asks, separate_behind,
 use Rattle.hgs_reader.specs.Held.{HasText}
 use Rattle.hgs_reader.specs.Line.{change_asks}
 use Rattle.hgs_load.specs.View.{View, piece_length}
-use Rattle.hgs_reader.proofs.HeldLemmas.{held-text}
-use Rattle.hgs_load.proofs.AskLemmas.{prefix-trans}
-use Rattle.hgs_load.proofs.OpenedLemmas.{rest_then}
-use Rattle.hgs_load.proofs.PartLemmas.{part_is}
+use Rattle.hgs_reader.specs.Theorems.HeldLemmas.{held-text}
+use Rattle.hgs_load.specs.Theorems.AskLemmas.{prefix-trans}
+use Rattle.hgs_load.specs.Theorems.OpenedLemmas.{rest_then}
+use Rattle.hgs_load.specs.Theorems.PartLemmas.{part_is}
 
 abbrev pub SaysSeparate : Type 0
 SaysSeparate = (index data_bytes more : List ℕ) (first : Revision) (revisions : List Revision) → HoldsRevisions index data_bytes (first ∷ revisions) → is_inline (index ++ more) ≡ false

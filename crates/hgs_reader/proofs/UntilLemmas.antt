@@ -9,8 +9,8 @@ use Rattle.hgs_load.specs.Asks.{Asks, answer, read, IsPart, Continues, MayAnswer
 use Rattle.hgs_reader.specs.Find.{is_far, pieces_until}
 use Rattle.hgs_load.specs.View.{piece_length}
 use Rattle.hgs_load.specs.Given.{RisesBy, size_of, Gave}
-use Rattle.hgs_load.proofs.GivenLemmas.{gave-read, gave-both}
-use Rattle.hgs_load.proofs.AskLemmas.{continues-read, continues-answer}
+use Rattle.hgs_load.specs.Theorems.GivenLemmas.{gave-read, gave-both}
+use Rattle.hgs_load.specs.Theorems.AskLemmas.{continues-read, continues-answer}
 
 -- what is asked once so much was read, the last piece being this one
 abbrev pub asks_behind : Bool → List ℕ → List ℕ → ℕ → List ℕ → List ℕ → Asks (Result (List ℕ) ReadAnswer)

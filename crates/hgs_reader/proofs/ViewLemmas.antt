@@ -16,9 +16,9 @@ use Rattle.hgs_load.specs.Asks.{answer, at_rest, then_asks}
 use Rattle.hgs_reader.specs.Contents.{tree_asks, cat_asks, tracked_node, file_node, body_asks}
 use Rattle.hgs_reader.specs.Line.{chunk_asks, change_asks, change_at, change_of_chunk, change_of_text}
 use Rattle.hgs_load.specs.View.{View, changelog_data}
-use Rattle.hgs_reader.proofs.HeldLemmas.{read_there}
-use Rattle.hgs_load.proofs.PartLemmas.{part_is}
-use Rattle.hgs_load.proofs.OpenedLemmas.{rest_then}
+use Rattle.hgs_reader.specs.Theorems.HeldLemmas.{read_there}
+use Rattle.hgs_load.specs.Theorems.PartLemmas.{part_is}
+use Rattle.hgs_load.specs.Theorems.OpenedLemmas.{rest_then}
 
 -- ---- a changeset
 

@@ -5,3 +5,4 @@ pub mod Held
 pub mod Line
 pub mod Names
 pub mod Shown
+pub mod Theorems

@@ -21,11 +21,11 @@ use Rattle.hgs_revlog.specs.Load.{entry_behind, ends_at, at_end, after, load_fro
 use Rattle.hgs_revlog.specs.Loaded.{AreEntries, HaveNodes}
 use Rattle.hgs_revlog.specs.Log.{Log, with_entry, place_of, stored_sum}
 use Rattle.hgs_revlog.proofs.FormLemmas.{loads-apart, marked-first, marked-length, marked-number, marked-rest}
-use Rattle.hgs_revlog.proofs.LoadLemmas.{taken_entry, faultless}
+use Rattle.hgs_revlog.specs.Theorems.LoadLemmas.{taken_entry, faultless}
 use Rattle.hgs_revlog.proofs.LoadedLemmas.{end_is, entry-read, get-kept, load_holds, loaded-entries, loaded-nodes}
-use Rattle.hgs_revlog.proofs.LogLemmas.{sum_push}
-use Rattle.hgs_revlog.proofs.ReadLemmas.{bytes_drop, bytes_take, loaded-front, read_entry, slice_get_seam}
-use Rattle.hgs_revlog.proofs.StandingLemmas.{held-loaded}
+use Rattle.hgs_revlog.specs.Theorems.LogLemmas.{sum_push}
+use Rattle.hgs_revlog.specs.Theorems.ReadLemmas.{bytes_drop, bytes_take, loaded-front, read_entry, slice_get_seam}
+use Rattle.hgs_revlog.specs.Theorems.StandingLemmas.{held-loaded}
 
 -- ---- for either form
 

@@ -4,13 +4,13 @@ use Rattle.std.proofs.lemmas.List.{take_all}
 use Rattle.hgs_index.specs.declared.entry.Entry.{Entry}
 use Rattle.hgs_index.specs.Revision.{Parents, Revision, node_after}
 use Rattle.hgs_index.specs.Revlog.{HoldsRevisions, Stored, items_from}
-use Rattle.hgs_index.proofs.RevlogLemmas.{length-held}
+use Rattle.hgs_index.specs.Theorems.RevlogLemmas.{length-held}
 use Rattle.hgs_revlog.specs.declared.fault.Tail.TheVariants.{Ignore, Refuse}
 use Rattle.hgs_revlog.specs.Held.{Agrees, AreWithinLimits, read_all}
 use Rattle.hgs_revlog.specs.Load.{loaded}
 use Rattle.hgs_revlog.specs.Log.{Log}
-use Rattle.hgs_revlog.proofs.StandingLemmas.{held-loaded}
-use Rattle.hgs_revlog.proofs.TailLemmas.{ignore-refuse}
+use Rattle.hgs_revlog.specs.Theorems.StandingLemmas.{held-loaded}
+use Rattle.hgs_revlog.specs.Theorems.TailLemmas.{ignore-refuse}
 
 abbrev parents_of_entries : List Entry → List Parents
 parents_of_entries entries = map (λ e. (e.p1, e.p2)) entries

@@ -14,7 +14,7 @@ use Rattle.hgs_revlog.specs.declared.fault.Tail.TheVariants.{Ignore, Refuse, Unt
 use Rattle.hgs_revlog.specs.declared.fault.Tail as tails
 use Rattle.hgs_revlog.specs.Log.{Log, with_entry}
 use Rattle.hgs_revlog.specs.Load.{entry_behind, checked, ends_at, at_end, after, load_from, cell_of, loaded_either, loaded, in_form}
-use Rattle.hgs_revlog.proofs.LoadLemmas.{load_rest}
+use Rattle.hgs_revlog.specs.Theorems.LoadLemmas.{load_rest}
 
 -- ---- the form of what is loaded_either
 

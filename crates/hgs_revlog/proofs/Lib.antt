@@ -1,16 +1,6 @@
-pub mod AddLemmas
-pub mod AddedLemmas
 pub mod ApartLemmas
 pub mod EntriesLemmas
 pub mod FormLemmas
-pub mod HeldLemmas
-pub mod LoadLemmas
 pub mod LoadedLemmas
-pub mod LogLemmas
-pub mod ReadLemmas
 pub mod SpanLemmas
-pub mod StandingLemmas
-pub mod TailHeldLemmas
-pub mod TailLemmas
-pub mod TestLemmas
 pub mod PlaceFrontLemmas

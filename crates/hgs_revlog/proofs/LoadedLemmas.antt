@@ -19,10 +19,10 @@ use Rattle.hgs_revlog.specs.declared.fault.Tail as tails
 use Rattle.hgs_revlog.specs.Log.{Log, with_entry, place_of, stored_sum, nodes_of}
 use Rattle.hgs_revlog.specs.Load.{most_revisions, most_text, most_data, entry_behind, ends_at, at_end, after, load_from, loaded, pushed}
 use Rattle.hgs_revlog.specs.Loaded.{parents_in, HaveNodes, HaveOwnNodes, HaveOffsets, HaveSmallTexts, AreEntries}
-use Rattle.hgs_revlog.proofs.LoadLemmas.{IsFaultless, faultless, taken_entry, neither}
-use Rattle.hgs_revlog.proofs.HeldLemmas.{below, not_among}
-use Rattle.hgs_revlog.proofs.LogLemmas.{position_push_none, position_push_some, same_itself, sum_push}
-use Rattle.hgs_revlog.proofs.ReadLemmas.{bytes_take, bytes_drop, read_entry}
+use Rattle.hgs_revlog.specs.Theorems.LoadLemmas.{IsFaultless, faultless, taken_entry, neither}
+use Rattle.hgs_revlog.specs.Theorems.HeldLemmas.{below, not_among}
+use Rattle.hgs_revlog.specs.Theorems.LogLemmas.{position_push_none, position_push_some, same_itself, sum_push}
+use Rattle.hgs_revlog.specs.Theorems.ReadLemmas.{bytes_take, bytes_drop, read_entry}
 
 ok_is : (x y : Log) → (let a : Result Log RevFault = Ok x in a) ≡ Ok y → x ≡ y
 ok_is x y e = cc

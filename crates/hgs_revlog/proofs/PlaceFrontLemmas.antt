@@ -3,7 +3,7 @@ use Rattle.std.proofs.Common.{◌≡◌, ◌⊎◌, ℕ, ◌≤◌, List, [], �
 use Rattle.hgs_bytes.specs.Bytes.{same}
 use Rattle.hgs_index.specs.declared.entry.Entry.{Entry}
 use Rattle.hgs_revlog.specs.Log.{place_of}
-use Rattle.hgs_revlog.proofs.LogLemmas.{position_push_none, position_push_some}
+use Rattle.hgs_revlog.specs.Theorems.LogLemmas.{position_push_none, position_push_some}
 
 pub place-stays : (node : List ℕ) (i : ℕ) (front back : List Entry) → place_of front node ≡ Some i → place_of (front ++ back) node ≡ Some i
 place-stays node i front [] e = ap (λ l. place_of l node) (append-nil front) ∙ e

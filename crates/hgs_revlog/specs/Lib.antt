@@ -6,3 +6,4 @@ pub mod Load
 pub mod Loaded
 pub mod Log
 pub mod Text
+pub mod Theorems

@@ -25,8 +25,8 @@ use Rattle.hgs_stands.specs.Samples.{File, over, sample_node, third_begun, third
 use Rattle.hgs_stands.specs.Shows.{BeginsAt, Shows}
 use Rattle.hgs_stands.specs.Stands.{HoldsAt}
 use Rattle.hgs_stands.proofs.SampleLemmas.{a-holds, b-holds, changelog-holds, dirstate-read, lines-read, manifest-holds, roots-read, sample-stands, sample_roots, small, used-path}
-use Rattle.hgs_stands.proofs.Basics.{never, same-eq}
-use Rattle.hgs_stands.proofs.Below.{SampleLaws}
+use Rattle.hgs_stands.specs.Theorems.Basics.{never, same-eq}
+use Rattle.hgs_stands.specs.Theorems.Below.{SampleLaws}
 
 most : (a b : ℕ) → nat_le a b ≡ true → a ≤ b
 most a b e = grind (arith, nat_tests, e)

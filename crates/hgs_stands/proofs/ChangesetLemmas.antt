@@ -12,8 +12,8 @@ use Rattle.hgs_index.specs.Revlog.{all_different}
 use Rattle.hgs_model.specs.Held.{IsHeld, IsPlacedIn}
 use Rattle.hgs_model.specs.Repo.{TreeFile, Changeset, file_text}
 use Rattle.hgs_model.specs.History.{History, node_at, text_at}
-use Rattle.hgs_stands.proofs.Below.{HistoryLaws, TextLaws}
-use Rattle.hgs_stands.proofs.Basics.{some-same}
+use Rattle.hgs_stands.specs.Theorems.Below.{HistoryLaws, TextLaws}
+use Rattle.hgs_stands.specs.Theorems.Basics.{some-same}
 
 -- ---- texts have one value
 

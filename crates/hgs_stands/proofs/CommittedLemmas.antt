@@ -14,8 +14,8 @@ use Rattle.hgs_path.specs.StoreName.{store_name}
 use Rattle.hgs_stands.specs.Committed.{HasRevision, IsRowOf, IsCommitted}
 use Rattle.hgs_stands.specs.Places.{manifest_index, manifest_data}
 use Rattle.hgs_stands.specs.Stands.{HoldsAt, Stands}
-pub use Rattle.hgs_model.proofs.UsedLemmas.{used-paths}
-use Rattle.hgs_stands.proofs.Below.{HistoryLaws}
+pub use Rattle.hgs_model.specs.Theorems.UsedLemmas.{used-paths}
+use Rattle.hgs_stands.specs.Theorems.Below.{HistoryLaws}
 
 -- ---- revlogs have the revisions
 

@@ -1,3 +1,3 @@
 -- The files of a changeset.
 pub use Rattle.hgs_model.specs.Held.{IsPlacedIn}
-pub use Rattle.hgs_model.proofs.PlacedLemmas.{all-placed-front, files-placed}
+pub use Rattle.hgs_model.specs.Theorems.PlacedLemmas.{all-placed-front, files-placed}

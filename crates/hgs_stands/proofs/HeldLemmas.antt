@@ -1,3 +1,3 @@
 -- What the revisions say of each changeset.
 pub use Rattle.hgs_model.specs.Held.{IsHeld}
-pub use Rattle.hgs_model.proofs.HeldLemmas.{count, held}
+pub use Rattle.hgs_model.specs.Theorems.HeldLemmas.{count, held}

@@ -29,9 +29,9 @@ use Rattle.hgs_stands.specs.Same.{SameAt}
 use Rattle.hgs_stands.specs.Samples.{other_node, sample_names, sample_node, sample_words, tracking, two_drafts, two_drafts_files, with_bytes}
 use Rattle.hgs_stands.specs.Stands.{IsClean, IsUsedName, Stands}
 use Rattle.hgs_stands.proofs.SampleLemmas.{ascii, first-bytes, first_node, lines-read, listed-in, roots-read, sample-stands, sample_roots, small, used-path}
-use Rattle.hgs_stands.proofs.StayLemmas.{revlogs-stay}
-use Rattle.hgs_stands.proofs.Basics.{never, some-same}
-use Rattle.hgs_stands.proofs.Below.{SampleLaws}
+use Rattle.hgs_stands.specs.Theorems.StayLemmas.{revlogs-stay}
+use Rattle.hgs_stands.specs.Theorems.Basics.{never, some-same}
+use Rattle.hgs_stands.specs.Theorems.Below.{SampleLaws}
 
 -- ---- what may differ
 

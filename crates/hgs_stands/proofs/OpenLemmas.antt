@@ -9,19 +9,19 @@ use Rattle.hgs_journal.specs.declared.backups.BackupLine.{BackupLine}
 use Rattle.hgs_journal.specs.declared.journal.JournalLine.{JournalLine}
 use Rattle.hgs_journal.specs.Covers.{Covers, HasOwnStrays, IsRestored, ReadsAs, Restores, undo_ops}
 use Rattle.hgs_journal.specs.Names.{journal_path}
-use Rattle.hgs_journal.proofs.UndoStops.{reads-of, read-covers, undo-leads}
+use Rattle.hgs_journal.specs.Theorems.UndoStops.{reads-of, read-covers, undo-leads}
 use Rattle.hgs_model.specs.Repo.{Repo}
 use Rattle.hgs_stands.specs.Open.{IsOpen}
 use Rattle.hgs_stands.specs.Places.{requires_path}
 use Rattle.hgs_stands.specs.Requires.{IsInProfile, needed, words_of}
 use Rattle.hgs_stands.specs.Same.{AreStrays}
 use Rattle.hgs_stands.specs.Stands.{Stands}
-use Rattle.hgs_stands.proofs.Below.{HistoryLaws, NameLaws, TextLaws}
-use Rattle.hgs_stands.proofs.LooseLemmas.{not-loose, same-beside}
-use Rattle.hgs_stands.proofs.Lower as lower
+use Rattle.hgs_stands.specs.Theorems.Below.{HistoryLaws, NameLaws, TextLaws}
+use Rattle.hgs_stands.specs.Theorems.LooseLemmas.{not-loose, same-beside}
+use Rattle.hgs_stands.specs.Theorems.Lower as lower
 use Rattle.hgs_stands.proofs.SameLemmas.{stands-once}
-use Rattle.hgs_stands.proofs.StayLemmas.{stands-on}
-use Rattle.hgs_stands.proofs.Basics.{never, none-some, some-same}
+use Rattle.hgs_stands.specs.Theorems.StayLemmas.{stands-on}
+use Rattle.hgs_stands.specs.Theorems.Basics.{never, none-some, some-same}
 
 restored-bytes : (now before : Option (List ℕ)) → IsRestored now before → unwrap_or now [] ≡ unwrap_or before []
 restored-bytes now before (inl e) = ap (λ o. unwrap_or o []) e

@@ -22,10 +22,10 @@ use Rattle.hgs_phases.specs.Phases.{phases_by}
 use Rattle.hgs_phases.specs.Roots.{read_roots}
 use Rattle.hgs_stands.specs.Places.{bookmarks_path, dirstate_path, roots_path, changelog_index, changelog_data, manifest_index, manifest_data}
 use Rattle.hgs_stands.specs.Stands.{HoldsChangesets, HasPhases, HasBookmarks, HasDirstate, Stands, changeset_entries, mark_of}
-use Rattle.hgs_stands.proofs.Below.{HistoryLaws, TextLaws}
-use Rattle.hgs_stands.proofs.Lower as lower
+use Rattle.hgs_stands.specs.Theorems.Below.{HistoryLaws, TextLaws}
+use Rattle.hgs_stands.specs.Theorems.Lower as lower
 use Rattle.hgs_stands.proofs.ChangesetLemmas.{SameLogs, changeset-same}
-use Rattle.hgs_stands.proofs.Basics.{never}
+use Rattle.hgs_stands.specs.Theorems.Basics.{never}
 
 -- ---- the changesets
 

@@ -33,8 +33,8 @@ use Rattle.hgs_path.specs.StoreName.{store_name}
 use Rattle.hgs_stands.specs.Places.{bookmarks_path, dirstate_path, roots_path, changelog_index, changelog_data, manifest_index, manifest_data}
 use Rattle.hgs_stands.specs.Samples.{first_draft, sample_names, second_draft, two_drafts, two_drafts_files}
 use Rattle.hgs_stands.specs.Stands.{HoldsAt, ListsFilelogs, Stands, IsClean}
-use Rattle.hgs_stands.proofs.Basics.{and-both, and-left, and-right, never, none-some, same-eq, some-same}
-use Rattle.hgs_stands.proofs.Below.{SampleLaws}
+use Rattle.hgs_stands.specs.Theorems.Basics.{and-both, and-left, and-right, never, none-some, same-eq, some-same}
+use Rattle.hgs_stands.specs.Theorems.Below.{SampleLaws}
 
 -- ---- revlogs whose chunks are those that are written
 

@@ -11,8 +11,8 @@ use Rattle.hgs_load.specs.Asks.{at_rest}
 use Rattle.hgs_reader.specs.Line.{chunk_asks, change_asks, change_at, change_of_chunk, change_of_text}
 use Rattle.hgs_load.specs.View.{View, changelog_data}
 use Rattle.hgs_load.specs.Open.{open_asks}
-use Rattle.hgs_reader.proofs.HeldLemmas.{read_there, read_length}
-use Rattle.hgs_load.proofs.PartLemmas.{part_is}
+use Rattle.hgs_reader.specs.Theorems.HeldLemmas.{read_there, read_length}
+use Rattle.hgs_load.specs.Theorems.PartLemmas.{part_is}
 use Rattle.hgs_top.specs.History.{Changeset, HoldsHistory, IsRead, revisions_of, Opens}
 use Rattle.hgs_top.proofs.HistoryLemmas.{history-opens}
 

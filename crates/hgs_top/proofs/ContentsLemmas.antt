@@ -11,8 +11,8 @@ use Rattle.hgs_load.specs.Asks.{at_rest, Answers, AddsAnswer}
 use Rattle.hgs_reader.specs.Names.{named}
 use Rattle.hgs_load.specs.View.{View}
 use Rattle.hgs_load.specs.Open.{open_asks}
-use Rattle.hgs_load.proofs.AskLemmas.{either}
-use Rattle.hgs_load.proofs.RestLemmas.{answers_at_rest, refused_at_rest, adds_at_rest, adds_refused_at_rest}
+use Rattle.hgs_load.specs.Theorems.AskLemmas.{either}
+use Rattle.hgs_load.specs.Theorems.RestLemmas.{answers_at_rest, refused_at_rest, adds_at_rest, adds_refused_at_rest}
 use Rattle.hgs_top.specs.declared.stopped.Said.TheVariants.{Whole, UnknownRevision}
 use Rattle.hgs_top.specs.declared.stopped.Said.{Said}
 use Rattle.hgs_top.specs.declared.stopped.Stopped.{Stopped}

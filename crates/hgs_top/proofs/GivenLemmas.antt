@@ -10,7 +10,7 @@ use Rattle.hgs_load.specs.Asks.{Asks, answer, then_asks}
 use Rattle.hgs_load.specs.Given.{Gave, GaveRefused, TakesText}
 use Rattle.hgs_load.specs.Open.{open_asks}
 use Rattle.hgs_load.specs.View.{View}
-use Rattle.hgs_load.proofs.GivenLemmas.{gave-none, gave-then, gave-both}
+use Rattle.hgs_load.specs.Theorems.GivenLemmas.{gave-none, gave-then, gave-both}
 use Rattle.hgs_reader.specs.Line.{line_asks}
 use Rattle.hgs_reader.specs.Names.{named}
 use Rattle.hgs_top.specs.Given.{lines_reads, reads_of_rev, contents_reads, ReadsOnly}

@@ -14,7 +14,7 @@ use Rattle.hgs_index.specs.ChangeText.{Change, read_change}
 use Rattle.hgs_index.specs.Hex.{hex}
 use Rattle.hgs_index.specs.Node.{null_node}
 use Rattle.hgs_index.specs.Revision.{Revision, nodes}
-use Rattle.hgs_index.proofs.RevisionLemmas.{length-nodes_from}
+use Rattle.hgs_index.specs.Theorems.RevisionLemmas.{length-nodes_from}
 use Rattle.hgs_revlog.specs.declared.fault.RevFault.{RevFault}
 use Rattle.hgs_revlog.specs.Held.{AreWithinLimits, chunk_in, revision_of, with_text, read_from, read_all}
 use Rattle.hgs_revlog.specs.declared.fault.Tail.{Tail}
@@ -23,16 +23,16 @@ use Rattle.hgs_revlog.specs.Load.{loaded, most_revisions}
 use Rattle.hgs_revlog.specs.Loaded.{AreEntries}
 use Rattle.hgs_revlog.specs.Log.{Log, nodes_of}
 use Rattle.hgs_revlog.specs.Text.{text_of}
-use Rattle.hgs_revlog.proofs.HeldLemmas.{nodes_of-agrees}
-use Rattle.hgs_revlog.proofs.ReadLemmas.{with_text_ok, slice_get_seam}
-use Rattle.hgs_revlog.proofs.TailHeldLemmas.{held-ignored, ignored-held}
-use Rattle.hgs_revlog.proofs.TailLemmas.{ignore-refuse, load_length}
+use Rattle.hgs_revlog.specs.Theorems.HeldLemmas.{nodes_of-agrees}
+use Rattle.hgs_revlog.specs.Theorems.ReadLemmas.{with_text_ok, slice_get_seam}
+use Rattle.hgs_revlog.specs.Theorems.TailHeldLemmas.{held-ignored, ignored-held}
+use Rattle.hgs_revlog.specs.Theorems.TailLemmas.{ignore-refuse, load_length}
 use Rattle.hgs_load.specs.declared.answer.ReadAnswer.{ReadAnswer}
 use Rattle.hgs_load.specs.Asks.{Asks, answer, part_of, at_rest}
 use Rattle.hgs_reader.specs.Line.{field, parent_text, change_fields, line_asks, line_at, line_text, line_of_entry, line_of_change, chunk_asks, change_of_chunk, change_of_text}
 use Rattle.hgs_load.specs.View.{View, changelog_index, changelog_data, pieces_then, piece_length, most_pieces, log_answer}
 use Rattle.hgs_load.specs.Open.{open_asks, log_asks, log_of}
-use Rattle.hgs_load.proofs.OpenedLemmas.{opened_log}
+use Rattle.hgs_load.specs.Theorems.OpenedLemmas.{opened_log}
 use Rattle.hgs_top.proofs.OpenLemmas.{opening}
 use Rattle.hgs_top.specs.History.{Changeset, revisions_of, IsRead, HoldsHistory, line_among, lines_from, history_text, Opens}
 use Rattle.hgs_top.specs.Outcome.{Outcome, line_then, lines_down, lines_of_view, log_of_view, log_outcome}

@@ -1,8 +1,8 @@
 -- Making a repository, call after call.
 use Rattle.std.proofs.Common.{◌≡◌, ℕ, List, [], ◌∷◌, ◌++◌, Option, Some, None, Result, Ok, Err, IsSome, unwrap_or, refl, sym, ◌∙◌, ap, subst, append-nil, append_assoc}
 use Rattle.std.proofs.lemmas.Option.{none-some}
-use Rattle.hgs_files.proofs.LogLemmas.{after-done, done-append, done-behind, done-whole}
-use Rattle.hgs_files.proofs.TreeLemmas.{after_all-append, with_file-same}
+use Rattle.hgs_files.specs.Theorems.LogLemmas.{after-done, done-append, done-behind, done-whole}
+use Rattle.hgs_files.specs.Theorems.TreeLemmas.{after_all-append, with_file-same}
 use Rattle.hgs_files.specs.Files.{GoesOn, LeavesPieces, LeavesWhole}
 use Rattle.hgs_files.specs.Log.{IsDone}
 use Rattle.hgs_files.specs.Tree.{Tree, after_all}

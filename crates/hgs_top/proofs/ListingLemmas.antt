@@ -8,7 +8,7 @@ use Rattle.hgs_load.specs.declared.answer.ReadAnswer.TheVariants.{Memory}
 use Rattle.hgs_load.specs.Asks.{at_rest, Answers}
 use Rattle.hgs_load.specs.View.{View}
 use Rattle.hgs_load.specs.Open.{open_asks}
-use Rattle.hgs_load.proofs.RestLemmas.{answers_at_rest}
+use Rattle.hgs_load.specs.Theorems.RestLemmas.{answers_at_rest}
 use Rattle.hgs_top.specs.declared.stopped.Stopped.{Stopped}
 use Rattle.hgs_top.specs.declared.stopped.Stopped.TheVariants.{Refused}
 use Rattle.hgs_top.specs.Outcome.{Outcome, listing_text, listing_of_view, listing_of_load, listing_outcome}

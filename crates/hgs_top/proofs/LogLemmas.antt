@@ -12,8 +12,8 @@ use Rattle.hgs_load.specs.Asks.{at_rest, Answers, AddsAnswer}
 use Rattle.hgs_reader.specs.Line.{line_asks}
 use Rattle.hgs_load.specs.View.{View}
 use Rattle.hgs_load.specs.Open.{open_asks}
-use Rattle.hgs_load.proofs.AskLemmas.{either}
-use Rattle.hgs_load.proofs.RestLemmas.{answers_at_rest, refused_at_rest, adds_at_rest, adds_refused_at_rest}
+use Rattle.hgs_load.specs.Theorems.AskLemmas.{either}
+use Rattle.hgs_load.specs.Theorems.RestLemmas.{answers_at_rest, refused_at_rest, adds_at_rest, adds_refused_at_rest}
 use Rattle.hgs_top.specs.declared.stopped.Stopped.{Stopped}
 use Rattle.hgs_top.specs.declared.stopped.Stopped.TheVariants.{Refused, Unwritten}
 use Rattle.hgs_top.specs.Outcome.{Outcome, refused, line_then, lines_down, lines_of_view, log_of_view, log_outcome}

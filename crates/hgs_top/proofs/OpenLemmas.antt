@@ -11,8 +11,8 @@ use Rattle.hgs_load.specs.Asks.{answer, at_rest, then_asks}
 use Rattle.hgs_load.specs.Marks.{known_parent, parent_answer, both_parents, working_answer}
 use Rattle.hgs_load.specs.Open.{requires_asks, bookmarks_asks, dirstate_asks, log_asks, roots_asks, view_with, view_of, open_asks}
 use Rattle.hgs_load.specs.View.{View}
-use Rattle.hgs_revlog.proofs.TailHeldLemmas.{position_map}
-use Rattle.hgs_load.proofs.OpenedLemmas.{rest_then}
+use Rattle.hgs_revlog.specs.Theorems.TailHeldLemmas.{position_map}
+use Rattle.hgs_load.specs.Theorems.OpenedLemmas.{rest_then}
 use Rattle.hgs_top.specs.History.{IsKnown, Opens}
 
 -- ---- what opens

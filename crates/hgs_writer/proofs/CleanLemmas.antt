@@ -7,7 +7,7 @@ use Rattle.hgs_commit.specs.declared.fault.CommitFault.{CommitFault}
 use Rattle.hgs_commit.specs.declared.fault.CommitFault.TheVariants as commits
 use Rattle.hgs_files.specs.declared.op.Op.{Op}
 use Rattle.hgs_files.specs.Tree.{Tree, after_all}
-use Rattle.hgs_files.proofs.TreeLemmas.{after_all-append}
+use Rattle.hgs_files.specs.Theorems.TreeLemmas.{after_all-append}
 use Rattle.hgs_index.specs.declared.node.Node.{Node}
 use Rattle.hgs_machine.specs.Course.{CarriedOut, lock_removals}
 use Rattle.hgs_journal.specs.Names.{journal_path}

@@ -34,7 +34,7 @@ use Rattle.hgs_revlog.specs.Load.{loaded, most_revisions}
 use Rattle.hgs_revlog.specs.Log.{Log, nodes_of, stored_sum}
 use Rattle.hgs_revlog.specs.declared.fault.RevFault.TheVariants as faults
 use Rattle.hgs_revlog.specs.declared.fault.Tail.TheVariants.{Refuse}
-use Rattle.hgs_revlog.proofs.HeldLemmas.{stored_sum-agrees}
+use Rattle.hgs_revlog.specs.Theorems.HeldLemmas.{stored_sum-agrees}
 use Rattle.hgs_shown.specs.Shown.{working_nodes}
 use Rattle.hgs_stands.specs.Stands.{Stands}
 use Rattle.hgs_writer.specs.Limits.{LoadsWithin}

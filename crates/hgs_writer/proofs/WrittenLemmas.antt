@@ -4,7 +4,7 @@ use Rattle.std.specs.Prelude.{Option, Some, None, IfSome}
 use Rattle.hgs_files.specs.declared.op.Op.{Op}
 use Rattle.hgs_files.specs.Files.{GoesOn}
 use Rattle.hgs_files.specs.Tree.{Tree, after_all}
-use Rattle.hgs_files.proofs.TreeLemmas.{after_all-append}
+use Rattle.hgs_files.specs.Theorems.TreeLemmas.{after_all-append}
 use Rattle.hgs_machine.specs.Carry.{tree_now}
 
 pub as_well : (before after : Option (List Op)) (P Q : List Op → Type 0) → ((more : List Op) → P more → Q more) → GoesOn before after P → GoesOn before after Q

@@ -1,5 +1,5 @@
 use Rattle.std.proofs.Common.{sym}
-use Rattle.hgs_bytes.proofs.TextLemmas.{lines_split, lines_last_of, split_shorter}
+use Rattle.hgs_bytes.specs.Theorems.TextLemmas.{lines_split, lines_last_of, split_shorter}
 use Rattle.hgs_bytes.proofs.parts.next_line.Goals as goal
 
 pub returns-in-Some-clause-lines : goal.returns-in-Some-clause-lines

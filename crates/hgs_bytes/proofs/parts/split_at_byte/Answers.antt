@@ -1,6 +1,6 @@
 use Rattle.std.proofs.Common.{◌+◌, sym, ◌∙◌, ap, take, Some}
 use Rattle.std.proofs.lemmas.List.{take_rest}
-use Rattle.hgs_bytes.proofs.TextLemmas.{split_found, split_missing}
+use Rattle.hgs_bytes.specs.Theorems.TextLemmas.{split_found, split_missing}
 use Rattle.hgs_bytes.proofs.parts.split_at_byte.Goals as goal
 
 pub returns-in-Some : goal.returns-in-Some

@@ -1,6 +1,6 @@
 use Rattle.std.proofs.Common.{sym}
-use Rattle.hgs_bytes.proofs.TextLemmas.{split_shorter}
-use Rattle.hgs_index.proofs.HeaderText.{header_lines_split, header_lines_last}
+use Rattle.hgs_bytes.specs.Theorems.TextLemmas.{split_shorter}
+use Rattle.hgs_index.specs.Theorems.HeaderText.{header_lines_split, header_lines_last}
 use Rattle.hgs_changelog.proofs.header.first_line.Goals as goal
 
 pub returns-in-Some-clause-lines : goal.returns-in-Some-clause-lines

@@ -1,6 +1,6 @@
 use Rattle.std.proofs.Common.{◌+◌, ◌∙◌, ap, take, Some, None}
 use Rattle.std.proofs.lemmas.List.{take_rest}
-use Rattle.hgs_bytes.proofs.TwoLemmas.{two_answer}
+use Rattle.hgs_bytes.specs.Theorems.TwoLemmas.{two_answer}
 use Rattle.hgs_index.specs.ChangeText.{split_at_blank}
 use Rattle.hgs_changelog.proofs.header.header_and_description.Goals as goal
 

@@ -3,7 +3,7 @@ use Rattle.std.specs.Prelude.{⊤}
 use Rattle.std.specs.Bool.{MatchBool}
 use Rattle.hgs_index.specs.Manifest.{Row}
 use Rattle.hgs_index.specs.Revision.{Parents}
-use Rattle.hgs_loading.proofs.FoundLemmas.{either}
+use Rattle.hgs_loading.specs.Theorems.FoundLemmas.{either}
 use Rattle.hgs_loading.specs.Parent.{Files, view_parent}
 use Rattle.hgs_model.specs.History.{manifest_parents_of}
 use Rattle.hgs_model.specs.declared.files.NewFile.{NewFile}

@@ -2,7 +2,7 @@ use Rattle.std.proofs.Common.{◌≡◌, Ok, Err, sym, ◌∙◌, ap}
 use Rattle.std.specs.Prelude.{⊤}
 use Rattle.std.specs.Bool.{MatchBool}
 use Rattle.std.specs.Option.{option_map}
-use Rattle.hgs_loading.proofs.FoundLemmas.{either}
+use Rattle.hgs_loading.specs.Theorems.FoundLemmas.{either}
 use Rattle.hgs_load.specs.Answer.{is_of_outside}
 use Rattle.hgs_commit.specs.Changeset.{changeset_in, manifest_in}
 use Rattle.hgs_commit.specs.Commit.{OfTexts, texts_in, view_grown}

@@ -2,7 +2,7 @@ use Rattle.std.proofs.Common.{◌≡◌, ◌∷◌, ◌+◌, ℕ, List, Bool, Op
 use Rattle.std.specs.Prelude.{⊤}
 use Rattle.std.specs.Bool.{MatchBool}
 use Rattle.std.specs.Option.{option_map}
-use Rattle.hgs_loading.proofs.FoundLemmas.{either}
+use Rattle.hgs_loading.specs.Theorems.FoundLemmas.{either}
 use Rattle.hgs_load.specs.Answer.{is_of_outside}
 use Rattle.hgs_index.specs.Manifest.{Row, last_path}
 use Rattle.hgs_model.specs.declared.files.NewFile.{NewFile}

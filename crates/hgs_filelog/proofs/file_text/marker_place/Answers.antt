@@ -1,4 +1,4 @@
-use Rattle.hgs_bytes.proofs.TwoLemmas.{two_answer}
+use Rattle.hgs_bytes.specs.Theorems.TwoLemmas.{two_answer}
 use Rattle.hgs_filelog.proofs.file_text.marker_place.Goals as goal
 
 pub returns-clause-value : goal.returns-clause-value

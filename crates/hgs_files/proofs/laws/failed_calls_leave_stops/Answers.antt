@@ -1,4 +1,4 @@
-use Rattle.hgs_files.proofs.StopLemmas.{done-stops}
+use Rattle.hgs_files.specs.Theorems.StopLemmas.{done-stops}
 use Rattle.hgs_files.proofs.laws.failed_calls_leave_stops.Goals as goal
 
 pub returns : goal.returns

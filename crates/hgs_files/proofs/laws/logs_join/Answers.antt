@@ -1,4 +1,4 @@
-use Rattle.hgs_files.proofs.TreeLemmas.{after_all-append}
+use Rattle.hgs_files.specs.Theorems.TreeLemmas.{after_all-append}
 use Rattle.hgs_files.proofs.laws.logs_join.Goals as goal
 
 pub returns : goal.returns

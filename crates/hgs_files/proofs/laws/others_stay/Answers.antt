@@ -1,4 +1,4 @@
-use Rattle.hgs_files.proofs.TreeLemmas.{apply-other}
+use Rattle.hgs_files.specs.Theorems.TreeLemmas.{apply-other}
 use Rattle.hgs_files.proofs.laws.others_stay.Goals as goal
 
 pub returns : goal.returns

@@ -1,4 +1,4 @@
-use Rattle.hgs_files.proofs.LogLemmas.{after-done}
+use Rattle.hgs_files.specs.Theorems.LogLemmas.{after-done}
 use Rattle.hgs_files.proofs.laws.pieces_join.Goals as goal
 
 pub returns : goal.returns

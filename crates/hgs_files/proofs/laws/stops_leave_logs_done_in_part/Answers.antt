@@ -1,4 +1,4 @@
-use Rattle.hgs_files.proofs.LogLemmas.{stop-leaves-done}
+use Rattle.hgs_files.specs.Theorems.LogLemmas.{stop-leaves-done}
 use Rattle.hgs_files.proofs.laws.stops_leave_logs_done_in_part.Goals as goal
 
 pub returns : goal.returns

@@ -1,4 +1,4 @@
-use Rattle.hgs_index.proofs.AncestorLemmas.{IsAncestor-refl, IsAncestor-trans}
+use Rattle.hgs_index.specs.Theorems.AncestorLemmas.{IsAncestor-refl, IsAncestor-trans}
 use Rattle.hgs_index.proofs.laws.ancestor_order.Goals as goal
 
 pub returns : goal.returns

@@ -1,4 +1,4 @@
-use Rattle.hgs_index.proofs.AncestorTestLemmas.{is_ancestor-decides}
+use Rattle.hgs_index.specs.Theorems.AncestorTestLemmas.{is_ancestor-decides}
 use Rattle.hgs_index.proofs.laws.ancestor_test.Goals as goal
 
 pub returns : goal.returns

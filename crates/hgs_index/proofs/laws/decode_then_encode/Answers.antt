@@ -1,4 +1,4 @@
-use Rattle.hgs_index.proofs.EntryTakenLemmas.{entry_taken}
+use Rattle.hgs_index.specs.Theorems.EntryTakenLemmas.{entry_taken}
 use Rattle.hgs_index.proofs.laws.decode_then_encode.Goals as goal
 
 pub returns : goal.returns

@@ -1,4 +1,4 @@
-use Rattle.hgs_index.proofs.FileTextLemmas.{unpacked-joins, prefix-block}
+use Rattle.hgs_index.specs.Theorems.FileTextLemmas.{unpacked-joins, prefix-block}
 use Rattle.hgs_index.proofs.laws.file_text_parts.Goals as goal
 
 pub returns : goal.returns

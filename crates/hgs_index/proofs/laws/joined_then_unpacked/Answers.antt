@@ -1,4 +1,4 @@
-use Rattle.hgs_index.proofs.FileTextLemmas.{unpacked-block, unpacked-bare, unpacked-plain}
+use Rattle.hgs_index.specs.Theorems.FileTextLemmas.{unpacked-block, unpacked-bare, unpacked-plain}
 use Rattle.hgs_index.proofs.laws.joined_then_unpacked.Goals as goal
 
 pub returns : goal.returns

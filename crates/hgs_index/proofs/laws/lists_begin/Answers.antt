@@ -1,5 +1,5 @@
-use Rattle.hgs_index.proofs.RevlogFrontLemmas.{begins-front}
-use Rattle.hgs_index.proofs.RevlogLemmas.{begins-more, held-begins}
+use Rattle.hgs_index.specs.Theorems.RevlogFrontLemmas.{begins-front}
+use Rattle.hgs_index.specs.Theorems.RevlogLemmas.{begins-more, held-begins}
 use Rattle.hgs_index.proofs.laws.lists_begin.Goals as goal
 
 pub returns-clause-held : goal.returns-clause-held

@@ -1,5 +1,5 @@
 use Rattle.std.proofs.Common.{[], arith}
-use Rattle.hgs_index.proofs.RevisionLemmas.{length-nodes_from}
+use Rattle.hgs_index.specs.Theorems.RevisionLemmas.{length-nodes_from}
 use Rattle.hgs_index.proofs.laws.nodes_are_counted.Goals as goal
 
 pub returns : goal.returns

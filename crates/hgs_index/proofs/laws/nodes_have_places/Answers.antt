@@ -1,5 +1,5 @@
 use Rattle.hgs_index.specs.Node.{null_node}
-use Rattle.hgs_index.proofs.PlaceLemmas.{among-at, place-same, position-there, not-null}
+use Rattle.hgs_index.specs.Theorems.PlaceLemmas.{among-at, place-same, position-there, not-null}
 use Rattle.hgs_index.proofs.laws.nodes_have_places.Goals as goal
 
 pub returns-clause-among : goal.returns-clause-among

@@ -1,4 +1,4 @@
-use Rattle.hgs_index.proofs.HexText.{node_back, node_found}
+use Rattle.hgs_index.specs.Theorems.HexText.{node_back, node_found}
 use Rattle.hgs_index.proofs.laws.nodes_written_then_read.Goals as goal
 
 pub returns-clause-back : goal.returns-clause-back

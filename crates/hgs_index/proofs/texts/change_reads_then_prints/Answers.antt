@@ -1,4 +1,4 @@
-use Rattle.hgs_index.proofs.ChangeTextLemmas.{change_found}
+use Rattle.hgs_index.specs.Theorems.ChangeTextLemmas.{change_found}
 use Rattle.hgs_index.proofs.texts.change_reads_then_prints.Goals as goal
 
 pub returns : goal.returns

@@ -1,4 +1,4 @@
-use Rattle.hgs_index.proofs.ManifestText.{manifest_back}
+use Rattle.hgs_index.specs.Theorems.ManifestText.{manifest_back}
 use Rattle.hgs_index.proofs.texts.manifest_prints_then_reads.Goals as goal
 
 pub returns : goal.returns

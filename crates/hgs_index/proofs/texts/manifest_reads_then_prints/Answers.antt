@@ -1,4 +1,4 @@
-use Rattle.hgs_index.proofs.ManifestText.{manifest_found}
+use Rattle.hgs_index.specs.Theorems.ManifestText.{manifest_found}
 use Rattle.hgs_index.proofs.texts.manifest_reads_then_prints.Goals as goal
 
 pub returns : goal.returns

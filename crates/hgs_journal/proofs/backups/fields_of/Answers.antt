@@ -1,6 +1,6 @@
 use Rattle.std.proofs.Common.{sym, ◌∙◌, ap}
 use Rattle.std.specs.Prelude.{option_map}
-use Rattle.hgs_journal.proofs.FieldLemmas.{one_field, two_fields, three_fields, four_fields, five_fields}
+use Rattle.hgs_journal.specs.Theorems.FieldLemmas.{one_field, two_fields, three_fields, four_fields, five_fields}
 use Rattle.hgs_journal.proofs.backups.fields_of.Goals as goal
 
 pub returns-in_err-location : goal.returns-in_err-location

@@ -1,4 +1,4 @@
-use Rattle.hgs_journal.proofs.JournalText.{first-lines, journal-back}
+use Rattle.hgs_journal.specs.Theorems.JournalText.{first-lines, journal-back}
 use Rattle.hgs_journal.proofs.laws.cut_journals.Goals as goal
 
 pub returns : goal.returns

@@ -1,5 +1,5 @@
-use Rattle.hgs_journal.proofs.BackupText.{backups-found, backups-back}
-use Rattle.hgs_journal.proofs.JournalText.{journal-found, journal-back}
+use Rattle.hgs_journal.specs.Theorems.BackupText.{backups-found, backups-back}
+use Rattle.hgs_journal.specs.Theorems.JournalText.{journal-found, journal-back}
 use Rattle.hgs_journal.proofs.laws.texts_read.Goals as goal
 
 pub returns : goal.returns

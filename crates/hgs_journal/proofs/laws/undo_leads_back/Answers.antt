@@ -1,6 +1,6 @@
 use Rattle.hgs_journal.proofs.BegunLemmas.{undo-same}
 use Rattle.hgs_journal.proofs.LeadLemmas.{lead-restores}
-use Rattle.hgs_journal.proofs.UndoStops.{reads-of}
+use Rattle.hgs_journal.specs.Theorems.UndoStops.{reads-of}
 use Rattle.hgs_journal.proofs.laws.undo_leads_back.Goals as goal
 
 pub returns : goal.returns

@@ -1,5 +1,5 @@
-use Rattle.hgs_journal.proofs.BackupText.{written-back as backups-written}
-use Rattle.hgs_journal.proofs.JournalText.{written-back as journal-written}
+use Rattle.hgs_journal.specs.Theorems.BackupText.{written-back as backups-written}
+use Rattle.hgs_journal.specs.Theorems.JournalText.{written-back as journal-written}
 use Rattle.hgs_journal.proofs.laws.written_then_read.Goals as goal
 
 pub returns : goal.returns

@@ -1,7 +1,7 @@
 use Rattle.std.proofs.Common.{rules, ◌≡◌, ℕ, List, Option, Some, None, decimal, true, false, sym, ◌∙◌, ap}
 use Rattle.hgs_bytes.specs.Bytes.{same}
-use Rattle.hgs_bytes.proofs.ByteLemmas.{same-refl}
-use Rattle.hgs_journal.proofs.OffsetLemmas.{offset-found, offset-missing}
+use Rattle.hgs_bytes.specs.Theorems.ByteLemmas.{same-refl}
+use Rattle.hgs_journal.specs.Theorems.OffsetLemmas.{offset-found, offset-missing}
 use Rattle.hgs_journal.proofs.offset.offset_from.Goals as goal
 
 some_none : (o : Option ℕ) (n : ℕ) → o ≡ Some n → o ≡ None → ⊥

@@ -1,4 +1,4 @@
-use Rattle.hgs_load.proofs.OpenedLemmas.{opened_log}
+use Rattle.hgs_load.specs.Theorems.OpenedLemmas.{opened_log}
 use Rattle.hgs_load.proofs.ViewLemmas.{opening, refreshing}
 use Rattle.hgs_load.proofs.laws.parts_make_views.Goals as goal
 

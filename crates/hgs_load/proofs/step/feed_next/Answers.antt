@@ -8,8 +8,8 @@ use Rattle.hgs_load.specs.Answer.{is_of_outside}
 use Rattle.hgs_load.specs.Asks.{Asks, IsPart}
 use Rattle.hgs_load.specs.Given.{RisesBy, size_of, Gave, TakesStep}
 use Rattle.hgs_load.specs.Load.{asks_of, rest_of}
-use Rattle.hgs_load.proofs.AskLemmas.{either}
-use Rattle.hgs_load.proofs.GivenLemmas.{refused-behind, refused-first, handed-on}
+use Rattle.hgs_load.specs.Theorems.AskLemmas.{either}
+use Rattle.hgs_load.specs.Theorems.GivenLemmas.{refused-behind, refused-first, handed-on}
 use Rattle.hgs_load.proofs.StepLemmas.{asked_then, asked_on, asked_gave}
 use Rattle.hgs_load.proofs.step.feed_next.Goals as goal
 

@@ -1,6 +1,6 @@
 use Rattle.hgs_load.specs.Open.{open_asks}
 use Rattle.hgs_load.specs.View.{View}
-use Rattle.hgs_load.proofs.GivenLemmas.{takes-no-memory}
+use Rattle.hgs_load.specs.Theorems.GivenLemmas.{takes-no-memory}
 use Rattle.hgs_load.proofs.step.load.Goals as goal
 
 pub returns-in_err-machine-clause-given : goal.returns-in_err-machine-clause-given

@@ -4,7 +4,7 @@ use Rattle.hgs_load.specs.Asks.{Asks}
 use Rattle.hgs_load.specs.Given.{Takes}
 use Rattle.hgs_load.specs.Refresh.{refresh_asks}
 use Rattle.hgs_load.specs.View.{View}
-use Rattle.hgs_load.proofs.GivenLemmas.{takes-no-memory}
+use Rattle.hgs_load.specs.Theorems.GivenLemmas.{takes-no-memory}
 use Rattle.hgs_load.proofs.WayLemmas.{refreshed-takes}
 use Rattle.hgs_load.proofs.step.load_again.Goals as goal
 

@@ -1,7 +1,7 @@
 use Rattle.std.proofs.Common.{refl, ◌∙◌, arith}
 use Rattle.hgs_load.specs.Load.{asks_of}
-use Rattle.hgs_load.proofs.AskLemmas.{continues-start, grows-refl, grows-trans}
-use Rattle.hgs_load.proofs.GivenLemmas.{gave-none}
+use Rattle.hgs_load.specs.Theorems.AskLemmas.{continues-start, grows-refl, grows-trans}
+use Rattle.hgs_load.specs.Theorems.GivenLemmas.{gave-none}
 use Rattle.hgs_load.proofs.StepLemmas.{goes_on, has_ended, is_refused, gave_on, gave_all, gave_refused}
 use Rattle.hgs_load.proofs.step.load_with.Goals as goal
 

@@ -1,6 +1,6 @@
 use Rattle.std.proofs.Common.{◌≡◌, length, length-append, ◌∙◌, ap, arith}
 use Rattle.hgs_load.specs.View.{piece_length}
-use Rattle.hgs_loading.proofs.FoundLemmas.{grows-trans}
+use Rattle.hgs_loading.specs.Theorems.FoundLemmas.{grows-trans}
 use Rattle.hgs_loading.proofs.IndexLemmas.{goes-on, ends, all-read, short-piece}
 use Rattle.hgs_loading.proofs.logs.read_index.Goals as goal
 

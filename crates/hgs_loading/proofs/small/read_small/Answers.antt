@@ -1,4 +1,4 @@
-use Rattle.hgs_loading.proofs.FoundLemmas.{grows-trans}
+use Rattle.hgs_loading.specs.Theorems.FoundLemmas.{grows-trans}
 use Rattle.hgs_loading.proofs.small.read_small.Goals as goal
 
 pub returns-in_err-dirstate-clause-seen : goal.returns-in_err-dirstate-clause-seen

@@ -1,4 +1,4 @@
-use Rattle.hgs_loading.proofs.FoundLemmas.{grows-trans}
+use Rattle.hgs_loading.specs.Theorems.FoundLemmas.{grows-trans}
 use Rattle.hgs_loading.proofs.store.history.Goals as goal
 
 pub returns-in-Ok-clause-seen : goal.returns-in-Ok-clause-seen

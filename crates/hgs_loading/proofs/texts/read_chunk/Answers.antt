@@ -1,7 +1,7 @@
 use Rattle.std.proofs.Common.{List, ℕ, slice_get, Ok, ◌∙◌, ap}
 use Rattle.std.specs.Prelude.{unwrap_or}
 use Rattle.hgs_loading.specs.Logs.{chunk_of_rev}
-use Rattle.hgs_loading.proofs.FoundLemmas.{finds-read}
+use Rattle.hgs_loading.specs.Theorems.FoundLemmas.{finds-read}
 use Rattle.hgs_loading.proofs.RestLemmas.{chunk-found}
 use Rattle.hgs_loading.proofs.texts.read_chunk.Goals as goal
 

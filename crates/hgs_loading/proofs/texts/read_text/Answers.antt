@@ -2,7 +2,7 @@ use Rattle.std.proofs.Common.{List, ℕ, Some, Ok, Err}
 use Rattle.hgs_load.specs.Asks.{at_rest}
 use Rattle.hgs_reader.specs.Find.{text_at_asks}
 use Rattle.hgs_loading.specs.Logs.{text_in}
-use Rattle.hgs_loading.proofs.FoundLemmas.{finds-same}
+use Rattle.hgs_loading.specs.Theorems.FoundLemmas.{finds-same}
 use Rattle.hgs_loading.proofs.RestLemmas.{answers-rest, text-rest}
 use Rattle.hgs_loading.proofs.texts.read_text.Goals as goal
 

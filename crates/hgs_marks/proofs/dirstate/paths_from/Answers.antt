@@ -3,7 +3,7 @@ use Rattle.std.proofs.lemmas.List.{length-drop}
 use Rattle.hgs_marks.specs.Dirstate.{paths_with, entries_from}
 use Rattle.hgs_marks.specs.Held.{view_entry}
 use Rattle.hgs_marks.proofs.DirstateFound.{paths_fit}
-use Rattle.hgs_marks.proofs.DirstateLemmas.{one_entry, entry_refused, no_more}
+use Rattle.hgs_marks.specs.Theorems.DirstateLemmas.{one_entry, entry_refused, no_more}
 use Rattle.hgs_marks.proofs.dirstate.paths_from.Goals as goal
 
 pub loop-rest-init : goal.loop-rest-init

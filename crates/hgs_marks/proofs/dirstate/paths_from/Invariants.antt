@@ -1,6 +1,6 @@
 use Rattle.std.proofs.Common.{◌≤◌, length}
 use Rattle.hgs_marks.specs.Dirstate.{read_paths}
-use Rattle.hgs_marks.proofs.DirstateLemmas.{AllPaths}
+use Rattle.hgs_marks.specs.Theorems.DirstateLemmas.{AllPaths}
 use Rattle.hgs_marks.proofs.dirstate.paths_from.Given as goal
 
 abbrev pub invariant-loop-rest : goal.invariant-loop-rest

@@ -1,5 +1,5 @@
-use Rattle.hgs_marks.proofs.MarkOrder.{set_kept, without_kept}
-use Rattle.hgs_marks.proofs.MarkText.{bookmarks_found}
+use Rattle.hgs_marks.specs.Theorems.MarkOrder.{set_kept, without_kept}
+use Rattle.hgs_marks.specs.Theorems.MarkText.{bookmarks_found}
 use Rattle.hgs_marks.proofs.laws.bookmarks_in_order.Goals as goal
 
 pub returns-clause-read : goal.returns-clause-read

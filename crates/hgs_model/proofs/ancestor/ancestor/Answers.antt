@@ -1,6 +1,6 @@
 use Rattle.std.proofs.Common.{take, ◌+◌, ◌∙◌, sym, subst, arith}
-use Rattle.hgs_index.proofs.AncestorTestLemmas.{is_ancestor-decides}
-use Rattle.hgs_model.proofs.ReachedLemmas.{Walk, walk-begins, walk-ends}
+use Rattle.hgs_index.specs.Theorems.AncestorTestLemmas.{is_ancestor-decides}
+use Rattle.hgs_model.specs.Theorems.ReachedLemmas.{Walk, walk-begins, walk-ends}
 use Rattle.hgs_model.proofs.ancestor.ancestor.Goals as goal
 
 pub loop-pair-init : goal.loop-pair-init

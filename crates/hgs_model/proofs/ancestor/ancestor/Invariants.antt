@@ -1,4 +1,4 @@
-use Rattle.hgs_model.proofs.ReachedLemmas.{Walk}
+use Rattle.hgs_model.specs.Theorems.ReachedLemmas.{Walk}
 use Rattle.hgs_model.proofs.ancestor.ancestor.Given as goal
 
 abbrev pub invariant-loop-pair : goal.invariant-loop-pair

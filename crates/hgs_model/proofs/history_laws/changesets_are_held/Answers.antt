@@ -1,4 +1,4 @@
-use Rattle.hgs_model.proofs.HeldLemmas.{held, count}
+use Rattle.hgs_model.specs.Theorems.HeldLemmas.{held, count}
 use Rattle.hgs_model.proofs.history_laws.changesets_are_held.Goals as goal
 
 pub returns-clause-each : goal.returns-clause-each

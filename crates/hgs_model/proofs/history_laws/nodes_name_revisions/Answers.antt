@@ -1,9 +1,9 @@
 use Rattle.hgs_index.specs.Node.{IsNode}
 use Rattle.hgs_index.specs.Revision.{nodes}
-use Rattle.hgs_model.proofs.ListLemmas.{all-map}
-use Rattle.hgs_model.proofs.ListedLemmas.{rev-same}
-use Rattle.hgs_model.proofs.NodeLemmas.{node_at-node, nodes-nodes}
-use Rattle.hgs_model.proofs.NodeLemmas as local
+use Rattle.hgs_model.specs.Theorems.ListLemmas.{all-map}
+use Rattle.hgs_model.specs.Theorems.ListedLemmas.{rev-same}
+use Rattle.hgs_model.specs.Theorems.NodeLemmas.{node_at-node, nodes-nodes}
+use Rattle.hgs_model.specs.Theorems.NodeLemmas as local
 use Rattle.hgs_model.proofs.history_laws.nodes_name_revisions.Goals as goal
 
 pub returns-clause-all : goal.returns-clause-all

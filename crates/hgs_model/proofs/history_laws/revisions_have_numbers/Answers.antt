@@ -1,5 +1,5 @@
-use Rattle.hgs_model.proofs.CountLemmas.{number-below}
-use Rattle.hgs_model.proofs.ListedLemmas.{number-text}
+use Rattle.hgs_model.specs.Theorems.CountLemmas.{number-below}
+use Rattle.hgs_model.specs.Theorems.ListedLemmas.{number-text}
 use Rattle.hgs_model.proofs.history_laws.revisions_have_numbers.Goals as goal
 
 pub returns-clause-below : goal.returns-clause-below

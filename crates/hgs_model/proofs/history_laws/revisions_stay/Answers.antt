@@ -1,4 +1,4 @@
-use Rattle.hgs_model.proofs.ListedLemmas.{node_at-front, slice_get-front, text_at-front, there}
+use Rattle.hgs_model.specs.Theorems.ListedLemmas.{node_at-front, slice_get-front, text_at-front, there}
 use Rattle.hgs_model.proofs.history_laws.revisions_stay.Goals as goal
 
 pub returns-clause-there : goal.returns-clause-there

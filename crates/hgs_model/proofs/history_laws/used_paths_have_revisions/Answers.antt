@@ -1,5 +1,5 @@
-use Rattle.hgs_model.proofs.CountLemmas.{unused-empty}
-use Rattle.hgs_model.proofs.UsedLemmas.{used-paths}
+use Rattle.hgs_model.specs.Theorems.CountLemmas.{unused-empty}
+use Rattle.hgs_model.specs.Theorems.UsedLemmas.{used-paths}
 use Rattle.hgs_model.proofs.history_laws.used_paths_have_revisions.Goals as goal
 
 pub returns-clause-files : goal.returns-clause-files

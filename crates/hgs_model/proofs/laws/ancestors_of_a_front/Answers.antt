@@ -1,5 +1,5 @@
 use Rattle.hgs_model.proofs.AncestorFrontLemmas.{ancestor-front}
-use Rattle.hgs_model.proofs.StepLemmas.{parent-before}
+use Rattle.hgs_model.specs.Theorems.StepLemmas.{parent-before}
 use Rattle.hgs_model.proofs.laws.ancestors_of_a_front.Goals as goal
 
 pub returns : goal.returns

@@ -1,5 +1,5 @@
-use Rattle.hgs_model.proofs.HistoryLemmas.{length-changelog}
-use Rattle.hgs_model.proofs.BeforeLemmas.{changelog-parents}
+use Rattle.hgs_model.specs.Theorems.HistoryLemmas.{length-changelog}
+use Rattle.hgs_model.specs.Theorems.BeforeLemmas.{changelog-parents}
 use Rattle.hgs_model.proofs.laws.changelog_is_whole.Goals as goal
 
 pub returns-clause-count : goal.returns-clause-count

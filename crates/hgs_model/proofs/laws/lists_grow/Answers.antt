@@ -1,8 +1,8 @@
 use Rattle.std.proofs.Common.{subst, sym}
 use Rattle.hgs_bytes.specs.Bytes.{IsPrefixOf}
-use Rattle.hgs_index.proofs.RevisionLemmas.{nodes-append}
+use Rattle.hgs_index.specs.Theorems.RevisionLemmas.{nodes-append}
 use Rattle.hgs_model.specs.History.{History, history}
-use Rattle.hgs_model.proofs.HistoryLemmas.{history-push, with_changeset-extends}
+use Rattle.hgs_model.specs.Theorems.HistoryLemmas.{history-push, with_changeset-extends}
 use Rattle.hgs_model.proofs.laws.lists_grow.Goals as goal
 
 pub returns-clause-changelog : goal.returns-clause-changelog

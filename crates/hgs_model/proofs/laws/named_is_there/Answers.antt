@@ -1,4 +1,4 @@
-use Rattle.hgs_model.proofs.StepLemmas.{named-below}
+use Rattle.hgs_model.specs.Theorems.StepLemmas.{named-below}
 use Rattle.hgs_model.proofs.laws.named_is_there.Goals as goal
 
 pub returns : goal.returns

@@ -1,4 +1,4 @@
-use Rattle.hgs_model.proofs.NameLemmas.{named-number}
+use Rattle.hgs_model.specs.Theorems.NameLemmas.{named-number}
 use Rattle.hgs_model.proofs.laws.numbers_name_themselves.Goals as goal
 
 pub returns : goal.returns

@@ -1,6 +1,6 @@
 use Rattle.std.proofs.Common.{subst, sym}
 use Rattle.hgs_index.specs.Revision.{ParentsBefore}
-use Rattle.hgs_model.proofs.BeforeLemmas.{changelog-parents, before}
+use Rattle.hgs_model.specs.Theorems.BeforeLemmas.{changelog-parents, before}
 use Rattle.hgs_model.proofs.laws.parents_stand_before.Goals as goal
 
 pub returns-clause-changelog : goal.returns-clause-changelog

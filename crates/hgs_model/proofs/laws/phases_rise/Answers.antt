@@ -1,4 +1,4 @@
-use Rattle.hgs_model.proofs.BeforeLemmas.{phases-rise}
+use Rattle.hgs_model.specs.Theorems.BeforeLemmas.{phases-rise}
 use Rattle.hgs_model.proofs.laws.phases_rise.Goals as goal
 
 pub returns : goal.returns

@@ -9,8 +9,8 @@ use Rattle.hgs_model.specs.declared.command.Command.{Command}
 use Rattle.hgs_model.specs.declared.command.Command.TheVariants.{Commit, Move, Mark, Unmark}
 use Rattle.hgs_model.specs.declared.phase.Phase.{Phase}
 use Rattle.hgs_model.specs.declared.phase.Phase.TheVariants.{Public, Draft, Secret}
-use Rattle.hgs_model.proofs.NewChangesetLemmas.{commit-keeps}
-use Rattle.hgs_model.proofs.StepLemmas.{move-keeps, mark-keeps, unmark-keeps}
+use Rattle.hgs_model.specs.Theorems.NewChangesetLemmas.{commit-keeps}
+use Rattle.hgs_model.specs.Theorems.StepLemmas.{move-keeps, mark-keeps, unmark-keeps}
 use Rattle.hgs_model.proofs.laws.step_keeps_repositories.Goals as goal
 
 most-secret : (phase : Phase) → phase_number phase ≤ 2

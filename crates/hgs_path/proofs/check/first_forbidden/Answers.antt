@@ -2,7 +2,7 @@ use Rattle.std.proofs.Common.{◌≡◌, ◌+◌, ◌∙◌, ap, sym, Some, None
 use Rattle.hgs_bytes.specs.Path.{components}
 use Rattle.hgs_bytes.specs.Text.{split}
 use Rattle.hgs_path.specs.Check.{forbidden_from}
-use Rattle.hgs_path.proofs.PartLemmas.{forbidden-here, forbidden-step, forbidden-last, split-length}
+use Rattle.hgs_path.specs.Theorems.PartLemmas.{forbidden-here, forbidden-step, forbidden-last, split-length}
 use Rattle.hgs_path.proofs.check.first_forbidden.Goals as goal
 
 pub returns-then-is_forbidden : goal.returns-then-is_forbidden

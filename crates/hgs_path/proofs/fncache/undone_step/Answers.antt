@@ -1,6 +1,6 @@
 use Rattle.std.proofs.Common.{◌∙◌, ap, ◌++◌, sym, arith}
 use Rattle.hgs_path.specs.ListedNames.{unmarked_directory}
-use Rattle.hgs_path.proofs.PartLemmas.{front-step, front-last, split-length, one-more, at-end}
+use Rattle.hgs_path.specs.Theorems.PartLemmas.{front-step, front-last, split-length, one-more, at-end}
 use Rattle.hgs_path.proofs.fncache.undone_step.Goals as goal
 
 pub loop-directory-smaller : goal.loop-directory-smaller

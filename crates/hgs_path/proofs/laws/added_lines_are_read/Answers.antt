@@ -1,4 +1,4 @@
-use Rattle.hgs_path.proofs.AddedLemmas.{name-added, file-added}
+use Rattle.hgs_path.specs.Theorems.AddedLemmas.{name-added, file-added}
 use Rattle.hgs_path.proofs.laws.added_lines_are_read.Goals as goal
 
 pub returns : goal.returns

@@ -1,6 +1,6 @@
 use Rattle.std.proofs.Common.{◌++◌, ap}
 use Rattle.std.specs.Prelude.{codes}
-use Rattle.hgs_path.proofs.ApartLemmas.{kinds-apart, line-d, store-d}
+use Rattle.hgs_path.specs.Theorems.ApartLemmas.{kinds-apart, line-d, store-d}
 use Rattle.hgs_path.proofs.laws.filelogs_have_their_own_names.Goals as goal
 
 pub returns-clause-file : goal.returns-clause-file

@@ -1,7 +1,7 @@
 use Rattle.hgs_bytes.specs.Text.{lines_of}
-use Rattle.hgs_path.proofs.AddedLemmas.{name-listed}
-use Rattle.hgs_path.proofs.ApartLemmas.{listed-file}
-use Rattle.hgs_path.proofs.ReadNamesLemmas.{names-listed}
+use Rattle.hgs_path.specs.Theorems.AddedLemmas.{name-listed}
+use Rattle.hgs_path.specs.Theorems.ApartLemmas.{listed-file}
+use Rattle.hgs_path.specs.Theorems.ReadNamesLemmas.{names-listed}
 use Rattle.hgs_path.proofs.laws.listed_names_name_files.Goals as goal
 
 pub returns-clause-name : goal.returns-clause-name

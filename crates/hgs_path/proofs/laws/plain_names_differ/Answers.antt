@@ -1,4 +1,4 @@
-use Rattle.hgs_path.proofs.ReadableLemmas.{names-once}
+use Rattle.hgs_path.specs.Theorems.ReadableLemmas.{names-once}
 use Rattle.hgs_path.proofs.laws.plain_names_differ.Goals as goal
 
 pub returns : goal.returns

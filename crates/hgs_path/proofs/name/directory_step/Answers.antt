@@ -1,5 +1,5 @@
 use Rattle.std.proofs.Common.{sym, arith}
-use Rattle.hgs_path.proofs.PartLemmas.{directory-more, directory-last, split-length, one-more, at-end}
+use Rattle.hgs_path.specs.Theorems.PartLemmas.{directory-more, directory-last, split-length, one-more, at-end}
 use Rattle.hgs_path.proofs.name.directory_step.Goals as goal
 
 pub loop-directory-smaller : goal.loop-directory-smaller

@@ -1,7 +1,7 @@
 use Rattle.std.proofs.Common.{◌∙◌, ap, ◌++◌, arith}
 use Rattle.std.specs.Prelude.{codes}
 use Rattle.hgs_files.specs.Path.{is_store_path}
-use Rattle.hgs_path.proofs.ShapeLemmas.{encoded-path, small-of}
+use Rattle.hgs_path.specs.Theorems.ShapeLemmas.{encoded-path, small-of}
 use Rattle.hgs_path.proofs.name.path_of.Goals as goal
 
 pub path_of-requires : goal.path_of-requires

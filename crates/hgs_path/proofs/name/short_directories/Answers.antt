@@ -1,6 +1,6 @@
 use Rattle.std.proofs.Common.{◌∙◌, ap, ◌++◌, ◌∷◌, [], sym, length, map, arith}
 use Rattle.hgs_path.specs.StoreName.{short_directory, fitting}
-use Rattle.hgs_path.proofs.PartLemmas.{directories-step, directories-last, split-length, slashed, fits-more, fits-not, fits-end}
+use Rattle.hgs_path.specs.Theorems.PartLemmas.{directories-step, directories-last, split-length, slashed, fits-more, fits-not, fits-end}
 use Rattle.hgs_path.proofs.name.short_directories.Goals as goal
 
 pub loop-directory-smaller : goal.loop-directory-smaller

@@ -1,5 +1,5 @@
 use Rattle.std.proofs.Common.{◌∙◌, ap, length, arith}
-use Rattle.hgs_path.proofs.PartLemmas.{listed-long}
+use Rattle.hgs_path.specs.Theorems.PartLemmas.{listed-long}
 use Rattle.hgs_path.proofs.name.store_name.Goals as goal
 
 pub path_of-requires : goal.path_of-requires

@@ -1,5 +1,5 @@
 use Rattle.std.proofs.Common.{◌∙◌, sym, arith}
-use Rattle.hgs_path.proofs.PartLemmas.{last-step, last-last, split-length}
+use Rattle.hgs_path.specs.Theorems.PartLemmas.{last-step, last-last, split-length}
 use Rattle.hgs_path.proofs.parts.last_part.Goals as goal
 
 pub loop-behind-smaller : goal.loop-behind-smaller

@@ -1,5 +1,5 @@
 use Rattle.std.proofs.Common.{◌∙◌, refl, ap, sym, length, arith}
-use Rattle.hgs_path.proofs.PartLemmas.{device-long, stem-short}
+use Rattle.hgs_path.specs.Theorems.PartLemmas.{device-long, stem-short}
 use Rattle.hgs_path.proofs.spell.front_place.Goals as goal
 
 pub returns-then-is_device-clause-within : goal.returns-then-is_device-clause-within

@@ -1,5 +1,5 @@
 use Rattle.std.proofs.Common.{◌∙◌, ap, ◌++◌, sym, arith}
-use Rattle.hgs_path.proofs.PartLemmas.{spelled-step, spelled-last, split-length, one-more, at-end}
+use Rattle.hgs_path.specs.Theorems.PartLemmas.{spelled-step, spelled-last, split-length, one-more, at-end}
 use Rattle.hgs_path.proofs.spell.spelled_name.Goals as goal
 
 pub loop-part-smaller : goal.loop-part-smaller

@@ -1,4 +1,4 @@
-use Rattle.hgs_phases.proofs.RiseLemmas.{given_rise, advanced_rise, retracted_rise, pushed_rise}
+use Rattle.hgs_phases.specs.Theorems.RiseLemmas.{given_rise, advanced_rise, retracted_rise, pushed_rise}
 use Rattle.hgs_phases.proofs.laws.phases_rise.Goals as goal
 
 pub returns-clause-given : goal.returns-clause-given

@@ -1,4 +1,4 @@
-use Rattle.hgs_phases.proofs.WrittenLemmas.{written_read, written_same}
+use Rattle.hgs_phases.specs.Theorems.WrittenLemmas.{written_read, written_same}
 use Rattle.hgs_phases.proofs.laws.written_then_read.Goals as goal
 
 pub returns-clause-read : goal.returns-clause-read

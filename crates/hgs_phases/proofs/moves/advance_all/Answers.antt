@@ -1,7 +1,7 @@
 use Rattle.std.proofs.Common.{◌≡◌, ◌∙◌, ◌+◌, ◌-◌, sym, length, subst, arith}
 use Rattle.hgs_phases.specs.Phases.{history_of}
-use Rattle.hgs_phases.proofs.PhaseLemmas.{history-length}
-use Rattle.hgs_phases.proofs.AdvanceLemmas.{Lowered, lowered_none, lowered_next, all_lowered}
+use Rattle.hgs_phases.specs.Theorems.PhaseLemmas.{history-length}
+use Rattle.hgs_phases.specs.Theorems.AdvanceLemmas.{Lowered, lowered_none, lowered_next, all_lowered}
 use Rattle.hgs_phases.proofs.moves.advance_all.Goals as goal
 
 pub loop-ancestor-init : goal.loop-ancestor-init

@@ -1,6 +1,6 @@
 use Rattle.std.proofs.Common.{◌+◌}
 use Rattle.hgs_phases.specs.Phases.{history_of}
-use Rattle.hgs_phases.proofs.AdvanceLemmas.{Lowered}
+use Rattle.hgs_phases.specs.Theorems.AdvanceLemmas.{Lowered}
 use Rattle.hgs_phases.proofs.moves.advance_all.Given as goal
 
 abbrev pub invariant-loop-ancestor : goal.invariant-loop-ancestor

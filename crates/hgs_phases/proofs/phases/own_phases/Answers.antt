@@ -1,4 +1,4 @@
-use Rattle.hgs_phases.proofs.PhaseLemmas.{own_next}
+use Rattle.hgs_phases.specs.Theorems.PhaseLemmas.{own_next}
 use Rattle.hgs_phases.proofs.phases.own_phases.Goals as goal
 
 pub loop-root-preserved : goal.loop-root-preserved

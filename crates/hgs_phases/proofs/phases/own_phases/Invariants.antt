@@ -1,5 +1,5 @@
 use Rattle.std.proofs.Common.{drop}
-use Rattle.hgs_phases.proofs.PhaseLemmas.{OwnBut}
+use Rattle.hgs_phases.specs.Theorems.PhaseLemmas.{OwnBut}
 use Rattle.hgs_phases.proofs.phases.own_phases.Given as goal
 
 abbrev pub invariant-loop-root : goal.invariant-loop-root

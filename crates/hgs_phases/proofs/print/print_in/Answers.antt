@@ -1,4 +1,4 @@
-use Rattle.hgs_index.proofs.AppendLemmas.{front_grows}
+use Rattle.hgs_index.specs.Theorems.AppendLemmas.{front_grows}
 use Rattle.hgs_phases.proofs.PrintLemmas.{one_more}
 use Rattle.hgs_phases.proofs.print.print_in.Goals as goal
 

@@ -1,5 +1,5 @@
 use Rattle.hgs_model.specs.History.{file_parents, history}
-use Rattle.hgs_model.proofs.CountLemmas.{file-revision-below, sound}
+use Rattle.hgs_model.specs.Theorems.CountLemmas.{file-revision-below, sound}
 use Rattle.hgs_planned.proofs.FileLemmas.{kept-is, parents-of, told-of}
 use Rattle.hgs_planned.proofs.laws.file_parents_are_the_repositorys.Goals as goal
 

@@ -5,8 +5,8 @@ use Rattle.hgs_load.specs.Asks.{answer, Answers, AddsGiven}
 use Rattle.hgs_load.specs.Given.{Takes}
 use Rattle.hgs_reader.specs.Contents.{body_answer, body_asks}
 use Rattle.hgs_reader.specs.Find.{text_asks}
-use Rattle.hgs_load.proofs.GivenLemmas.{text-then, text-given, text-no-memory, refused-then}
-use Rattle.hgs_load.proofs.AskLemmas.{adds-then, adds-refused, adds-given}
+use Rattle.hgs_load.specs.Theorems.GivenLemmas.{text-then, text-given, text-no-memory, refused-then}
+use Rattle.hgs_load.specs.Theorems.AskLemmas.{adds-then, adds-refused, adds-given}
 use Rattle.hgs_reader.proofs.contents.add_body.Goals as goal
 
 pub returns-in-Ok-clause-answer : goal.returns-in-Ok-clause-answer

@@ -1,8 +1,8 @@
 use Rattle.std.proofs.Common.{List, ℕ, Err, refl}
 use Rattle.hgs_load.specs.Asks.{answer}
 use Rattle.hgs_reader.specs.Contents.{file_node, body_asks}
-use Rattle.hgs_load.proofs.GivenLemmas.{text-behind, takes-given, refused-then}
-use Rattle.hgs_load.proofs.AskLemmas.{adds-behind}
+use Rattle.hgs_load.specs.Theorems.GivenLemmas.{text-behind, takes-given, refused-then}
+use Rattle.hgs_load.specs.Theorems.AskLemmas.{adds-behind}
 use Rattle.hgs_reader.proofs.contents.add_file.Goals as goal
 
 pub returns-in-Ok-clause-answer : goal.returns-in-Ok-clause-answer

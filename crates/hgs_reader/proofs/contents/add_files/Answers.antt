@@ -1,4 +1,4 @@
-use Rattle.hgs_index.proofs.AppendLemmas.{front_grows}
+use Rattle.hgs_index.specs.Theorems.AppendLemmas.{front_grows}
 use Rattle.hgs_reader.proofs.ContentLemmas.{line_on}
 use Rattle.hgs_reader.proofs.contents.add_files.Goals as goal
 

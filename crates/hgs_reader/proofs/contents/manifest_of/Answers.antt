@@ -6,8 +6,8 @@ use Rattle.hgs_load.specs.Asks.{answer, Answers}
 use Rattle.hgs_load.specs.Given.{Takes}
 use Rattle.hgs_reader.specs.Contents.{manifest_index, manifest_data, rows_answer, rows_asks}
 use Rattle.hgs_reader.specs.Find.{text_asks}
-use Rattle.hgs_load.proofs.GivenLemmas.{takes-then, takes-given, takes-no-memory, refused-then}
-use Rattle.hgs_load.proofs.AskLemmas.{answers-then, answers-refused, answers-given}
+use Rattle.hgs_load.specs.Theorems.GivenLemmas.{takes-then, takes-given, takes-no-memory, refused-then}
+use Rattle.hgs_load.specs.Theorems.AskLemmas.{answers-then, answers-refused, answers-given}
 use Rattle.hgs_reader.proofs.ContentLemmas.{named_rows, null_takes, named_takes}
 use Rattle.hgs_reader.proofs.contents.manifest_of.Goals as goal
 

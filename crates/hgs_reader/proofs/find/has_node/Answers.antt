@@ -1,5 +1,5 @@
 use Rattle.std.proofs.Common.{◌≡◌, ◌≤◌, length, take, drop, sym, ◌∙◌, arith}
-use Rattle.hgs_reader.proofs.FindLemmas.{node_here, node_behind, no_node}
+use Rattle.hgs_reader.specs.Theorems.FindLemmas.{node_here, node_behind, no_node}
 use Rattle.hgs_reader.proofs.find.has_node.Goals as goal
 
 pub returns-then-equal : goal.returns-then-equal

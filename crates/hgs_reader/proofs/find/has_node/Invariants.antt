@@ -1,5 +1,5 @@
 use Rattle.std.proofs.Common.{◌≡◌, length}
-use Rattle.hgs_reader.proofs.FindLemmas.{node_in}
+use Rattle.hgs_reader.specs.Theorems.FindLemmas.{node_in}
 use Rattle.hgs_reader.proofs.find.has_node.Given as goal
 
 abbrev pub invariant-loop-entry : goal.invariant-loop-entry

@@ -6,8 +6,8 @@ use Rattle.hgs_revlog.specs.Load.{loaded_either}
 use Rattle.hgs_load.specs.Answer.{is_of_outside}
 use Rattle.hgs_load.specs.Asks.{answer}
 use Rattle.hgs_reader.specs.Find.{bytes_behind, inline_text}
-use Rattle.hgs_load.proofs.GivenLemmas.{takes-then, takes-given, refused-then}
-use Rattle.hgs_load.proofs.AskLemmas.{answers-then, answers-refused, answers-given}
+use Rattle.hgs_load.specs.Theorems.GivenLemmas.{takes-then, takes-given, refused-then}
+use Rattle.hgs_load.specs.Theorems.AskLemmas.{answers-then, answers-refused, answers-given}
 use Rattle.hgs_reader.proofs.find.inline_text_of.Goals as goal
 
 pub returns-in-Ok-clause-answer : goal.returns-in-Ok-clause-answer

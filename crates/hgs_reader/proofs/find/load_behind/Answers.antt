@@ -8,8 +8,8 @@ use Rattle.hgs_load.specs.Answer.{is_of_outside}
 use Rattle.hgs_load.specs.Asks.{answer}
 use Rattle.hgs_reader.specs.Find.{bytes_behind}
 use Rattle.hgs_load.specs.View.{log_answer}
-use Rattle.hgs_load.proofs.GivenLemmas.{takes-then, takes-given, refused-then}
-use Rattle.hgs_load.proofs.AskLemmas.{answers-then, answers-refused, answers-given}
+use Rattle.hgs_load.specs.Theorems.GivenLemmas.{takes-then, takes-given, refused-then}
+use Rattle.hgs_load.specs.Theorems.AskLemmas.{answers-then, answers-refused, answers-given}
 use Rattle.hgs_reader.proofs.find.load_behind.Goals as goal
 
 pub returns-in-Ok-clause-answer : goal.returns-in-Ok-clause-answer

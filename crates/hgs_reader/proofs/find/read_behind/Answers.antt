@@ -5,9 +5,9 @@ use Rattle.hgs_load.specs.Asks.{Asks, answer}
 use Rattle.hgs_load.specs.declared.answer.ReadAnswer.{ReadAnswer}
 use Rattle.hgs_load.specs.declared.answer.ReadAnswer.TheVariants.{Memory}
 use Rattle.hgs_load.specs.Given.{Gave, Takes}
-use Rattle.hgs_load.proofs.GivenLemmas.{gave-none, handed-on, refused-both, refused-first, takes-no-memory}
+use Rattle.hgs_load.specs.Theorems.GivenLemmas.{gave-none, handed-on, refused-both, refused-first, takes-no-memory}
 use Rattle.hgs_reader.specs.Find.{bytes_behind, is_far, more_pieces, pieces_until}
-use Rattle.hgs_load.proofs.AskLemmas.{continues-start, grows-refl, grows-trans}
+use Rattle.hgs_load.specs.Theorems.AskLemmas.{continues-start, grows-refl, grows-trans}
 use Rattle.hgs_reader.proofs.UntilLemmas.{asks_behind, goes_on, ends, none_left, gave_piece, gave_on, gave_end}
 use Rattle.hgs_reader.proofs.find.read_behind.Goals as goal
 

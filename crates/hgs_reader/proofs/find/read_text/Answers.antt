@@ -3,8 +3,8 @@ use Rattle.std.specs.Prelude.{unwrap_or}
 use Rattle.hgs_revlog.specs.Text.{text_of}
 use Rattle.hgs_load.specs.Answer.{is_of_outside}
 use Rattle.hgs_reader.specs.Find.{text_answer, text_at_asks}
-use Rattle.hgs_load.proofs.AskLemmas.{either}
-use Rattle.hgs_load.proofs.GivenLemmas.{takes-refused-read}
+use Rattle.hgs_load.specs.Theorems.AskLemmas.{either}
+use Rattle.hgs_load.specs.Theorems.GivenLemmas.{takes-refused-read}
 use Rattle.hgs_reader.proofs.ChunkLemmas.{chunk_read, chunk_takes}
 use Rattle.hgs_reader.proofs.find.read_text.Goals as goal
 

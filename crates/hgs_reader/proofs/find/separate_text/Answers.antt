@@ -5,8 +5,8 @@ use Rattle.hgs_revlog.specs.Load.{loaded}
 use Rattle.hgs_load.specs.Asks.{answer, then_asks}
 use Rattle.hgs_load.specs.View.{log_answer}
 use Rattle.hgs_reader.specs.Find.{bytes_behind, text_at_asks}
-use Rattle.hgs_load.proofs.GivenLemmas.{takes-then, refused-then}
-use Rattle.hgs_load.proofs.AskLemmas.{answers-then, answers-refused, grows-trans}
+use Rattle.hgs_load.specs.Theorems.GivenLemmas.{takes-then, refused-then}
+use Rattle.hgs_load.specs.Theorems.AskLemmas.{answers-then, answers-refused, grows-trans}
 use Rattle.hgs_reader.proofs.find.separate_text.Goals as goal
 
 pub returns-in-Ok-clause-answer : goal.returns-in-Ok-clause-answer

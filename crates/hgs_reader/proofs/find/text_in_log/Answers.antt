@@ -6,8 +6,8 @@ use Rattle.hgs_load.specs.Asks.{answer}
 use Rattle.hgs_load.specs.Given.{GaveRefused}
 use Rattle.hgs_load.specs.View.{revlog_refusal}
 use Rattle.hgs_reader.specs.Find.{text_at_asks}
-use Rattle.hgs_load.proofs.AskLemmas.{either, grows-refl}
-use Rattle.hgs_load.proofs.GivenLemmas.{gave-none, refused-behind}
+use Rattle.hgs_load.specs.Theorems.AskLemmas.{either, grows-refl}
+use Rattle.hgs_load.specs.Theorems.GivenLemmas.{gave-none, refused-behind}
 use Rattle.hgs_reader.proofs.find.text_in_log.Goals as goal
 
 pub returns-in-None-clause-given : goal.returns-in-None-clause-given

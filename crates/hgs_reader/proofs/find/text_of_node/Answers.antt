@@ -1,6 +1,6 @@
 use Rattle.std.proofs.Common.{List, ℕ, Ok, Err, sym, ◌∙◌}
-use Rattle.hgs_load.proofs.AskLemmas.{grows-trans}
-use Rattle.hgs_load.proofs.GivenLemmas.{takes-refused-read}
+use Rattle.hgs_load.specs.Theorems.AskLemmas.{grows-trans}
+use Rattle.hgs_load.specs.Theorems.GivenLemmas.{takes-refused-read}
 use Rattle.hgs_reader.specs.Find.{text_asks}
 use Rattle.hgs_reader.proofs.FirstLemmas.{first-inline, first-separate, inline-takes, separate-takes}
 use Rattle.hgs_reader.proofs.find.text_of_node.Goals as goal

@@ -1,5 +1,5 @@
-use Rattle.hgs_reader.proofs.EntryLemmas.{node-last}
-use Rattle.hgs_reader.proofs.HeldLemmas.{more_nodes, nodes_behind, nodes_in_front}
+use Rattle.hgs_reader.specs.Theorems.EntryLemmas.{node-last}
+use Rattle.hgs_reader.specs.Theorems.HeldLemmas.{more_nodes, nodes_behind, nodes_in_front}
 use Rattle.hgs_reader.proofs.laws.nodes_among_entries.Goals as goal
 
 pub returns : goal.returns

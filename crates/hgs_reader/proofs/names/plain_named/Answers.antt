@@ -1,5 +1,5 @@
 use Rattle.std.proofs.Common.{sym, arith}
-use Rattle.hgs_model.proofs.StepLemmas.{number-below}
+use Rattle.hgs_model.specs.Theorems.StepLemmas.{number-below}
 use Rattle.hgs_reader.proofs.names.plain_named.Goals as goal
 
 pub returns-in-Some-clause-below : goal.returns-in-Some-clause-below

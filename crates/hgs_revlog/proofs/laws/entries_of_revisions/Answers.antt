@@ -1,5 +1,5 @@
 use Rattle.hgs_revlog.proofs.EntriesLemmas.{parents-agrees}
-use Rattle.hgs_revlog.proofs.HeldLemmas.{length-agrees, nodes_of-agrees}
+use Rattle.hgs_revlog.specs.Theorems.HeldLemmas.{length-agrees, nodes_of-agrees}
 use Rattle.hgs_revlog.proofs.laws.entries_of_revisions.Goals as goal
 
 pub returns-clause-nodes : goal.returns-clause-nodes

@@ -1,5 +1,5 @@
-use Rattle.hgs_revlog.proofs.TailLemmas.{ignore-refuse}
-use Rattle.hgs_revlog.proofs.TailHeldLemmas.{ignored-held, front-ignored}
+use Rattle.hgs_revlog.specs.Theorems.TailLemmas.{ignore-refuse}
+use Rattle.hgs_revlog.specs.Theorems.TailHeldLemmas.{ignored-held, front-ignored}
 use Rattle.hgs_revlog.proofs.laws.ignored_rest.Goals as goal
 
 pub returns-clause-front : goal.returns-clause-front

@@ -1,4 +1,4 @@
-use Rattle.hgs_revlog.proofs.AddedLemmas.{new-named, new-may-be-pushed, new-taken, new-held}
+use Rattle.hgs_revlog.specs.Theorems.AddedLemmas.{new-named, new-may-be-pushed, new-taken, new-held}
 use Rattle.hgs_revlog.proofs.laws.new_revision.Goals as goal
 
 pub returns-clause-named : goal.returns-clause-named

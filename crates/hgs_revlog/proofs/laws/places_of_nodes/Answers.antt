@@ -1,4 +1,4 @@
-use Rattle.hgs_revlog.proofs.TailHeldLemmas.{place-among}
+use Rattle.hgs_revlog.specs.Theorems.TailHeldLemmas.{place-among}
 use Rattle.hgs_revlog.proofs.laws.places_of_nodes.Goals as goal
 
 pub returns : goal.returns

@@ -1,5 +1,5 @@
-use Rattle.hgs_revlog.proofs.TailLemmas.{ignore-until, until-fault}
-use Rattle.hgs_revlog.proofs.TailHeldLemmas.{until-held, front-until}
+use Rattle.hgs_revlog.specs.Theorems.TailLemmas.{ignore-until, until-fault}
+use Rattle.hgs_revlog.specs.Theorems.TailHeldLemmas.{until-held, front-until}
 use Rattle.hgs_revlog.proofs.laws.until_node.Goals as goal
 
 pub returns-clause-holds : goal.returns-clause-holds

@@ -1,5 +1,5 @@
-use Rattle.hgs_revlog.proofs.ReadLemmas.{loaded-held}
-use Rattle.hgs_revlog.proofs.StandingLemmas.{held-loaded}
+use Rattle.hgs_revlog.specs.Theorems.ReadLemmas.{loaded-held}
+use Rattle.hgs_revlog.specs.Theorems.StandingLemmas.{held-loaded}
 use Rattle.hgs_revlog.proofs.laws.whole_index.Goals as goal
 
 pub returns-clause-holds : goal.returns-clause-holds

@@ -1,5 +1,5 @@
 use Rattle.hgs_stands.proofs.BegunLemmas.{begun-open, begun-shows}
-use Rattle.hgs_stands.proofs.Below.{SampleLaws}
+use Rattle.hgs_stands.specs.Theorems.Below.{SampleLaws}
 use Rattle.hgs_stands.proofs.examples.begun_commit_is_open.Goals as goal
 
 pub returns : goal.returns

@@ -1,5 +1,5 @@
 use Rattle.hgs_stands.proofs.NearLemmas.{foreign-file, foreign-word, journal-is-none, lacking-word, locked, tracked-too-many, unknown-mark, unknown-root, unlisted, untracked}
-use Rattle.hgs_stands.proofs.Below.{SampleLaws}
+use Rattle.hgs_stands.specs.Theorems.Below.{SampleLaws}
 use Rattle.hgs_stands.proofs.examples.near_misses_do_not_stand.Goals as goal
 
 pub returns : goal.returns

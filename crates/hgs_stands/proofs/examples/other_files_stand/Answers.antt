@@ -1,5 +1,5 @@
 use Rattle.hgs_stands.proofs.NearLemmas.{listed-stands, tracked-stands}
-use Rattle.hgs_stands.proofs.Below.{SampleLaws}
+use Rattle.hgs_stands.specs.Theorems.Below.{SampleLaws}
 use Rattle.hgs_stands.proofs.examples.other_files_stand.Goals as goal
 
 pub returns : goal.returns

@@ -1,5 +1,5 @@
 use Rattle.hgs_stands.proofs.SampleLemmas.{sample-clean}
-use Rattle.hgs_stands.proofs.Below.{SampleLaws}
+use Rattle.hgs_stands.specs.Theorems.Below.{SampleLaws}
 use Rattle.hgs_stands.proofs.examples.two_drafts_stand.Goals as goal
 
 pub returns : goal.returns

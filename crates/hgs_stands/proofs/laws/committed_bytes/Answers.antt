@@ -1,5 +1,5 @@
 use Rattle.hgs_stands.proofs.CommittedLemmas.{committed}
-use Rattle.hgs_stands.proofs.Below.{HistoryLaws}
+use Rattle.hgs_stands.specs.Theorems.Below.{HistoryLaws}
 use Rattle.hgs_stands.proofs.laws.committed_bytes.Goals as goal
 
 pub returns : goal.returns

@@ -1,5 +1,5 @@
-use Rattle.hgs_stands.proofs.PhaseLemmas.{entries-nodes, entries-parents, phases-by-roots}
-use Rattle.hgs_stands.proofs.Below.{HistoryLaws}
+use Rattle.hgs_stands.specs.Theorems.PhaseLemmas.{entries-nodes, entries-parents, phases-by-roots}
+use Rattle.hgs_stands.specs.Theorems.Below.{HistoryLaws}
 use Rattle.hgs_stands.proofs.laws.entries_of_changesets.Goals as goal
 
 pub returns : goal.returns

@@ -1,5 +1,5 @@
-use Rattle.hgs_stands.proofs.ApartLemmas.{file-apart, line-apart}
-use Rattle.hgs_stands.proofs.Below.{NameLaws}
+use Rattle.hgs_stands.specs.Theorems.ApartLemmas.{file-apart, line-apart}
+use Rattle.hgs_stands.specs.Theorems.Below.{NameLaws}
 use Rattle.hgs_stands.proofs.laws.filelogs_stand_apart.Goals as goal
 
 pub returns : goal.returns

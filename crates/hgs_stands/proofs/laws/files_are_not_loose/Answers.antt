@@ -1,5 +1,5 @@
-use Rattle.hgs_stands.proofs.Below.{NameLaws}
-use Rattle.hgs_stands.proofs.LooseLemmas.{filelog-not-loose, line-not-loose, not-loose, same-beside}
+use Rattle.hgs_stands.specs.Theorems.Below.{NameLaws}
+use Rattle.hgs_stands.specs.Theorems.LooseLemmas.{filelog-not-loose, line-not-loose, not-loose, same-beside}
 use Rattle.hgs_stands.proofs.laws.files_are_not_loose.Goals as goal
 
 pub returns : goal.returns

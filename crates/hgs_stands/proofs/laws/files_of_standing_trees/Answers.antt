@@ -1,4 +1,4 @@
-use Rattle.hgs_stands.proofs.FilesLemmas.{files-apart, name-used, path-listed, stands-closed}
+use Rattle.hgs_stands.specs.Theorems.FilesLemmas.{files-apart, name-used, path-listed, stands-closed}
 use Rattle.hgs_stands.proofs.laws.files_of_standing_trees.Goals as goal
 
 pub returns : goal.returns

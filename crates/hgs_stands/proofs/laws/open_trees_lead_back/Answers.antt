@@ -1,6 +1,6 @@
 use Rattle.std.proofs.Common.{refl}
 use Rattle.hgs_stands.proofs.OpenLemmas.{open-same, restored-is, undone-is}
-use Rattle.hgs_stands.proofs.Below.{HistoryLaws, NameLaws, TextLaws}
+use Rattle.hgs_stands.specs.Theorems.Below.{HistoryLaws, NameLaws, TextLaws}
 use Rattle.hgs_stands.proofs.laws.open_trees_lead_back.Goals as goal
 
 pub returns : goal.returns

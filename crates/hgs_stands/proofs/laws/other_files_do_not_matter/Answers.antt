@@ -1,6 +1,6 @@
-use Rattle.hgs_stands.proofs.LooseLemmas.{stands-beside}
-use Rattle.hgs_stands.proofs.StayLemmas.{list-goes-on, revlogs-stay, stands-on}
-use Rattle.hgs_stands.proofs.Below.{NameLaws}
+use Rattle.hgs_stands.specs.Theorems.LooseLemmas.{stands-beside}
+use Rattle.hgs_stands.specs.Theorems.StayLemmas.{list-goes-on, revlogs-stay, stands-on}
+use Rattle.hgs_stands.specs.Theorems.Below.{NameLaws}
 use Rattle.hgs_stands.proofs.laws.other_files_do_not_matter.Goals as goal
 
 pub returns : goal.returns

@@ -1,5 +1,5 @@
 use Rattle.hgs_stands.proofs.SameLemmas.{changesets-same, phases-same, bookmarks-same, working-parents-same}
-use Rattle.hgs_stands.proofs.Below.{HistoryLaws, TextLaws}
+use Rattle.hgs_stands.specs.Theorems.Below.{HistoryLaws, TextLaws}
 use Rattle.hgs_stands.proofs.laws.parts_say_one.Goals as goal
 
 pub returns : goal.returns

@@ -1,5 +1,5 @@
-use Rattle.hgs_stands.proofs.PhaseLemmas.{phases-given}
-use Rattle.hgs_stands.proofs.Below.{HistoryLaws}
+use Rattle.hgs_stands.specs.Theorems.PhaseLemmas.{phases-given}
+use Rattle.hgs_stands.specs.Theorems.Below.{HistoryLaws}
 use Rattle.hgs_stands.proofs.laws.phases_of_entries.Goals as goal
 
 pub returns : goal.returns

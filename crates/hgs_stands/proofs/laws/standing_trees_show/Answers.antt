@@ -1,5 +1,5 @@
-use Rattle.hgs_stands.proofs.ShowsLemmas.{holds-begins, shows-itself}
-use Rattle.hgs_stands.proofs.Below.{HistoryLaws, TextLaws}
+use Rattle.hgs_stands.specs.Theorems.ShowsLemmas.{holds-begins, shows-itself}
+use Rattle.hgs_stands.specs.Theorems.Below.{HistoryLaws, TextLaws}
 use Rattle.hgs_stands.proofs.laws.standing_trees_show.Goals as goal
 
 pub returns : goal.returns

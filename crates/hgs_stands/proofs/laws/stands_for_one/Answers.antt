@@ -1,5 +1,5 @@
 use Rattle.hgs_stands.proofs.SameLemmas.{stands-once}
-use Rattle.hgs_stands.proofs.Below.{HistoryLaws, TextLaws}
+use Rattle.hgs_stands.specs.Theorems.Below.{HistoryLaws, TextLaws}
 use Rattle.hgs_stands.proofs.laws.stands_for_one.Goals as goal
 
 pub returns : goal.returns

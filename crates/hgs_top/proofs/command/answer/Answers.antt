@@ -13,7 +13,7 @@ use Rattle.hgs_top.specs.declared.listing.Listing.TheVariants.{Heads, Bookmarks,
 use Rattle.hgs_top.specs.Pages.{page_outcome, page_text}
 use Rattle.hgs_top.specs.Run.{OfReply, IsTold, IsCut, IsUnwritten, IsReplied}
 use Rattle.hgs_top.specs.Words.{question_of}
-use Rattle.hgs_load.proofs.AskLemmas.{grows-refl}
+use Rattle.hgs_load.specs.Theorems.AskLemmas.{grows-refl}
 use Rattle.hgs_top.specs.Given.{question_reads, ReadsOnly}
 use Rattle.hgs_top.proofs.GivenLemmas.{only-none}
 use Rattle.hgs_top.proofs.LogLemmas.{of_each}

@@ -1,4 +1,4 @@
-use Rattle.hgs_load.proofs.GivenLemmas.{text-no-memory}
+use Rattle.hgs_load.specs.Theorems.GivenLemmas.{text-no-memory}
 use Rattle.hgs_top.specs.Outcome.{contents_asks, subject_of}
 use Rattle.hgs_top.proofs.contents.add_contents.Goals as goal
 

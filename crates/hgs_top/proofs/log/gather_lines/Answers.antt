@@ -1,8 +1,8 @@
 use Rattle.std.proofs.Common.{ℕ, ◌<◌, ◌-◌, length, arith, refl, sym, ◌∙◌, subst}
 use Rattle.hgs_load.specs.View.{View}
-use Rattle.hgs_load.proofs.AskLemmas.{grows-refl, grows-trans}
+use Rattle.hgs_load.specs.Theorems.AskLemmas.{grows-refl, grows-trans}
 use Rattle.hgs_load.specs.Given.{Gave}
-use Rattle.hgs_load.proofs.GivenLemmas.{gave-none}
+use Rattle.hgs_load.specs.Theorems.GivenLemmas.{gave-none}
 use Rattle.hgs_top.specs.Given.{lines_reads}
 use Rattle.hgs_top.proofs.GivenLemmas.{line-on, line-refused}
 use Rattle.hgs_top.proofs.LogLemmas.{at_first, refused_told, next_told, unwritten_told, of_all}

@@ -1,5 +1,5 @@
 use Rattle.std.proofs.Common.{sym, arith}
-use Rattle.hgs_bytes.proofs.TextLemmas.{split_shorter}
+use Rattle.hgs_bytes.specs.Theorems.TextLemmas.{split_shorter}
 use Rattle.hgs_input.proofs.input.Input.line.Goals as goal
 
 pub invariant_of-result : goal.invariant_of-result

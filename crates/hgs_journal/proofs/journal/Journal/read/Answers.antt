@@ -1,6 +1,6 @@
 use Rattle.std.proofs.Common.{◌+◌, refl, sym, ◌∙◌, ap, arith}
 use Rattle.std.specs.Prelude.{Ok}
-use Rattle.hgs_bytes.proofs.TextLemmas.{split_shorter}
+use Rattle.hgs_bytes.specs.Theorems.TextLemmas.{split_shorter}
 use Rattle.hgs_journal.proofs.PathLemmas.{paths-read}
 use Rattle.hgs_journal.proofs.ReadLemmas.{one_line, line_refused, rest_passed}
 use Rattle.hgs_journal.proofs.journal.Journal.read.Goals as goal

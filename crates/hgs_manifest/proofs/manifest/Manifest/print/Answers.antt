@@ -1,4 +1,4 @@
-use Rattle.hgs_index.proofs.AppendLemmas.{front_grows}
+use Rattle.hgs_index.specs.Theorems.AppendLemmas.{front_grows}
 use Rattle.hgs_manifest.proofs.PrintLemmas.{one_more}
 use Rattle.hgs_manifest.proofs.manifest.Manifest.print.Goals as goal
 

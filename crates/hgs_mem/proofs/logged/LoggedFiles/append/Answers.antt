@@ -2,7 +2,7 @@ use Rattle.std.proofs.Common.{List, [], ◌∷◌}
 use Rattle.hgs_files.specs.declared.op.Op.{Op}
 use Rattle.hgs_files.specs.declared.op.Op.TheVariants.{Append}
 use Rattle.hgs_files.specs.Log.{IsDone}
-use Rattle.hgs_files.proofs.LogLemmas.{after-done}
+use Rattle.hgs_files.specs.Theorems.LogLemmas.{after-done}
 use Rattle.hgs_mem.specs.Pieces.{AreSmall}
 use Rattle.hgs_mem.proofs.KeptLemmas.{still_kept}
 use Rattle.hgs_mem.proofs.logged.LoggedFiles.append.Goals as goal

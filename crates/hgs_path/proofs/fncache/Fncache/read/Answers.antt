@@ -2,7 +2,7 @@ use Rattle.std.proofs.Common.{◌≡◌, ◌+◌, ◌∷◌, ◌∙◌, ap, sym,
 use Rattle.hgs_bytes.specs.Text.{lines_of}
 use Rattle.hgs_path.specs.Fncache.{listing}
 use Rattle.hgs_path.specs.ListedNames.{is_listed, names_from}
-use Rattle.hgs_path.proofs.FncacheLemmas.{files_more, files-start, more-line}
+use Rattle.hgs_path.specs.Theorems.FncacheLemmas.{files_more, files-start, more-line}
 use Rattle.hgs_path.proofs.fncache.Fncache.read.Goals as goal
 
 pub loop-rest-init : goal.loop-rest-init

@@ -2,7 +2,7 @@ use Rattle.std.proofs.Common.{◌≡◌, ◌+◌, ◌≤◌, length}
 use Rattle.hgs_bytes.specs.Text.{lines_of}
 use Rattle.hgs_path.specs.Fncache.{files_of, listing}
 use Rattle.hgs_path.specs.ListedNames.{names_from}
-use Rattle.hgs_path.proofs.FncacheLemmas.{files_more}
+use Rattle.hgs_path.specs.Theorems.FncacheLemmas.{files_more}
 use Rattle.hgs_path.proofs.fncache.Fncache.read.Given as goal
 
 abbrev pub invariant-loop-rest : goal.invariant-loop-rest

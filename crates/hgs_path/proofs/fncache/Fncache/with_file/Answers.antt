@@ -2,7 +2,7 @@ use Rattle.std.proofs.Common.{◌∙◌, ap, sym, refl, subst}
 use Rattle.hgs_path.specs.Fncache.{listed_in, listing, with_file}
 use Rattle.hgs_path.specs.Owners.{Keeps, owns_name, with_path}
 use Rattle.hgs_path.proofs.EnterLemmas.{index-owns, data-owns}
-use Rattle.hgs_path.proofs.FncacheLemmas.{index-added, data-added}
+use Rattle.hgs_path.specs.Theorems.FncacheLemmas.{index-added, data-added}
 use Rattle.hgs_path.proofs.fncache.Fncache.with_file.Goals as goal
 use Rattle.hgs_path.proofs.fncache.Fncache.with_file.Goals.{in-I+in_ok-insert-in-I, in-D+in_ok-insert-in-D}
 

@@ -1,5 +1,5 @@
 use Rattle.hgs_path.specs.Fncache.{listing}
-use Rattle.hgs_path.proofs.FncacheLemmas.{both-given}
+use Rattle.hgs_path.specs.Theorems.FncacheLemmas.{both-given}
 use Rattle.hgs_path.proofs.fncache.Fncache.with_path.Goals as goal
 
 pub returns : goal.returns

@@ -1,7 +1,7 @@
 use Rattle.std.proofs.Common.{take, ◌∙◌, ap, arith}
 use Rattle.hgs_model.specs.Phase.{greater}
 use Rattle.hgs_phases.specs.Phases.{parent_phase, raised}
-use Rattle.hgs_phases.proofs.PhaseLemmas.{up_next, all_phases}
+use Rattle.hgs_phases.specs.Theorems.PhaseLemmas.{up_next, all_phases}
 use Rattle.hgs_phases.proofs.roots.Roots.phases_of.Goals as goal
 
 pub loop-rev-preserved : goal.loop-rev-preserved

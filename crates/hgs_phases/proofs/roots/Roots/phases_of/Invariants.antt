@@ -1,4 +1,4 @@
-use Rattle.hgs_phases.proofs.PhaseLemmas.{UpTo}
+use Rattle.hgs_phases.specs.Theorems.PhaseLemmas.{UpTo}
 use Rattle.hgs_phases.proofs.roots.Roots.phases_of.Given as goal
 
 abbrev pub invariant-loop-rev : goal.invariant-loop-rev

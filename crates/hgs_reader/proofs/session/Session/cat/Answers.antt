@@ -2,8 +2,8 @@ use Rattle.std.proofs.Common.{List, refl}
 use Rattle.hgs_index.specs.Manifest.{Row}
 use Rattle.hgs_load.specs.Asks.{answer, then_asks}
 use Rattle.hgs_reader.specs.Contents.{tree_asks, file_node, body_asks}
-use Rattle.hgs_load.proofs.GivenLemmas.{text-then, refused-then}
-use Rattle.hgs_load.proofs.AskLemmas.{adds-then, adds-refused}
+use Rattle.hgs_load.specs.Theorems.GivenLemmas.{text-then, refused-then}
+use Rattle.hgs_load.specs.Theorems.AskLemmas.{adds-then, adds-refused}
 use Rattle.hgs_reader.proofs.session.Session.cat.Goals as goal
 
 pub returns-in-Err-clause-answer : goal.returns-in-Err-clause-answer

@@ -5,7 +5,7 @@ use Rattle.hgs_revlog.specs.Log.{Log}
 use Rattle.hgs_revlog.specs.Text.{span_of}
 use Rattle.hgs_reader.specs.Line.{change_at, change_asks}
 use Rattle.hgs_load.specs.View.{View, changelog_data}
-use Rattle.hgs_load.proofs.GivenLemmas.{takes-refused-read}
+use Rattle.hgs_load.specs.Theorems.GivenLemmas.{takes-refused-read}
 use Rattle.hgs_reader.proofs.ChunkLemmas.{chunk_answers, chunk_takes}
 use Rattle.hgs_reader.proofs.session.Session.change.Goals as goal
 

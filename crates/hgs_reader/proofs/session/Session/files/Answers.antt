@@ -3,8 +3,8 @@ use Rattle.hgs_index.specs.Manifest.{Row}
 use Rattle.hgs_load.specs.declared.answer.ReadAnswer.{ReadAnswer}
 use Rattle.hgs_load.specs.Asks.{Asks, answer, then_asks}
 use Rattle.hgs_reader.specs.Contents.{tree_asks, files_text}
-use Rattle.hgs_load.proofs.GivenLemmas.{gave-then, text-then, text-given, text-lost, refused-then}
-use Rattle.hgs_load.proofs.AskLemmas.{adds-then, adds-refused, adds-given}
+use Rattle.hgs_load.specs.Theorems.GivenLemmas.{gave-then, text-then, text-given, text-lost, refused-then}
+use Rattle.hgs_load.specs.Theorems.AskLemmas.{adds-then, adds-refused, adds-given}
 use Rattle.hgs_reader.proofs.session.Session.files.Goals as goal
 
 pub returns-in_ok-add_files-in-Ok-clause-answer : goal.returns-in_ok-add_files-in-Ok-clause-answer

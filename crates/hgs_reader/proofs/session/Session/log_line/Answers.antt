@@ -8,8 +8,8 @@ use Rattle.hgs_reader.specs.Line.{line_at, line_asks}
 use Rattle.hgs_load.specs.declared.answer.ReadAnswer.{ReadAnswer}
 use Rattle.hgs_load.specs.Asks.{answer}
 use Rattle.hgs_load.specs.Given.{Gave}
-use Rattle.hgs_load.proofs.GivenLemmas.{takes-ended, text-lost, text-refused-read}
-use Rattle.hgs_load.proofs.AskLemmas.{either}
+use Rattle.hgs_load.specs.Theorems.GivenLemmas.{takes-ended, text-lost, text-refused-read}
+use Rattle.hgs_load.specs.Theorems.AskLemmas.{either}
 use Rattle.hgs_reader.proofs.ChunkLemmas.{chunk_read, chunk_gave}
 use Rattle.hgs_reader.proofs.session.Session.log_line.Goals as goal
 

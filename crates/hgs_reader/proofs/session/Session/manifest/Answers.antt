@@ -4,8 +4,8 @@ use Rattle.hgs_index.specs.ChangeText.{Change}
 use Rattle.hgs_index.specs.Manifest.{Row}
 use Rattle.hgs_reader.specs.Contents.{rows_asks}
 use Rattle.hgs_reader.specs.Line.{change_asks}
-use Rattle.hgs_load.proofs.GivenLemmas.{takes-then, refused-then}
-use Rattle.hgs_load.proofs.AskLemmas.{answers-then, answers-refused, grows-trans}
+use Rattle.hgs_load.specs.Theorems.GivenLemmas.{takes-then, refused-then}
+use Rattle.hgs_load.specs.Theorems.AskLemmas.{answers-then, answers-refused, grows-trans}
 use Rattle.hgs_reader.proofs.session.Session.manifest.Goals as goal
 
 pub returns-in-Ok-clause-answer : goal.returns-in-Ok-clause-answer

@@ -5,7 +5,7 @@ use Rattle.hgs_load.specs.Asks.{answer, MayAnswerWhereTold}
 use Rattle.hgs_load.specs.Given.{Gave, GaveRefused}
 use Rattle.hgs_load.specs.Refresh.{refresh_asks}
 use Rattle.hgs_load.specs.View.{View}
-use Rattle.hgs_load.proofs.AskLemmas.{either}
+use Rattle.hgs_load.specs.Theorems.AskLemmas.{either}
 use Rattle.hgs_reader.proofs.session.Session.refresh.Goals as goal
 
 pub returns-in-Ok-clause-answer : goal.returns-in-Ok-clause-answer

@@ -5,8 +5,8 @@ use Rattle.hgs_index.specs.Revision.{Revision}
 use Rattle.hgs_revlog.specs.Log.{place_of}
 use Rattle.hgs_revlog.specs.Text.{text_of}
 use Rattle.hgs_revlog.specs.Add.{next_entry, added, added_at, matched}
-use Rattle.hgs_revlog.proofs.AddLemmas.{chunk_within, copied_or}
-use Rattle.hgs_revlog.proofs.LoadLemmas.{gives}
+use Rattle.hgs_revlog.specs.Theorems.AddLemmas.{chunk_within, copied_or}
+use Rattle.hgs_revlog.specs.Theorems.LoadLemmas.{gives}
 use Rattle.hgs_revlog.proofs.revlog.Revlog.add.Goals as goal
 
 pub matched-requires-clause-within : goal.matched-requires-clause-within

@@ -3,7 +3,7 @@ use Rattle.hgs_index.specs.declared.entry.Entry.{Entry}
 use Rattle.hgs_index.specs.Entry.{Fits}
 use Rattle.hgs_index.specs.Revision.{parent_node}
 use Rattle.hgs_revlog.specs.Log.{nodes_of}
-use Rattle.hgs_revlog.proofs.AddLemmas.{length-chunk_of, length-node_hash, next_fits}
+use Rattle.hgs_revlog.specs.Theorems.AddLemmas.{length-chunk_of, length-node_hash, next_fits}
 use Rattle.hgs_revlog.proofs.revlog.Revlog.added_new.Goals as goal
 
 pub overflow_cast-entry : goal.overflow_cast-entry

@@ -1,7 +1,7 @@
 use Rattle.std.proofs.Common.{◌≡◌, ◌≤◌, length, take, drop, Ok, arith, sym, ◌∙◌, ap}
 use Rattle.hgs_revlog.specs.Log.{with_entry}
 use Rattle.hgs_revlog.specs.Load.{loaded, entry_behind}
-use Rattle.hgs_revlog.proofs.LoadLemmas.{load_rest, load_stops, load_ends, load_on, taken_entry, gives_err}
+use Rattle.hgs_revlog.specs.Theorems.LoadLemmas.{load_rest, load_stops, load_ends, load_on, taken_entry, gives_err}
 use Rattle.hgs_revlog.proofs.revlog.Revlog.load.Goals as goal
 
 pub returns-in-Err : goal.returns-in-Err

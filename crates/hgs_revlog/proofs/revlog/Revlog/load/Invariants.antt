@@ -1,6 +1,6 @@
 use Rattle.std.proofs.Common.{◌≡◌, length}
 use Rattle.hgs_revlog.specs.Load.{loaded}
-use Rattle.hgs_revlog.proofs.LoadLemmas.{load_rest}
+use Rattle.hgs_revlog.specs.Theorems.LoadLemmas.{load_rest}
 use Rattle.hgs_revlog.proofs.revlog.Revlog.load.Given as goal
 
 abbrev pub invariant-loop-bytes : goal.invariant-loop-bytes

@@ -2,7 +2,7 @@ use Rattle.std.proofs.Common.{◌≡◌, ◌≤◌, true, [], length, take, drop
 use Rattle.hgs_revlog.specs.Log.{Log, with_entry}
 use Rattle.hgs_revlog.specs.Load.{loaded_either, cell_of, entry_behind}
 use Rattle.hgs_revlog.proofs.FormLemmas.{left_of, left-front, left-behind, left-ends, left-shorter, form-begins}
-use Rattle.hgs_revlog.proofs.LoadLemmas.{load_rest, load_stops, load_ends, load_on, taken_entry, gives, gives_err}
+use Rattle.hgs_revlog.specs.Theorems.LoadLemmas.{load_rest, load_stops, load_ends, load_on, taken_entry, gives, gives_err}
 use Rattle.hgs_revlog.proofs.revlog.Revlog.load_inline.Goals as goal
 
 pub loop-bytes-init : goal.loop-bytes-init

@@ -1,7 +1,7 @@
 use Rattle.std.proofs.Common.{◌≡◌, true, length}
 use Rattle.hgs_revlog.specs.Load.{loaded_either}
 use Rattle.hgs_revlog.proofs.FormLemmas.{left_of}
-use Rattle.hgs_revlog.proofs.LoadLemmas.{load_rest}
+use Rattle.hgs_revlog.specs.Theorems.LoadLemmas.{load_rest}
 use Rattle.hgs_revlog.proofs.revlog.Revlog.load_inline.Given as goal
 
 abbrev pub invariant-loop-bytes : goal.invariant-loop-bytes

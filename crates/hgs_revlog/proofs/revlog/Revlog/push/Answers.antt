@@ -1,5 +1,5 @@
 use Rattle.std.proofs.Common.{sym}
-use Rattle.hgs_revlog.proofs.LoadLemmas.{taken_entry}
+use Rattle.hgs_revlog.specs.Theorems.LoadLemmas.{taken_entry}
 use Rattle.hgs_revlog.proofs.revlog.Revlog.push.Goals as goal
 
 pub append-requires-clause-faultless : goal.append-requires-clause-faultless

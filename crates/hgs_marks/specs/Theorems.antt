@@ -1,0 +1,6 @@
+-- What is proved of this crate's definitions and the crates above build on: statements with their proofs, no definitions
+-- that a contract cites.
+pub mod DirstateLemmas
+pub mod DirstateText
+pub mod MarkOrder
+pub mod MarkText

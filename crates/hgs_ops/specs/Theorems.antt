@@ -1,0 +1,16 @@
+-- What is proved of this crate's definitions and the crates above build on: statements with their proofs, no definitions
+-- that a contract cites.
+pub mod Apart
+pub mod CommitLemmas
+pub mod CommitTree
+pub mod FileGrowth
+pub mod GrowLemmas
+pub mod NameLines
+pub mod NodeLemmas
+pub mod OnceLemmas
+pub mod Replace
+pub mod RootsLemmas
+pub mod RootsStay
+pub mod SmallLemmas
+pub mod StandsCommit
+pub mod Touch
