@@ -1,0 +1,84 @@
+#!/usr/bin/env python3
+"""Looks over the tree itself: what holds of every crate and is no matter of a proof.
+
+Each line of crates.txt names only lines above it, or libraries that are no crates of the tree; a crate names nothing of another
+crate's `proofs/`; no definition cites a theorem; the text that a must-fail edit replaces stands once; no module is called
+`out`; `HANDLES` has its one line. The last line is 'N passed, M failed'.
+"""
+
+import os
+import re
+import subprocess
+import sys
+
+top = os.path.dirname(os.path.dirname(os.path.abspath(__file__)))
+os.chdir(top)
+own_proofs = re.compile(r"\bRattle\.(\w+)\.proofs\.")
+
+
+def text_of(path):
+    with open(path, encoding="utf-8") as file:
+        return file.read()
+
+
+def faults_of_crates():
+    above = set()
+    for line in text_of("crates.txt").splitlines():
+        if line.startswith("#"):
+            continue
+        name, libraries = line.split(":")
+        for library in libraries.split():
+            if os.path.isdir(f"crates/{library}") and library not in above:
+                yield f"crates.txt: {name} stands above {library}"
+        above.add(name)
+    for name in os.listdir("crates"):
+        if name not in above:
+            yield f"crates.txt lacks {name}"
+
+
+def faults_of_names(path):
+    crate, folder = path.split("/")[1:3]
+    text = text_of(path)
+    for other in set(own_proofs.findall(text)) - {crate, "std", "core"}:
+        if os.path.isdir(f"crates/{other}"):
+            yield f"{path} names proofs of {other}"
+    if folder == "specs" and "/Theorems" not in path and ".specs.Theorems" in text:
+        yield f"{path} cites a theorem"
+
+
+def faults_of_edit(path):
+    crate = path.split("/must-fail/")[0]
+    words = re.findall(r"^(file|old|new): (.*)$", text_of(path), re.M)
+    text = text_of(os.path.join(crate, words[0][1]))
+    # its pairs are made one after another
+    for (_, old), (_, new) in zip(words[1::2], words[2::2]):
+        if text.count(old) != 1:
+            yield f"{path}: {old!r} does not stand once"
+        text = text.replace(old, new)
+
+
+def faults_of_crate(name, paths):
+    for path in paths:
+        if path.startswith(f"crates/{name}/"):
+            if re.search(r"(^|/)out(/|\.rt$|\.antt$)", path):
+                yield f"{path}: a module called `out`"
+            if path.endswith((".antt", ".rt")):
+                yield from faults_of_names(path)
+
+
+def main():
+    paths = subprocess.run(["git", "ls-files"], stdout=subprocess.PIPE, text=True, check=True).stdout.split()
+    looks = [list(faults_of_crates())]
+    looks.append([] if text_of("HANDLES") == "Handles allowed: Threads, Wait.\n" else ["HANDLES is another"])
+    looks += [list(faults_of_crate(name, paths)) for name in sorted(os.listdir("crates"))]
+    looks += [list(faults_of_edit(path)) for path in paths if path.endswith(".edit")]
+    for faults in looks:
+        for fault in faults:
+            print(f"FAILED {fault}")
+    failed = sum(1 for faults in looks if faults)
+    print(f"{len(looks) - failed} passed, {failed} failed")
+    return 1 if failed else 0
+
+
+if __name__ == "__main__":
+    sys.exit(main())
