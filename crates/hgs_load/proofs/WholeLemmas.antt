@@ -1,5 +1,5 @@
 -- Files that are read whole, and the index piece by piece.
-use Rattle.std.proofs.Common.{◌≡◌, ℕ, zero, suc, ◌+◌, ◌*◌, ◌/◌, ◌<◌, ◌≤◌, List, [], ◌++◌, length, take, drop, Bool, true, false, cond, nat_lt, Option, Some, None, Result, Err, refl, sym, ◌∙◌, ap, arith, append_assoc, append-nil}
+use Rattle.std.proofs.Common.{◌≡◌, ℕ, zero, suc, ◌+◌, ◌*◌, ◌/◌, ◌<◌, ◌≤◌, List, [], ◌++◌, length, take, drop, Bool, true, false, cond, nat_lt, Option, Some, None, Result, Ok, Err, refl, sym, ◌∙◌, ap, arith, min, append_assoc, append-nil, length-append}
 use Rattle.std.specs.Prelude.{unwrap_or}
 use Rattle.std.specs.Option.{option_map}
 use Rattle.std.proofs.lemmas.Bool.Decides.{nat_tests}
@@ -7,12 +7,17 @@ use Rattle.std.proofs.Math.Seq.{drop-append_seam, take-add}
 use Rattle.std.proofs.Math.Nat.{lt-mul-div-succ}
 use Rattle.std.proofs.lemmas.List.{take-append-drop, take_all, length-take}
 use Rattle.hgs_files.specs.Tree.{Tree, bytes_at}
+use Rattle.hgs_revlog.specs.declared.fault.RevFault.{RevFault}
+use Rattle.hgs_revlog.specs.declared.fault.Tail.TheVariants.{Ignore}
+use Rattle.hgs_revlog.specs.Load.{loaded}
+use Rattle.hgs_revlog.specs.Log.{Log}
+use Rattle.hgs_revlog.specs.Theorems.BehindLemmas.{loaded-count}
 use Rattle.hgs_index.specs.declared.kinds.Which.TheVariants.{Part}
 use Rattle.hgs_load.specs.declared.answer.ReadAnswer.{ReadAnswer}
 use Rattle.hgs_load.specs.declared.answer.ReadAnswer.TheVariants.{Limit}
 use Rattle.hgs_load.specs.Asks.{Asks, answer, part_of, at_rest}
 use Rattle.hgs_load.specs.Open.{log_asks, log_of}
-use Rattle.hgs_load.specs.View.{changelog_index, pieces_then, piece_length, most_pieces}
+use Rattle.hgs_load.specs.View.{changelog_index, pieces_by, piece_length, most_pieces, log_answer}
 use Rattle.hgs_load.specs.Whole.{within, whole_asks}
 use Rattle.hgs_load.specs.Theorems.PartLemmas.{part_is}
 
@@ -38,33 +43,68 @@ short_piece n rest h = let e = length-take n rest in take_all n rest (grind (ari
 short_rest : (n left : ℕ) (rest : List ℕ) → nat_lt (length (take n rest)) n ≡ true → take (n + left) rest ≡ rest
 short_rest n left rest h = let e = length-take n rest in take_all (n + left) rest (grind (arith, h, e))
 
--- as many pieces as are left give a front of the file
-pieces_front : {A : Type 0} (t : Tree) (path : List ℕ) (left : ℕ) (bytes rest : List ℕ) (more : List ℕ → Asks A) →
-    bytes_at t path ≡ bytes ++ rest → at_rest t (pieces_then path left bytes more) ≡ at_rest t (more (bytes ++ take (left * piece_length) rest))
-pieces_front t path zero bytes rest more e = ap (λ l. at_rest t (more l)) (sym (append-nil bytes))
-pieces_front {A} t path (suc left) bytes rest more e =
-    let piece : unwrap_or (part_of t path (length bytes) piece_length) [] ≡ take piece_length rest =
-    part_is (t path) (length bytes) piece_length ∙ ap (λ l. take piece_length (drop (length bytes) l)) e ∙ ap (take piece_length) (drop-append_seam bytes rest) in
-    ap (λ p. at_rest t (cond (nat_lt (length p) piece_length) (more (bytes ++ p)) (pieces_then path left (bytes ++ p) more))) piece
+one_more : (n : ℕ) → piece_length + n * piece_length ≡ suc n * piece_length
+one_more n = omega arith
+
+-- what a piece behind these bytes is, in a file that has them behind this front
+pub piece-is : (t : Tree) (path front bytes rest : List ℕ) (place : ℕ) → place ≡ length front + length bytes → bytes_at t path ≡ front ++ bytes ++ rest → unwrap_or (part_of t path place piece_length) [] ≡ take piece_length rest
+piece-is t path front bytes rest place at e =
+    part_is (t path) place piece_length
+    ∙ ap (λ l. take piece_length (drop place l)) e
+    ∙ ap (λ n. take piece_length (drop n (front ++ bytes ++ rest))) (at ∙ sym (length-append front bytes))
+    ∙ ap (take piece_length) (drop-append_seam (front ++ bytes) rest)
+
+pub piece-behind : (file front bytes rest : List ℕ) → file ≡ front ++ bytes ++ rest → file ≡ front ++ (bytes ++ take piece_length rest) ++ drop piece_length rest
+piece-behind file front bytes rest e =
+    e
+    ∙ ap (λ l. front ++ bytes ++ l) (sym (take-append-drop piece_length rest))
+    ∙ sym (append_assoc (front ++ bytes) (take piece_length rest) (drop piece_length rest))
+    ∙ ap (λ l. l ++ drop piece_length rest) (append_assoc front bytes (take piece_length rest))
+
+-- as many pieces as are left give the bytes of the file from their place on
+pub pieces_front : {A : Type 0} (t : Tree) (path front : List ℕ) (place : List ℕ → ℕ) (at : (b : List ℕ) → place b ≡ length front + length b) (left : ℕ) (bytes rest : List ℕ) (more : List ℕ → Asks A) →
+    bytes_at t path ≡ front ++ bytes ++ rest → at_rest t (pieces_by path place left bytes more) ≡ at_rest t (more (bytes ++ take (left * piece_length) rest))
+pieces_front t path front place at zero bytes rest more e = ap (λ l. at_rest t (more l)) (sym (append-nil bytes))
+pieces_front {A} t path front place at (suc left) bytes rest more e =
+    ap (λ p. at_rest t (cond (nat_lt (length p) piece_length) (more (bytes ++ p)) (pieces_by path place left (bytes ++ p) more))) (piece-is t path front bytes rest (place bytes) (at bytes) e)
     ∙ by (nat_lt (length (take piece_length rest)) piece_length) refl
-    (pieces_front t path left (bytes ++ take piece_length rest) (drop piece_length rest) more
-    (e ∙ ap (λ l. bytes ++ l) (sym (take-append-drop piece_length rest)) ∙ sym (append_assoc bytes (take piece_length rest) (drop piece_length rest))))
+    (pieces_front t path front place at left (bytes ++ take piece_length rest) (drop piece_length rest) more (piece-behind (bytes_at t path) front bytes rest e))
     ∙ ap (λ n. at_rest t (more (bytes ++ take n rest))) (one_more left)
   where
-    one_more : (n : ℕ) → piece_length + n * piece_length ≡ suc n * piece_length
-    one_more n = omega arith
-
     by : (b : Bool) → nat_lt (length (take piece_length rest)) piece_length ≡ b
-        → at_rest t (pieces_then path left (bytes ++ take piece_length rest) more) ≡ at_rest t (more (bytes ++ take piece_length rest ++ take (left * piece_length) (drop piece_length rest)))
-        → at_rest t (cond b (more (bytes ++ take piece_length rest)) (pieces_then path left (bytes ++ take piece_length rest) more)) ≡ at_rest t (more (bytes ++ take (piece_length + left * piece_length) rest))
+        → at_rest t (pieces_by path place left (bytes ++ take piece_length rest) more) ≡ at_rest t (more ((bytes ++ take piece_length rest) ++ take (left * piece_length) (drop piece_length rest)))
+        → at_rest t (cond b (more (bytes ++ take piece_length rest)) (pieces_by path place left (bytes ++ take piece_length rest) more)) ≡ at_rest t (more (bytes ++ take (piece_length + left * piece_length) rest))
     by true h on = ap (λ l. at_rest t (more (bytes ++ l))) (short_piece piece_length rest h ∙ sym (short_rest piece_length (left * piece_length) rest h))
     by false h on = on ∙ ap (λ l. at_rest t (more l)) (append_assoc bytes (take piece_length rest) (take (left * piece_length) (drop piece_length rest)) ∙ ap (λ l. bytes ++ l) (sym (take-add piece_length (left * piece_length) rest)))
+
+pub whole-place : (b : List ℕ) → length b ≡ length {A = ℕ} [] + length b
+whole-place b = omega arith
 
 few_pieces : (n : ℕ) → n / 64 ≤ 1000000 → n ≤ most_pieces * piece_length
 few_pieces n h = let e : n < 64 * (n / 64 + 1) = lt-mul-div-succ n (omega arith) in omega (arith, e, h)
 
+-- the front of an index that is read
+pub index-front : (t : Tree) → at_rest t log_asks ≡ log_of (take (most_pieces * piece_length) (bytes_at t changelog_index))
+index-front t = pieces_front t changelog_index [] length whole-place most_pieces [] (bytes_at t changelog_index) (λ index. answer (log_of index)) refl
+
 -- an index of no more entries than a revlog may have is read whole
 pub index-read : (t : Tree) → length (bytes_at t changelog_index) / 64 ≤ 1000000 → at_rest t log_asks ≡ log_of (bytes_at t changelog_index)
-index-read t few =
-    pieces_front t changelog_index most_pieces [] (bytes_at t changelog_index) (λ index. answer (log_of index)) refl
-    ∙ ap log_of (take_all (most_pieces * piece_length) (bytes_at t changelog_index) (few_pieces (length (bytes_at t changelog_index)) few))
+index-read t few = index-front t ∙ ap log_of (take_all (most_pieces * piece_length) (bytes_at t changelog_index) (few_pieces (length (bytes_at t changelog_index)) few))
+
+log-loads : (r : Result Log RevFault) (log : Log) → log_answer changelog_index r ≡ Ok log → r ≡ Ok log
+log-loads (Ok x) log h = cc
+log-loads (Err f) log h = cc
+
+-- an index that was read and loads was read whole
+pub whole-index : (t : Tree) (log : Log) → log_of (take (most_pieces * piece_length) (bytes_at t changelog_index)) ≡ Ok log → (length (bytes_at t changelog_index) < most_pieces * piece_length) × (loaded Ignore (bytes_at t changelog_index) ≡ Ok log)
+whole-index t log h =
+    let index = bytes_at t changelog_index in
+    let loads = log-loads (loaded Ignore (take (most_pieces * piece_length) index)) log h in
+    let all = loaded-count (take (most_pieces * piece_length) index) log loads in
+    let count = all.0 in
+    let few = all.1 in
+    let room : length index < most_pieces * piece_length = (let cut = length-take (most_pieces * piece_length) index in room_is (length index) (length (take (most_pieces * piece_length) index)) (length log.entries) cut count few) in
+    (room, ap (loaded Ignore) (sym (take_all (most_pieces * piece_length) index (omega (arith, room)))) ∙ loads)
+  where
+    room_is : (n cut entries : ℕ) → cut ≡ min (most_pieces * piece_length) n → entries ≡ cut / 64 → entries ≤ 1000000 → n < most_pieces * piece_length
+    room_is n cut entries c e few = omega (arith, c, e, few)
