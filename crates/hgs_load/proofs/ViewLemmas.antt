@@ -1,8 +1,8 @@
 -- The views that parts give.
-use Rattle.std.proofs.Common.{◌≡◌, ℕ, zero, suc, ◌+◌, ◌*◌, ◌<◌, ◌≤◌, min, Bool, true, false, cond, ◌||◌, List, [], ◌++◌, length, take, drop, None, Ok, refl, sym, ◌∙◌, ap, arith, append-nil, length-append}
+use Rattle.std.proofs.Common.{◌≡◌, ℕ, zero, suc, ◌+◌, ◌*◌, ◌<◌, ◌≤◌, Bool, true, false, cond, ◌||◌, List, [], ◌++◌, length, take, drop, None, Ok, refl, sym, ◌∙◌, ap, arith, length-append}
 use Rattle.std.specs.Prelude.{◌==◌, nat_lt, unwrap_or}
 use Rattle.std.proofs.lemmas.Bool.Decides.{nat_tests}
-use Rattle.std.proofs.lemmas.List.{take-append-drop, take_all, length-take, length-drop}
+use Rattle.std.proofs.lemmas.List.{take-append-drop, take_all, length-take-le, length-drop}
 use Rattle.hgs_files.specs.Tree.{Tree, bytes_at}
 use Rattle.hgs_revlog.specs.declared.fault.Tail.TheVariants.{Ignore}
 use Rattle.hgs_revlog.specs.Load.{loaded}
@@ -69,16 +69,12 @@ last-again t old log separate some reads none =
     let room = whole.0 in
     let count = (loaded-count index log whole.1).0 in
     let longer = ap length begins.1 ∙ length-append old.entries begins.0 in
-    let cut = length-take place index in
-    let size : length (take place index) ≡ place = (let at : place ≤ length index = omega (arith, count, longer, some) in cut ∙ lesser place (length index) at) in
+    let size : length (take place index) ≡ place = length-take-le place index (omega (arith, count, longer, some)) in
     let joined : index ≡ take place index ++ drop place index = sym (take-append-drop place index) in
     let short : length (drop place index) ≤ most_pieces * piece_length = (let d = length-drop place index in omega (arith, d, room)) in
-    pieces_front t changelog_index (take place index) (λ b. place + length b) (λ b. ap (λ n. n + length b) (sym size)) most_pieces [] (drop place index) (λ tail. behind_asks old (behind_last old.entries tail)) (joined ∙ ap (λ l. l ++ drop place index) (sym (append-nil (take place index))))
+    pieces_front t changelog_index place (λ b. place + length b) (λ b. refl) most_pieces [] (drop place index) (λ tail. behind_asks old (behind_last old.entries tail)) (ap (λ n. drop n index) (let e : place + 0 ≡ place = omega arith in e))
     ∙ ap (λ tail. at_rest t (behind_asks old (behind_last old.entries tail))) (take_all (most_pieces * piece_length) (drop place index) short)
     ∙ ap (at_rest t) (tail-answers (take place index) (drop place index) old log separate some size (ap (loaded Ignore) (sym joined) ∙ whole.1) begins)
-  where
-    lesser : (a b : ℕ) → a ≤ b → min a b ≡ a
-    lesser a b h = omega (arith, h)
 
 newer-log : (t : Tree) (old log : Log) → at_rest t log_asks ≡ Ok log → first_changed 0 old.entries log.entries ≡ None → at_rest t (newer_log_asks old) ≡ Ok log
 newer-log t old log reads none = by (old.inline || length old.entries == 0) refl

@@ -32,13 +32,13 @@ answer-is {A} x y h = some_is x y (ap answer_of h)
     some_is : (x y : A) → Some x ≡ Some y → x ≡ y
     some_is x y e = cc
 
-no-read : {A : Type 0} (x : A) (path : List ℕ) (from most : ℕ) (rest : Option (List ℕ) → Asks A) → (let q : Asks A = answer x in q) ≡ read path from most rest → ⊥
+pub no-read : {A : Type 0} (x : A) (path : List ℕ) (from most : ℕ) (rest : Option (List ℕ) → Asks A) → (let q : Asks A = answer x in q) ≡ read path from most rest → ⊥
 no-read x path from most rest h = none x (ap answer_of h)
   where
     none : {A : Type 0} (x : A) → Some x ≡ None → ⊥
     none x e = cc
 
-no-ok : {A : Type 0} (x : A) (e : ReadAnswer) → (let a : Result A ReadAnswer = Ok x in a) ≡ Err e → ⊥
+pub no-ok : {A : Type 0} (x : A) (e : ReadAnswer) → (let a : Result A ReadAnswer = Ok x in a) ≡ Err e → ⊥
 no-ok x e h = cc
 
 pub ok-is : {A : Type 0} (x y : A) → (let a : Result A ReadAnswer = Ok x in a) ≡ Ok y → x ≡ y
@@ -88,7 +88,7 @@ pieces-read {A} start path place (suc left) bytes more before after n y (inr h) 
 
 -- ---- a refresh
 
-after-ok : (old : List Entry) (r : Result Log ReadAnswer) (log : Log) → log_after old r ≡ Ok log → first_changed 0 old log.entries ≡ None
+pub after-ok : (old : List Entry) (r : Result Log ReadAnswer) (log : Log) → log_after old r ≡ Ok log → first_changed 0 old log.entries ≡ None
 after-ok old (Err e) log h = absurd (no-ok log e (sym h))
 after-ok old (Ok found) log h = by (first_changed 0 old found.entries) refl h
   where
@@ -96,13 +96,20 @@ after-ok old (Ok found) log h = by (first_changed 0 old found.entries) refl h
     by None same u = let P : Log → Type 0 = λ l. first_changed 0 old l.entries ≡ None in subst P (ok-is found log u) same
     by (Some rev) same u = absurd (no-ok log _ (sym u))
 
+-- the whole index is read before anything is answered
+pub not-answered : (old : List Entry) (r : Result Log ReadAnswer) → whole_log_asks old ≡ answer r → ⊥
+not-answered old r h = none (ap answer_of h)
+  where
+    none : None ≡ Some r → ⊥
+    none e = cc
+
 -- the whole index was read again
 whole-front : (start : Tree) (before after : Option (List Op)) (old : List Entry) (n : ℕ) (log : Log) → GoesTo start before (whole_log_asks old) n after (answer (Ok log)) → IsPrefixOf old log.entries
 whole-front start before after old n log h =
     let r = pieces-read start changelog_index length most_pieces [] (λ index. answer (log_after old (log_of index))) before after n log h in
     front-of-new 0 old log.entries (after-ok old (log_of r.index) log (sym (answer-is (Ok log) (log_after old (log_of r.index)) r.goes_on.2)))
 
-log-loads : (r : Result Log RevFault) (log : Log) → log_answer changelog_index r ≡ Ok log → r ≡ Ok log
+pub log-loads : (r : Result Log RevFault) (log : Log) → log_answer changelog_index r ≡ Ok log → r ≡ Ok log
 log-loads (Ok x) log h = cc
 log-loads (Err f) log h = cc
 
@@ -121,7 +128,7 @@ newer-front start before after old n log h = by (old.inline || length old.entrie
         let r = pieces-read start changelog_index (λ bytes. last_place old.entries + length bytes) most_pieces [] (λ tail. behind_asks old (behind_last old.entries tail)) before after n log m in
         behind-front start r.mid after old (behind_last old.entries r.index) r.rest log r.goes_on
 
-its-log : (marks : List Mark) (log : Log) (roots : List Root) (working : Result Working ReadAnswer) (view : View) → view_with marks log roots working ≡ Ok view → log ≡ view.changelog
+pub its-log : (marks : List Mark) (log : Log) (roots : List Root) (working : Result Working ReadAnswer) (view : View) → view_with marks log roots working ≡ Ok view → log ≡ view.changelog
 its-log marks log roots (Err e) view h = absurd (no-ok view e (sym h))
 its-log marks log roots (Ok w) view h = ap (λ (v : View). v.changelog) (ok-is _ view h)
 

@@ -1,6 +1,8 @@
 -- What a refresh asks.
-use Rattle.std.specs.Prelude.{ℕ, suc, ◌-◌, ◌*◌, ◌/◌, nat_le, Bool, true, false, ◌==◌, ◌&&◌, ◌||◌, List, [], ◌∷◌, length, take, drop, slice_get, Option, Some, None, Result, Ok, Err, if◌then◌else◌}
+use Rattle.std.specs.Prelude.{◌≡◌, ◌+◌, ◌≤◌, IfSome, ℕ, suc, ◌-◌, ◌*◌, ◌/◌, nat_le, Bool, true, false, ◌==◌, ◌&&◌, ◌||◌, List, [], ◌∷◌, length, take, drop, slice_get, Option, Some, None, Result, Ok, Err, if◌then◌else◌}
 use Rattle.hgs_bytes.specs.Bytes.{same}
+use Rattle.hgs_files.specs.declared.op.Op.{Op}
+use Rattle.hgs_files.specs.Tree.{Tree, bytes_at, after_all}
 use Rattle.hgs_index.specs.declared.entry.Entry.{Entry}
 use Rattle.hgs_index.specs.declared.entry.EntryFault.{EntryFault}
 use Rattle.hgs_plan.specs.declared.damage.Part.TheVariants as parts
@@ -9,6 +11,7 @@ use Rattle.hgs_revlog.specs.Load.{separate_at, load_from}
 use Rattle.hgs_revlog.specs.Log.{Log}
 use Rattle.hgs_load.specs.declared.answer.ReadAnswer.{ReadAnswer}
 use Rattle.hgs_load.specs.Asks.{Asks, answer, then_asks}
+use Rattle.hgs_load.specs.Marks.{bookmarks_path, dirstate_path, roots_path}
 use Rattle.hgs_load.specs.Open.{bookmarks_asks, dirstate_asks, roots_asks, log_of, view_of}
 use Rattle.hgs_load.specs.View.{View, changelog_index, damaged, most_pieces, pieces_then, pieces_from, log_answer}
 
@@ -81,3 +84,16 @@ refresh_asks old =
     then_asks (newer_log_asks old.changelog) (λ log.
     then_asks roots_asks (λ roots.
     answer (view_of marks nodes log roots)))))
+
+-- the bytes of the files that a refresh reads whole
+abbrev pub small_files : Tree → ℕ
+small_files t = length (bytes_at t bookmarks_path) + length (bytes_at t dirstate_path) + length (bytes_at t roots_path)
+
+-- the most bytes that a refresh over a separate index is given: the small files, and of the index an entry for each new one and two more
+abbrev pub refresh_bytes : Tree → View → View → ℕ
+refresh_bytes t old new = small_files t + 64 * (length new.changelog.entries - length old.changelog.entries + 2)
+
+-- where nobody else writes, the count of bytes given rises by no more
+abbrev pub GivenFew : Bool → ℕ → ℕ → Option (List Op) → Tree → View → View → Type 0
+GivenFew alone given_old given_new seen start old new =
+    alone ≡ true → old.changelog.inline ≡ false → IfSome seen (λ log. given_new ≤ given_old + refresh_bytes (after_all log start) old new)

@@ -1,9 +1,9 @@
 -- A refresh over an old view of the same course.
-use Rattle.std.proofs.Common.{◌≡◌, ℕ, zero, suc, ◌*◌, ◌/◌, ◌<◌, ◌≤◌, min, List, [], ◌∷◌, ◌++◌, length, take, drop, Bool, true, false, cond, ◌||◌, Some, None, Option, Result, Ok, Err, refl, sym, ◌∙◌, ap, subst, arith, length-append}
+use Rattle.std.proofs.Common.{◌≡◌, ℕ, zero, suc, ◌*◌, ◌/◌, ◌<◌, ◌≤◌, List, [], ◌∷◌, ◌++◌, length, take, drop, Bool, true, false, cond, ◌||◌, Some, None, Result, Ok, Err, refl, sym, ◌∙◌, ap, subst, arith, length-append}
 use Rattle.std.specs.Prelude.{◌==◌}
 use Rattle.std.proofs.lemmas.Bool.Decides.{nat_tests}
-use Rattle.std.proofs.lemmas.List.{take-append-drop, length-take, take-append-le, drop-append-le, length-drop}
-use Rattle.hgs_bytes.specs.Bytes.{IsPrefixOf, same}
+use Rattle.std.proofs.lemmas.List.{take-append-drop, length-take-le, take-append-le, drop-append-le, length-drop}
+use Rattle.hgs_bytes.specs.Bytes.{IsPrefixOf}
 use Rattle.hgs_files.specs.declared.op.Op.{Op}
 use Rattle.hgs_files.specs.Tree.{bytes_at}
 use Rattle.hgs_index.specs.declared.entry.Entry.{Entry}
@@ -22,7 +22,7 @@ use Rattle.hgs_revlog.specs.Theorems.BehindLemmas.{loaded-count}
 use Rattle.hgs_stands.specs.Places.{changelog_index, changelog_data}
 use Rattle.hgs_views.specs.Course.{Course, IsBetween, IsCourse, OpensAlong, tree_after}
 use Rattle.hgs_views.specs.Seen.{Numbers, NoneFell, AreReadBetween, IsLoadedBetween}
-use Rattle.hgs_views.proofs.Basics.{same-refl, prefix-refl, prefix-trans, may-front}
+use Rattle.hgs_views.proofs.Basics.{prefix-refl, prefix-trans, may-front}
 use Rattle.hgs_views.proofs.CourseLemmas.{course-later, itself-between}
 use Rattle.hgs_views.proofs.LoadLemmas.{LoadsAt, LogStep, front-of-longer, below, pieces-step, last-step, answered, in-order, viewed}
 use Rattle.hgs_views.proofs.Below.{LoadLaws}
@@ -144,11 +144,7 @@ module _ (x : Course) (first last : List Op) (is : IsCourse x first last) where
       let place = last_place old.changelog.entries in
       let stands = (is.stays from v.read from_at low).changelog in
       let count = (loaded-count index old.changelog loaded_old.is_view.loads).0 in
-      let cut = length-take place index in
-      (take place index, cut ∙ lesser place (length index) (omega (arith, count)), prefix-trans (take place index) index (bytes_at (tree_after x from) changelog_index) (drop place index, sym (take-append-drop place index)) stands)
-    where
-      lesser : (a b : ℕ) → a ≤ b → min a b ≡ a
-      lesser a b h = omega (arith, h)
+      (take place index, length-take-le place index (omega (arith, count)), prefix-trans (take place index) index (bytes_at (tree_after x from) changelog_index) (drop place index, sym (take-append-drop place index)) stands)
 
   -- so what is answered to the question of a refresh is the history of some list
   newer-step : (law : LoadLaws) (ended from : List Op) (v : Numbers) (old : View) → IsLoadedBetween x first ended v old → IsPrefixOf ended from → (on : IsPrefixOf from last) → (at : IsBetween first last from) → (opens : OpensAlong x from last) → LogStep law x from last (course-later x first from last at is) opens (newer_log_asks old.changelog)
