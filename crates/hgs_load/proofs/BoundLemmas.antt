@@ -16,18 +16,18 @@ use Rattle.hgs_load.specs.declared.answer.ReadAnswer.{ReadAnswer}
 use Rattle.hgs_load.specs.Asks.{Asks, answer, read, part_of, at_rest, then_asks}
 use Rattle.hgs_load.specs.Given.{Gave, GoesTo, Takes, given_at_rest, size_of}
 use Rattle.hgs_load.specs.Marks.{Nodes, bookmarks_path, dirstate_path, roots_path, bookmarks_answer, dirstate_answer, roots_answer, working_answer}
-use Rattle.hgs_load.specs.Open.{bookmarks_asks, dirstate_asks, roots_asks, log_of, view_of, most_bookmarks_text, most_dirstate, most_roots}
+use Rattle.hgs_load.specs.Open.{open_asks, bookmarks_asks, dirstate_asks, roots_asks, log_of, view_of, most_bookmarks_text, most_dirstate, most_roots}
 use Rattle.hgs_load.specs.Refresh.{GivenFew, behind_asks, behind_last, first_changed, is_this, last_place, log_after, newer_log_asks, refresh_asks, refresh_bytes, unless_changed, whole_log_asks}
 use Rattle.hgs_load.specs.View.{View, changelog_index, pieces_from, most_pieces, piece_length}
 use Rattle.hgs_load.specs.Whole.{whole_asks}
 use Rattle.hgs_load.specs.Theorems.AskLemmas.{grows-trans}
-use Rattle.hgs_load.specs.Theorems.OpenedLemmas.{rest_both}
+use Rattle.hgs_load.specs.Theorems.OpenedLemmas.{opened_log, rest_both}
 use Rattle.hgs_load.specs.Theorems.RestLemmas.{prefix-antisym}
 use Rattle.hgs_load.specs.Theorems.PartLemmas.{part_is}
 use Rattle.hgs_load.specs.Theorems.TailLemmas.{tail-answers}
 use Rattle.hgs_load.proofs.HistoryLemmas.{front-of-new}
 use Rattle.hgs_load.proofs.WayLemmas.{not-answered, answer-is, no-read, no-ok, ok-is, after-ok, its-log, log-loads}
-use Rattle.hgs_load.proofs.WholeLemmas.{pieces_front, pieces_given, whole-place, whole-index}
+use Rattle.hgs_load.proofs.WholeLemmas.{pieces_front, pieces_given, whole-place, whole-index, index-front}
 
 -- the first question was answered, and the next one asked
 given-then : {A B : Type 0} (t : Tree) (q : Asks (Result A ReadAnswer)) (more : A → Asks (Result B ReadAnswer)) (x : A) → at_rest t q ≡ Ok x → given_at_rest t (then_asks q more) ≡ given_at_rest t q + given_at_rest t (more x)
@@ -156,7 +156,40 @@ module _ (t : Tree) (old log : Log) where
           let few = last-given separate (some_entries old.inline (length old.entries) e) (sym tail-rests ∙ m) in
           subst (λ n. n ≤ 64 * (length log.entries - length old.entries + 2)) (sym tail-given) few
 
+  -- a separate history stays separate
+  pub newer-separate : old.inline ≡ false → at_rest t (newer_log_asks old) ≡ Ok log → log.inline ≡ false
+  newer-separate separate h = by (old.inline || length old.entries == 0) h
+    where
+      whole : at_rest t (whole_log_asks old.entries) ≡ Ok log → log.inline ≡ false
+      whole m = (loaded-count front log (log-loads (loaded Ignore front) log (after-is old.entries (log_of front) log (whole-loads m)))).2
+
+      behind : (found : Option (List ℕ)) → at_rest t (behind_asks old found) ≡ Ok log → log.inline ≡ false
+      behind None m = whole m
+      behind (Some rest) m = (load-grows (length rest / 64) old log rest (log-loads (load_from Ignore (length rest / 64) old rest) log m)).form ∙ separate
+
+      by : (b : Bool) → at_rest t (cond b (whole_log_asks old.entries) (pieces_from changelog_index place most_pieces [] (λ bytes. behind_asks old (behind_last old.entries bytes)))) ≡ Ok log → log.inline ≡ false
+      by true m = whole m
+      by false m = behind (behind_last old.entries tail) (sym tail-rests ∙ m)
+
 -- ---- a refresh
+
+-- what was opened is separate
+pub opened-separate : (t : Tree) (view : View) → at_rest t open_asks ≡ Ok view → view.changelog.inline ≡ false
+opened-separate t view h =
+    let front = take (most_pieces * piece_length) (bytes_at t changelog_index) in
+    (loaded-count front view.changelog (log-loads (loaded Ignore front) view.changelog (sym (index-front t) ∙ opened_log t view h))).2
+
+pub refreshed-separate : (t : Tree) (old view : View) → old.changelog.inline ≡ false → at_rest t (refresh_asks old) ≡ Ok view → view.changelog.inline ≡ false
+refreshed-separate t old view separate h =
+    let newer = newer_log_asks old.changelog in
+    let behind_log = λ (marks : List Mark) (nodes : Nodes) (log : Log). then_asks roots_asks (λ roots. answer (view_of marks nodes log roots)) in
+    let behind_nodes = λ (marks : List Mark) (nodes : Nodes). then_asks newer (behind_log marks nodes) in
+    let b = rest_both t bookmarks_asks (λ marks. then_asks dirstate_asks (behind_nodes marks)) view h in
+    let c = rest_both t dirstate_asks (behind_nodes b.0) view b.2 in
+    let d = rest_both t newer (behind_log b.0 c.0) view c.2 in
+    let e = rest_both t roots_asks (λ roots. answer (view_of b.0 c.0 d.0 roots)) view d.2 in
+    let log : d.0 ≡ view.changelog = its-log b.0 d.0 e.0 (working_answer d.0.entries c.0) view e.2 in
+    subst (λ (l : Log). l.inline ≡ false) log (newer-separate t old.changelog d.0 separate d.1)
 
 sums : {all a b c d behind_a behind_b behind_c most_a most_b most_c most_d : ℕ} → all ≡ a + behind_a → behind_a ≡ b + behind_b → behind_b ≡ c + behind_c → behind_c ≡ d + 0 → a ≤ most_a → b ≤ most_b → c ≤ most_c → d ≤ most_d → all ≤ most_a + most_b + most_d + most_c
 sums e f g h i j k l = omega (arith, e, f, g, h, i, j, k, l)

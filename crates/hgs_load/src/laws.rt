@@ -45,7 +45,9 @@ pub fn old_entries_are_in_front()
 {}
 
 /// Over files at rest a refresh is given the small files, and of a separate index an entry for each new one and two more at
-/// most, however long the history is.
+/// most, however long the history is. What was opened is separate, and stays so.
 pub fn refreshes_read_what_is_new()
-    ensures { (t : Tree) (old view : View) → old.changelog.inline ≡ false → at_rest t (refresh_asks old) ≡ Ok view → given_at_rest t (refresh_asks old) ≤ refresh_bytes t old view }
+    ensures few { (t : Tree) (old view : View) → old.changelog.inline ≡ false → at_rest t (refresh_asks old) ≡ Ok view → given_at_rest t (refresh_asks old) ≤ refresh_bytes t old view }
+    ensures opened { (t : Tree) (view : View) → at_rest t open_asks ≡ Ok view → view.changelog.inline ≡ false }
+    ensures refreshed { (t : Tree) (old view : View) → old.changelog.inline ≡ false → at_rest t (refresh_asks old) ≡ Ok view → view.changelog.inline ≡ false }
 {}
