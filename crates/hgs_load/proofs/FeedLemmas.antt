@@ -8,9 +8,12 @@ use Rattle.hgs_revlog.specs.Log.{Log}
 use Rattle.hgs_load.specs.declared.answer.ReadAnswer.{ReadAnswer}
 use Rattle.hgs_load.specs.Answer.{is_of_outside}
 use Rattle.hgs_load.specs.Asks.{Asks, answer, read, then_asks}
-use Rattle.hgs_load.specs.View.{changelog_index, piece_length, pieces_then}
-use Rattle.hgs_load.specs.Load.{left_to_ask, log_behind, reads_left_of, IsNext, AsksFor, rest_of, Feeds, Finishes}
+use Rattle.hgs_load.specs.View.{changelog_index, piece_length, most_pieces, pieces_by, pieces_from}
+use Rattle.hgs_load.specs.Load.{left_to_ask, former_of, place_behind, asks_behind, IsNext, AsksFor, rest_of, Feeds, Finishes}
+use Rattle.hgs_load.specs.Refresh.{behind_asks, behind_last, last_place, log_on, newer_log_asks, whole_log_asks}
 use Rattle.hgs_load.specs.declared.load.LoadNext.TheVariants.{Read}
+use Rattle.hgs_load.specs.declared.pieces.Former.{Former}
+use Rattle.hgs_load.specs.declared.pieces.Former.TheVariants.{Whole, Last}
 
 is_one : (n : ℕ) → (n == 1) ≡ true → n ≡ 1
 is_one n h = number_is n 1 h
@@ -24,45 +27,65 @@ other true b h e = cc
 other false b h e = h
 
 -- a whole piece, and more pieces may come
-pub goes_on : (former : Option Log) (left : ℕ) (index new piece : List ℕ) (part : Option (List ℕ)) (log : Option Log) → AsksFor (left_to_ask former left index log) part → ForNone log (0 < left) → piece ≡ unwrap_or part [] →
+pub goes_on : (former : Former) (left : ℕ) (index new piece : List ℕ) (part : Option (List ℕ)) (log : Option Log) → AsksFor (left_to_ask former left index log) part → ForNone log (0 < left) → piece ≡ unwrap_or part [] →
     (nat_lt (length piece) piece_length || left == 1) ≡ false → new ≡ index ++ piece → left_to_ask former (left - 1) new log ≡ rest_of (left_to_ask former left index log) part
 goes_on former left index new piece part (Some l) asked some p whole n = absurd asked
-goes_on former zero index new piece part None asked some p whole n = absurd asked
+goes_on former zero index new piece part None asked some p whole n = let h = some refl in absurd (omega (arith, h))
 goes_on former (suc left) index new piece part None asked some p whole n =
-    let more : List ℕ → Asks (Result Log ReadAnswer) = λ bytes. answer (log_behind former bytes) in
+    let place = place_behind former in
+    let more = asks_behind former in
     let e : suc left - 1 ≡ left = omega arith in
-    ap (λ k. pieces_then changelog_index k new more) e
-    ∙ ap (λ b. pieces_then changelog_index left b more) (n ∙ ap (λ q. index ++ q) p)
-    ∙ sym (ap (λ t. cond t (more (index ++ unwrap_or part [])) (pieces_then changelog_index left (index ++ unwrap_or part []) more)) (ap (λ q. nat_lt (length q) piece_length) (sym p) ∙ neither (nat_lt (length piece) piece_length) (suc left == 1) whole))
+    ap (λ k. pieces_by changelog_index place k new more) e
+    ∙ ap (λ b. pieces_by changelog_index place left b more) (n ∙ ap (λ q. index ++ q) p)
+    ∙ sym (ap (λ t. cond t (more (index ++ unwrap_or part [])) (pieces_by changelog_index place left (index ++ unwrap_or part []) more)) (ap (λ q. nat_lt (length q) piece_length) (sym p) ∙ neither (nat_lt (length piece) piece_length) (suc left == 1) whole))
 
-last_step : (former : Option Log) (t : Bool) (left : ℕ) (bytes : List ℕ) → (t ≡ false → suc left ≡ 1) → cond t (answer (log_behind former bytes)) (pieces_then changelog_index left bytes (λ b. answer (log_behind former b))) ≡ answer (log_behind former bytes)
-last_step former true left bytes h = refl
-last_step former false left bytes h = let z : left ≡ 0 = (let k = h refl in omega (arith, k)) in ap (λ k. pieces_then changelog_index k bytes (λ b. answer (log_behind former b))) z
+last_step : (place : List ℕ → ℕ) (more : List ℕ → Asks (Result Log ReadAnswer)) (t : Bool) (left : ℕ) (bytes : List ℕ) → (t ≡ false → suc left ≡ 1) → cond t (more bytes) (pieces_by changelog_index place left bytes more) ≡ more bytes
+last_step place more true left bytes h = refl
+last_step place more false left bytes h = let z : left ≡ 0 = (let k = h refl in omega (arith, k)) in ap (λ k. pieces_by changelog_index place k bytes more) z
 
 -- the last piece
-pub last_piece : (former : Option Log) (left : ℕ) (index new piece : List ℕ) (part : Option (List ℕ)) (log : Option Log) → AsksFor (left_to_ask former left index log) part → piece ≡ unwrap_or part [] → new ≡ index ++ piece →
-    (nat_lt (length piece) piece_length || left == 1) ≡ true → rest_of (left_to_ask former left index log) part ≡ answer (log_behind former new)
-last_piece former left index new piece part (Some l) asked p n last = absurd asked
-last_piece former zero index new piece part None asked p n last = absurd asked
-last_piece former (suc left) index new piece part None asked p n last =
-    let more : List ℕ → Asks (Result Log ReadAnswer) = λ bytes. answer (log_behind former bytes) in
+pub last_piece : (former : Former) (left : ℕ) (index new piece : List ℕ) (part : Option (List ℕ)) (log : Option Log) → AsksFor (left_to_ask former left index log) part → ForNone log (0 < left) → piece ≡ unwrap_or part [] → new ≡ index ++ piece →
+    (nat_lt (length piece) piece_length || left == 1) ≡ true → rest_of (left_to_ask former left index log) part ≡ asks_behind former new
+last_piece former left index new piece part (Some l) asked some p n last = absurd asked
+last_piece former zero index new piece part None asked some p n last = let h = some refl in absurd (omega (arith, h))
+last_piece former (suc left) index new piece part None asked some p n last =
+    let more = asks_behind former in
     let same : index ++ unwrap_or part [] ≡ new = ap (λ q. index ++ q) (sym p) ∙ sym n in
-    last_step former (nat_lt (length (unwrap_or part [])) piece_length) left (index ++ unwrap_or part [])
+    last_step (place_behind former) more (nat_lt (length (unwrap_or part [])) piece_length) left (index ++ unwrap_or part [])
     (λ h. is_one (suc left) (other (nat_lt (length piece) piece_length) (suc left == 1) last (ap (λ q. nat_lt (length q) piece_length) p ∙ h)))
     ∙ ap more same
 
-either : (b : Bool) (P Q : Type 0) → (P → Q) → MatchBool b ⊤ P → MatchBool b ⊤ Q
+pub either : (b : Bool) (P Q : Type 0) → (P → Q) → MatchBool b ⊤ P → MatchBool b ⊤ Q
 either true P Q f m = tt
 either false P Q f m = f m
 
--- what was read to its end answers the question
-pub finished : {A : Type 0} (question left : Asks (Result A ReadAnswer)) (part : Option (List ℕ)) (given : Result A ReadAnswer) (r : Result Unit ReadAnswer) → rest_of question part ≡ answer given → Finishes given left r → Feeds question part left r
+-- what is asked behind the last piece is left
+pub finished : {A : Type 0} (question left : Asks (Result A ReadAnswer)) (part : Option (List ℕ)) (given : Asks (Result A ReadAnswer)) (r : Result Unit ReadAnswer) → rest_of question part ≡ given → Finishes given left r → Feeds question part left r
 finished question left part given (Ok x) e f = f ∙ sym e
-finished question left part given (Err a) e f = either (is_of_outside a) _ _ (λ h. e ∙ ap answer h) f
+finished question left part given (Err a) e f = either (is_of_outside a) _ _ (λ h. e ∙ h) f
 
-pub none_left : (former : Option Log) (left : ℕ) (index : List ℕ) (part : Option (List ℕ)) (log : Option Log) (after : ℕ) → AsksFor (left_to_ask former left index log) part → ForNone log (0 < left) → after ≡ 0 → after < reads_left_of left log
-none_left former left index part (Some l) after asked some e = absurd asked
-none_left former left index part None after asked some e = let h = some refl in omega (arith, h, e)
+-- an index whose revisions were loaded asks for nothing
+pub not_loaded : (former : Former) (left : ℕ) (index : List ℕ) (part : Option (List ℕ)) (log : Option Log) → AsksFor (left_to_ask former left index log) part → log ≡ None
+not_loaded former left index part (Some l) asked = absurd asked
+not_loaded former left index part None asked = refl
+
+-- ---- what is asked of an index
+
+-- the index is read from its first byte on, or from the last of the old entries on
+pub behind_old : (old : Log) → left_to_ask (former_of old) most_pieces [] None ≡ newer_log_asks old
+behind_old old = by (old.inline || length old.entries == 0)
+  where
+    by : (t : Bool) → left_to_ask (cond t (Whole old) (Last old)) most_pieces [] None ≡ cond t (whole_log_asks old.entries) (pieces_from changelog_index (last_place old.entries) most_pieces [] (λ tail. behind_asks old (behind_last old.entries tail)))
+    by true = refl
+    by false = refl
+
+-- what is answered where the last of the old entries stands first, and what is asked where it doesn't
+pub refused_behind : (old : Log) (bytes tail behind : List ℕ) (e : ReadAnswer) → bytes ≡ tail → Some behind ≡ behind_last old.entries bytes → MatchBool (is_of_outside e) ⊤ (log_on old behind ≡ Err e) → MatchBool (is_of_outside e) ⊤ (behind_asks old (behind_last old.entries tail) ≡ answer (Err e))
+refused_behind old bytes tail behind e same found refused =
+    either (is_of_outside e) (log_on old behind ≡ Err e) (behind_asks old (behind_last old.entries tail) ≡ answer (Err e)) (λ h. ap (λ t. behind_asks old (behind_last old.entries t)) (sym same) ∙ ap (behind_asks old) (sym found) ∙ ap answer h) refused
+
+pub whole_behind : (old : Log) (bytes tail : List ℕ) → bytes ≡ tail → None ≡ behind_last old.entries bytes → whole_log_asks old.entries ≡ behind_asks old (behind_last old.entries tail)
+whole_behind old bytes tail same found = ap (behind_asks old) found ∙ ap (λ t. behind_asks old (behind_last old.entries t)) same
 
 -- ---- a question before others
 

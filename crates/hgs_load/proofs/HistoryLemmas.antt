@@ -1,5 +1,5 @@
 -- A history that goes on from an older one has its entries in front.
-use Rattle.std.proofs.Common.{◌≡◌, ℕ, zero, suc, ◌+◌, ◌<◌, Bool, true, false, cond, ◌&&◌, List, [], ◌∷◌, ◌++◌, length, take, Option, Some, None, Result, Ok, Err, refl, sym, ◌∙◌, ap, arith, append-nil}
+use Rattle.std.proofs.Common.{◌≡◌, ℕ, suc, ◌+◌, ◌<◌, Bool, true, false, cond, ◌&&◌, List, [], ◌∷◌, ◌++◌, length, take, Option, Some, None, refl, sym, ◌∙◌, ap, arith}
 use Rattle.std.specs.Prelude.{◌==◌}
 use Rattle.std.specs.Prelude.{slice_get}
 use Rattle.std.specs.Cmp.Lexicographic.{bytes_decides}
@@ -7,6 +7,7 @@ use Rattle.std.proofs.lemmas.Bool.Decides.{nat_tests}
 use Rattle.hgs_bytes.specs.Bytes.{IsPrefixOf, same}
 use Rattle.hgs_index.specs.declared.entry.Entry.{Entry}
 use Rattle.hgs_index.specs.declared.node.Node.{Node}
+use Rattle.hgs_load.specs.Theorems.TailLemmas.{entry-itself}
 use Rattle.hgs_load.specs.Refresh.{same_parent, same_lengths, same_links, same_entry, first_changed}
 
 both : (a b : Bool) → (a && b) ≡ true → (a ≡ true) × (b ≡ true)
@@ -16,24 +17,14 @@ both false b h = cc
 number-is : (a b : ℕ) → (a == b) ≡ true → a ≡ b
 number-is a b h = grind (arith, nat_tests, h)
 
-number-itself : (n : ℕ) → (n == n) ≡ true
-number-itself n = grind arith
-
 bytes-are : (a b : List ℕ) → same a b ≡ true → a ≡ b
 bytes-are a b h = (bytes_decides a b).0 h
-
-bytes-themselves : (a : List ℕ) → same a a ≡ true
-bytes-themselves a = (bytes_decides a a).1 refl
 
 parent-is : (a b : Option ℕ) → same_parent a b ≡ true → a ≡ b
 parent-is None None h = refl
 parent-is None (Some b) h = cc
 parent-is (Some a) None h = cc
 parent-is (Some a) (Some b) h = ap (λ n. Some n) (number-is a b h)
-
-parent-itself : (o : Option ℕ) → same_parent o o ≡ true
-parent-itself None = refl
-parent-itself (Some n) = number-itself n
 
 -- entries that are the same are one
 entry-is : (a b : Entry) → same_entry a b ≡ true → a ≡ b
@@ -68,26 +59,6 @@ entry-is a b h =
         ∙ ap (λ x. let e : Entry = record { offset = b.offset; flags = b.flags; stored = b.stored; size = b.size; base = b.base; link = b.link; p1 = x; p2 = a.p2; node = a.node } in e) p1
         ∙ ap (λ x. let e : Entry = record { offset = b.offset; flags = b.flags; stored = b.stored; size = b.size; base = b.base; link = b.link; p1 = b.p1; p2 = x; node = a.node } in e) p2
         ∙ ap (λ x. let e : Entry = record { offset = b.offset; flags = b.flags; stored = b.stored; size = b.size; base = b.base; link = b.link; p1 = b.p1; p2 = b.p2; node = x } in e) node
-
-entry-itself : (e : Entry) → same_entry e e ≡ true
-entry-itself e =
-    ap (λ b. b && same_links e e && same e.node.0 e.node.0) lengths
-    ∙ ap (λ b. b && same e.node.0 e.node.0) links
-    ∙ bytes-themselves e.node.0
-  where
-    lengths : same_lengths e e ≡ true
-    lengths =
-        ap (λ b. b && e.flags == e.flags && e.stored == e.stored && e.size == e.size) (number-itself e.offset)
-        ∙ ap (λ b. b && e.stored == e.stored && e.size == e.size) (number-itself e.flags)
-        ∙ ap (λ b. b && e.size == e.size) (number-itself e.stored)
-        ∙ number-itself e.size
-
-    links : same_links e e ≡ true
-    links =
-        ap (λ b. b && e.link == e.link && same_parent e.p1 e.p1 && same_parent e.p2 e.p2) (number-itself e.base)
-        ∙ ap (λ b. b && same_parent e.p1 e.p1 && same_parent e.p2 e.p2) (number-itself e.link)
-        ∙ ap (λ b. b && same_parent e.p2 e.p2) (parent-itself e.p1)
-        ∙ parent-itself e.p2
 
 -- nothing changed: the old entries are a front of the new ones
 pub front-of-new : (rev : ℕ) (old new : List Entry) → first_changed rev old new ≡ None → IsPrefixOf old new

@@ -8,6 +8,7 @@ use Rattle.hgs_phases.specs.declared.roots.Root.{Root}
 use Rattle.hgs_revlog.specs.Log.{Log}
 use Rattle.hgs_load.specs.declared.answer.ReadAnswer.{ReadAnswer}
 use Rattle.hgs_load.specs.declared.marks.WorkingNodes.{WorkingNodes}
+use Rattle.hgs_load.specs.declared.pieces.Former.{Former}
 use Rattle.hgs_load.specs.Answer.{is_of_outside}
 use Rattle.hgs_load.specs.Asks.{Asks, answer, then_asks}
 use Rattle.hgs_load.specs.Load.{left_to_ask, asks_unless, asks_from, HasEnded, AsksFor, rest_of}
@@ -17,7 +18,7 @@ use Rattle.hgs_load.specs.View.{View}
 use Rattle.hgs_load.specs.Whole.{within}
 
 -- the index is asked for where it was not read to its end
-pub piece_asked : (former : Option Log) (required : Bool) (marks : Option (List Mark)) (nodes : Option WorkingNodes) (left : ℕ) (bytes : List ℕ) (log : Option Log) (loaded : Option View) (part : Option (List ℕ)) →
+pub piece_asked : (former : Former) (required : Bool) (marks : Option (List Mark)) (nodes : Option WorkingNodes) (left : ℕ) (bytes : List ℕ) (log : Option Log) (loaded : Option View) (part : Option (List ℕ)) →
     required ≡ true → is_some marks ≡ true → is_some nodes ≡ true → loaded ≡ None → is_some log ≡ false → ForNone log (0 < left) →
     AsksFor (asks_unless loaded (asks_from required marks (option_map nodes_of nodes) (left_to_ask former left bytes log))) part → AsksFor (left_to_ask former left bytes log) part
 piece_asked former false marks nodes left bytes log loaded part r m n s l some asked = cc
@@ -33,7 +34,7 @@ either true P Q f m = tt
 either false P Q f m = f m
 
 -- the phase roots are refused
-pub roots_refused : (former : Option Log) (required : Bool) (marks : Option (List Mark)) (nodes : Option WorkingNodes) (left : ℕ) (bytes : List ℕ) (log : Option Log) (loaded : Option View) (part : Option (List ℕ)) (e : ReadAnswer) →
+pub roots_refused : (former : Former) (required : Bool) (marks : Option (List Mark)) (nodes : Option WorkingNodes) (left : ℕ) (bytes : List ℕ) (log : Option Log) (loaded : Option View) (part : Option (List ℕ)) (e : ReadAnswer) →
     required ≡ true → is_some marks ≡ true → is_some nodes ≡ true → loaded ≡ None → is_some log ≡ true →
     MatchBool (is_of_outside e) ⊤ (within most_roots roots_answer part ≡ Err e) →
     MatchBool (is_of_outside e) ⊤ (rest_of (asks_unless loaded (asks_from required marks (option_map nodes_of nodes) (left_to_ask former left bytes log))) part ≡ answer (Err e))
@@ -47,7 +48,7 @@ roots_refused former true (Some ms) (Some ns) left bytes (Some x) None part e r 
     either (is_of_outside e) _ _ (λ k. ap (λ given. then_asks (answer given) more) k) h
 
 -- a load that has loaded nothing has not ended
-pub not_ended : (former : Option Log) (required : Bool) (marks : Option (List Mark)) (nodes : Option WorkingNodes) (left : ℕ) (bytes : List ℕ) (log : Option Log) (loaded : Option View) →
+pub not_ended : (former : Former) (required : Bool) (marks : Option (List Mark)) (nodes : Option WorkingNodes) (left : ℕ) (bytes : List ℕ) (log : Option Log) (loaded : Option View) →
     ForNone log (0 < left) → loaded ≡ None → HasEnded (asks_unless loaded (asks_from required marks (option_map nodes_of nodes) (left_to_ask former left bytes log))) → ⊥
 not_ended former required marks nodes left bytes log (Some v) some s ended = cc
 not_ended former false marks nodes left bytes log None some s ended = ended

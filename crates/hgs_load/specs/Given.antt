@@ -1,5 +1,5 @@
 -- How many bytes a question was given.
-use Rattle.std.specs.Prelude.{◌≡◌, ◌⊎◌, ℕ, ◌+◌, ◌<◌, ◌≤◌, Bool, true, false, List, [], ◌++◌, length, unwrap_or, Option, Some, None, IfSome, Result, Ok, Err}
+use Rattle.std.specs.Prelude.{◌≡◌, ◌⊎◌, ℕ, ◌+◌, ◌<◌, ◌≤◌, Bool, true, false, List, [], ◌++◌, length, unwrap_or, Option, IfSome, Result, Ok, Err}
 use Rattle.std.specs.Bool.{MatchBool}
 use Rattle.hgs_files.specs.declared.op.Op.{Op}
 use Rattle.hgs_files.specs.Reads.{greatest, Grows}
@@ -18,6 +18,11 @@ pub record RisesBy (old new more : ℕ) : Type 0 where
 -- how many bytes a part of a file has, none where the file isn't there
 abbrev pub size_of : Option (List ℕ) → ℕ
 size_of part = length (unwrap_or part [])
+
+-- how many bytes a question is given where all its reads are answered from one tree
+abbrev pub given_at_rest : {A : Type 0} → Tree → Asks A → ℕ
+given_at_rest t (answer x) = 0
+given_at_rest t (read path from most rest) = size_of (part_of t path from most) + given_at_rest t (rest (part_of t path from most))
 
 -- a read of one part counts its bytes, and none where it is refused
 abbrev pub CountsPart : ℕ → ℕ → Result (Option (List ℕ)) ReadAnswer → Type 0

@@ -1,5 +1,5 @@
 -- What a load has still to ask.
-use Rattle.std.specs.Prelude.{◌≡◌, ℕ, ◌+◌, ◌≤◌, if◌then◌else◌, List, length, Option, Some, None, IfSome, Result, Ok, Err, ⊤}
+use Rattle.std.specs.Prelude.{◌≡◌, ℕ, ◌+◌, ◌≤◌, ◌||◌, ◌==◌, if◌then◌else◌, List, length, Option, Some, None, IfSome, Result, Ok, Err, ⊤}
 use Rattle.std.specs.Prelude.{Bool, true, false}
 use Rattle.std.specs.Bool.{MatchBool}
 use Rattle.std.specs.Option.{option_map}
@@ -7,6 +7,8 @@ use Rattle.hgs_files.specs.declared.op.Op.{Op}
 use Rattle.hgs_files.specs.Tree.{Tree}
 use Rattle.hgs_load.specs.declared.answer.ReadAnswer.{ReadAnswer}
 use Rattle.hgs_load.specs.declared.load.LoadMachine.{LoadMachine}
+use Rattle.hgs_load.specs.declared.pieces.Former.{Former}
+use Rattle.hgs_load.specs.declared.pieces.Former.TheVariants.{Nothing, Whole, Last}
 use Rattle.hgs_load.specs.declared.pieces.IndexLoad.{IndexLoad}
 use Rattle.hgs_load.specs.declared.load.LoadNext.{LoadNext}
 use Rattle.hgs_load.specs.declared.load.LoadNext.TheVariants.{Read, End}
@@ -16,29 +18,46 @@ use Rattle.hgs_load.specs.Answer.{is_of_outside}
 use Rattle.hgs_load.specs.Asks.{Asks, answer, read, then_asks, Continues, MayAnswerWhereTold}
 use Rattle.hgs_load.specs.Marks.{Nodes, nodes_of}
 use Rattle.hgs_load.specs.Open.{requires_asks, bookmarks_asks, dirstate_asks, roots_asks, log_of, view_of}
-use Rattle.hgs_load.specs.Refresh.{log_after}
-use Rattle.hgs_load.specs.View.{View, changelog_index, pieces_then}
+use Rattle.hgs_load.specs.Refresh.{log_after, behind_asks, behind_last, last_place}
+use Rattle.hgs_load.specs.View.{View, changelog_index, most_pieces, pieces_by}
 
 -- ---- an index under way
 
--- the history of an index, which has to begin with the former one where there is one
-abbrev pub log_behind : Option Log → List ℕ → Result Log ReadAnswer
-log_behind None index = log_of index
-log_behind (Some old) index = log_after old.entries (log_of index)
+-- Of a separate index only what stands from the last of the old entries on is read.
+abbrev pub former_of : Log → Former
+former_of old = if old.inline || length old.entries == 0 then Whole old else Last old
 
-abbrev pub left_to_ask : Option Log → ℕ → List ℕ → Option Log → Asks (Result Log ReadAnswer)
-left_to_ask former left bytes None = pieces_then changelog_index left bytes (λ index. answer (log_behind former index))
+-- the place of the next piece behind these bytes
+abbrev pub place_behind : Former → List ℕ → ℕ
+place_behind Nothing = length
+place_behind (Whole old) = length
+place_behind (Last old) = λ bytes. last_place old.entries + length bytes
+
+-- what is asked once all these bytes were read
+abbrev pub asks_behind : Former → List ℕ → Asks (Result Log ReadAnswer)
+asks_behind Nothing = λ index. answer (log_of index)
+asks_behind (Whole old) = λ index. answer (log_after old.entries (log_of index))
+asks_behind (Last old) = λ tail. behind_asks old (behind_last old.entries tail)
+
+abbrev pub left_to_ask : Former → ℕ → List ℕ → Option Log → Asks (Result Log ReadAnswer)
+left_to_ask former left bytes None = pieces_by changelog_index (place_behind former) left bytes (asks_behind former)
 left_to_ask former left bytes (Some log) = answer (Ok log)
 
 abbrev pub index_asks : IndexLoad → Asks (Result Log ReadAnswer)
 index_asks m = left_to_ask m.former m.left m.bytes.items m.log
 
-abbrev pub reads_left_of : ℕ → Option Log → ℕ
-reads_left_of left None = left
-reads_left_of left (Some log) = 0
+-- the pieces that may be read once an index was read from its last old entry on
+abbrev pub pieces_behind : Former → ℕ
+pieces_behind Nothing = 0
+pieces_behind (Whole old) = 0
+pieces_behind (Last old) = most_pieces
+
+abbrev pub reads_left_of : Former → ℕ → Option Log → ℕ
+reads_left_of former left None = left + pieces_behind former
+reads_left_of former left (Some log) = 0
 
 abbrev pub index_reads : IndexLoad → ℕ
-index_reads m = reads_left_of m.left m.log
+index_reads m = reads_left_of m.former m.left m.log
 
 -- ---- a load under way
 
@@ -102,10 +121,10 @@ abbrev pub HasEnded : {A : Type 0} → Asks A → Type 0
 HasEnded (answer x) = Unit {0}
 HasEnded (read path from most rest) = ⊥
 
--- what was read gives the answer that is left, or is refused by this
-abbrev pub Finishes : {A : Type 0} → Result A ReadAnswer → Asks (Result A ReadAnswer) → Result Unit ReadAnswer → Type 0
-Finishes given left (Ok x) = left ≡ answer given
-Finishes given left (Err e) = MatchBool (is_of_outside e) ⊤ (given ≡ Err e)
+-- this question is left once a file was read to its end, or it is answered by this refusal
+abbrev pub Finishes : {A : Type 0} → Asks (Result A ReadAnswer) → Asks (Result A ReadAnswer) → Result Unit ReadAnswer → Type 0
+Finishes question left (Ok x) = left ≡ question
+Finishes question left (Err e) = MatchBool (is_of_outside e) ⊤ (question ≡ answer (Err e))
 
 -- A refresh answered a question with the new view, or was refused and changed nothing.
 abbrev pub Refreshes : Option (List Op) → Tree → Option (List Op) → Asks (Result View ReadAnswer) → View → View → Result Unit ReadAnswer → Type 0

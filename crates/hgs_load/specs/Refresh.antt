@@ -1,13 +1,19 @@
 -- What a refresh asks.
-use Rattle.std.specs.Prelude.{ℕ, suc, Bool, true, false, ◌==◌, ◌&&◌, List, [], ◌∷◌, Option, Some, None, Result, Ok, Err, if◌then◌else◌}
+use Rattle.std.specs.Prelude.{◌≡◌, ◌+◌, ◌≤◌, IfSome, ℕ, suc, ◌-◌, ◌*◌, ◌/◌, nat_le, Bool, true, false, ◌==◌, ◌&&◌, ◌||◌, List, [], ◌∷◌, length, take, drop, slice_get, Option, Some, None, Result, Ok, Err, if◌then◌else◌}
 use Rattle.hgs_bytes.specs.Bytes.{same}
+use Rattle.hgs_files.specs.declared.op.Op.{Op}
+use Rattle.hgs_files.specs.Tree.{Tree, bytes_at, after_all}
 use Rattle.hgs_index.specs.declared.entry.Entry.{Entry}
+use Rattle.hgs_index.specs.declared.entry.EntryFault.{EntryFault}
 use Rattle.hgs_plan.specs.declared.damage.Part.TheVariants as parts
+use Rattle.hgs_revlog.specs.declared.fault.Tail.TheVariants.{Ignore}
+use Rattle.hgs_revlog.specs.Load.{separate_at, load_from}
 use Rattle.hgs_revlog.specs.Log.{Log}
 use Rattle.hgs_load.specs.declared.answer.ReadAnswer.{ReadAnswer}
 use Rattle.hgs_load.specs.Asks.{Asks, answer, then_asks}
+use Rattle.hgs_load.specs.Marks.{bookmarks_path, dirstate_path, roots_path}
 use Rattle.hgs_load.specs.Open.{bookmarks_asks, dirstate_asks, roots_asks, log_of, view_of}
-use Rattle.hgs_load.specs.View.{View, changelog_index, damaged, most_pieces, pieces_then}
+use Rattle.hgs_load.specs.View.{View, changelog_index, damaged, most_pieces, pieces_then, pieces_from, log_answer}
 
 abbrev pub same_parent : Option ℕ → Option ℕ → Bool
 same_parent None None = true
@@ -39,15 +45,55 @@ abbrev pub log_after : List Entry → Result Log ReadAnswer → Result Log ReadA
 log_after old (Err e) = Err e
 log_after old (Ok log) = unless_changed (first_changed 0 old log.entries) log
 
--- the new history, which is refused as soon as its index was read
-abbrev pub newer_log_asks : List Entry → Asks (Result Log ReadAnswer)
-newer_log_asks old = pieces_then changelog_index most_pieces [] (λ index. answer (log_after old (log_of index)))
+-- whether what 64 bytes of an index are read as is this entry
+abbrev pub is_this : Option Entry → Result Entry EntryFault → Bool
+is_this None read = false
+is_this (Some e) (Err f) = false
+is_this (Some e) (Ok x) = same_entry e x
+
+-- Of the bytes of an index from the place of the last of the old entries on, those behind that entry; none where they do not begin with it.
+abbrev pub behind_last : List Entry → List ℕ → Option (List ℕ)
+behind_last old tail = if nat_le 64 (length tail) && is_this (slice_get old (length old - 1)) (separate_at (take 64 tail) (length old - 1)) then Some (drop 64 tail) else None
+
+-- the old history with the entries of these bytes behind its last one
+abbrev pub log_on : Log → List ℕ → Result Log ReadAnswer
+log_on old behind = log_answer changelog_index (load_from Ignore (length behind / 64) old behind)
+
+-- the whole index, whose history is refused as soon as it was read
+abbrev pub whole_log_asks : List Entry → Asks (Result Log ReadAnswer)
+whole_log_asks old = pieces_then changelog_index most_pieces [] (λ index. answer (log_after old (log_of index)))
+
+-- What is asked once the index was read from the last of the old entries on: nothing where that one stands there, and else the whole index, which shows the first that changed.
+abbrev pub behind_asks : Log → Option (List ℕ) → Asks (Result Log ReadAnswer)
+behind_asks old None = whole_log_asks old.entries
+behind_asks old (Some behind) = answer (log_on old behind)
+
+-- the place of the last entry in a separate index
+abbrev pub last_place : List Entry → ℕ
+last_place entries = 64 * (length entries - 1)
+
+-- The new history. Of a separate index only what stands from the last of the old entries on is read.
+abbrev pub newer_log_asks : Log → Asks (Result Log ReadAnswer)
+newer_log_asks old = if old.inline || length old.entries == 0 then whole_log_asks old.entries else pieces_from changelog_index (last_place old.entries) most_pieces [] (λ tail. behind_asks old (behind_last old.entries tail))
 
 -- all is read again but `requires`
 abbrev pub refresh_asks : View → Asks (Result View ReadAnswer)
 refresh_asks old =
     then_asks bookmarks_asks (λ marks.
     then_asks dirstate_asks (λ nodes.
-    then_asks (newer_log_asks old.changelog.entries) (λ log.
+    then_asks (newer_log_asks old.changelog) (λ log.
     then_asks roots_asks (λ roots.
     answer (view_of marks nodes log roots)))))
+
+-- the bytes of the files that a refresh reads whole
+abbrev pub small_files : Tree → ℕ
+small_files t = length (bytes_at t bookmarks_path) + length (bytes_at t dirstate_path) + length (bytes_at t roots_path)
+
+-- the most bytes that a refresh over a separate index is given: the small files, and of the index an entry for each new one and two more
+abbrev pub refresh_bytes : Tree → View → View → ℕ
+refresh_bytes t old new = small_files t + 64 * (length new.changelog.entries - length old.changelog.entries + 2)
+
+-- where nobody else writes, the count of bytes given rises by no more
+abbrev pub GivenFew : Bool → ℕ → ℕ → Option (List Op) → Tree → View → View → Type 0
+GivenFew alone given_old given_new seen start old new =
+    alone ≡ true → old.changelog.inline ≡ false → IfSome seen (λ log. given_new ≤ given_old + refresh_bytes (after_all log start) old new)

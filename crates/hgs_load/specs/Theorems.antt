@@ -5,3 +5,4 @@ pub mod GivenLemmas
 pub mod OpenedLemmas
 pub mod PartLemmas
 pub mod RestLemmas
+pub mod TailLemmas

@@ -1,5 +1,5 @@
 -- What a session holds of a repository.
-use Rattle.std.specs.Prelude.{ℕ, suc, zero, List, [], ◌++◌, length, nat_lt, codes, unwrap_or, Option, Result, Ok, Err, if◌then◌else◌}
+use Rattle.std.specs.Prelude.{ℕ, suc, zero, ◌+◌, List, [], ◌++◌, length, nat_lt, codes, unwrap_or, Option, Result, Ok, Err, if◌then◌else◌}
 use Rattle.hgs_marks.specs.Bookmarks.{Mark}
 use Rattle.hgs_model.specs.declared.phase.Phase.{Phase}
 use Rattle.hgs_plan.specs.declared.damage.Part.{Part}
@@ -52,11 +52,20 @@ piece_length = 65536
 abbrev pub most_pieces : ℕ
 most_pieces = 977
 
+-- in pieces whose places are those behind the bytes that were read before
+abbrev pub pieces_by : {A : Type 0} → List ℕ → (List ℕ → ℕ) → ℕ → List ℕ → (List ℕ → Asks A) → Asks A
+pieces_by path place zero bytes more = more bytes
+pieces_by path place (suc left) bytes more =
+    read path (place bytes) piece_length (λ piece.
+    if nat_lt (length (unwrap_or piece [])) piece_length then more (bytes ++ unwrap_or piece []) else pieces_by path place left (bytes ++ unwrap_or piece []) more)
+
+-- from the first byte on
 abbrev pub pieces_then : {A : Type 0} → List ℕ → ℕ → List ℕ → (List ℕ → Asks A) → Asks A
-pieces_then path zero bytes more = more bytes
-pieces_then path (suc left) bytes more =
-    read path (length bytes) piece_length (λ piece.
-    if nat_lt (length (unwrap_or piece [])) piece_length then more (bytes ++ unwrap_or piece []) else pieces_then path left (bytes ++ unwrap_or piece []) more)
+pieces_then path left bytes more = pieces_by path length left bytes more
+
+-- from this byte on
+abbrev pub pieces_from : {A : Type 0} → List ℕ → ℕ → ℕ → List ℕ → (List ℕ → Asks A) → Asks A
+pieces_from path first left bytes more = pieces_by path (λ bytes. first + length bytes) left bytes more
 
 abbrev pub log_answer : List ℕ → Result Log RevFault → Result Log ReadAnswer
 log_answer index (Ok log) = Ok log

@@ -1,5 +1,5 @@
 //! What the definitions of this crate imply. Each function is one law; none does anything.
-ghost use Rattle.std.specs.Prelude.{◌≡◌, ◌+◌, ◌<◌, ◌≤◌, ◌/◌, ℕ, List, Ok, None, Some, length, take, slice_get};
+ghost use Rattle.std.specs.Prelude.{◌≡◌, ◌+◌, ◌<◌, ◌≤◌, ◌/◌, false, ℕ, List, Ok, None, Some, length, take, slice_get};
 ghost use Rattle.hgs_bytes.specs.Bytes.{IsPrefixOf};
 ghost use Rattle.hgs_index.specs.declared.entry.Entry.{Entry};
 ghost use Rattle.hgs_files.specs.Tree.{Tree, bytes_at};
@@ -9,9 +9,10 @@ ghost use Rattle.hgs_phases.specs.declared.roots.Root.{Root};
 ghost use Rattle.hgs_revlog.specs.Load.{most_revisions};
 ghost use Rattle.hgs_revlog.specs.Log.{Log};
 ghost use Rattle.hgs_load.specs.Asks.{at_rest};
+ghost use Rattle.hgs_load.specs.Given.{given_at_rest};
 ghost use Rattle.hgs_load.specs.Marks.{Nodes, Working, bookmarks_answer, bookmarks_path, dirstate_answer, dirstate_path, roots_answer, roots_path, working_answer};
 ghost use Rattle.hgs_load.specs.Open.{bookmarks_asks, dirstate_asks, log_asks, log_of, most_bookmarks_text, most_dirstate, most_requires, most_roots, open_asks, requires_asks, requires_path, roots_asks};
-ghost use Rattle.hgs_load.specs.Refresh.{first_changed, refresh_asks};
+ghost use Rattle.hgs_load.specs.Refresh.{first_changed, refresh_asks, refresh_bytes};
 ghost use Rattle.hgs_load.specs.Requirements.{requires_answer};
 ghost use Rattle.hgs_load.specs.View.{View, changelog_index};
 
@@ -41,4 +42,12 @@ pub fn old_entries_are_in_front()
     ensures front { (rev : ℕ) (old new : List Entry) → first_changed rev old new ≡ None → IsPrefixOf old new }
     ensures none { (rev : ℕ) (old new : List Entry) → IsPrefixOf old new → first_changed rev old new ≡ None }
     ensures first { (rev changed : ℕ) (old new : List Entry) → first_changed rev old new ≡ Some changed → (at : ℕ) × (changed ≡ rev + at) × (at < length old) × (take at old ≡ take at new) × (slice_get old at ≡ slice_get new at → ⊥) }
+{}
+
+/// Over files at rest a refresh is given the small files, and of a separate index an entry for each new one and two more at
+/// most, however long the history is. What was opened is separate, and stays so.
+pub fn refreshes_read_what_is_new()
+    ensures few { (t : Tree) (old view : View) → old.changelog.inline ≡ false → at_rest t (refresh_asks old) ≡ Ok view → given_at_rest t (refresh_asks old) ≤ refresh_bytes t old view }
+    ensures opened { (t : Tree) (view : View) → at_rest t open_asks ≡ Ok view → view.changelog.inline ≡ false }
+    ensures refreshed { (t : Tree) (old view : View) → old.changelog.inline ≡ false → at_rest t (refresh_asks old) ≡ Ok view → view.changelog.inline ≡ false }
 {}

@@ -125,7 +125,7 @@ impl LoadMachine {
             },
             None => LoadNext::Read {
                 path: self.changelog.index(),
-                from: self.index.len(),
+                from: self.index.place(),
                 most: PIECE,
             },
         }

@@ -4,17 +4,18 @@ ghost use Rattle.std.specs.Option.{ForNone, option_copied};
 ghost use Rattle.hgs_bytes.specs.Answer.{Gives};
 ghost use Rattle.hgs_load.specs.Answer.{is_of_outside, NeverFaults};
 ghost use Rattle.hgs_load.specs.Open.{log_of};
-ghost use Rattle.hgs_load.specs.Refresh.{first_changed, unless_changed};
+ghost use Rattle.hgs_load.specs.Refresh.{log_after, log_on};
 ghost use Rattle.hgs_load.specs.View.{changelog_index, piece_length};
 
 use crate::answer::ReadAnswer;
-use crate::refresh::first_changed;
+use crate::refresh::{behind_last, first_changed};
 use crate::refusal::{damage, of_revlog};
 use hgs_files::path::StorePath;
 use hgs_plan::damage::Part;
 use hgs_revlog::fault::Tail;
 use hgs_revlog::revlog::Revlog;
 use std::alloc::{AllocError, Global};
+use std::mem;
 
 /// The bytes of one read of an index: 1,024 entries.
 pub const PIECE: u64 = 65_536;
@@ -51,20 +52,66 @@ fn log_of(alloc: Global, path: &StorePath, index: &[u8]) -> Result<Revlog, ReadA
     }
 }
 
-// The history, where it begins with the former one. The path is that of its index.
-fn log_after(
+// The history of an index with this path, where it begins with the former one.
+fn whole_log(
     alloc: Global,
     path: &StorePath,
     former: &Revlog,
-    log: Revlog,
+    index: &[u8],
 ) -> Result<Revlog, ReadAnswer>
     requires { path.now ≡ changelog_index }
-    ensures log { Gives is_of_outside (λ log. log) result (unless_changed (first_changed 0 former.now.entries log.entries) log) }
+    ensures log { Gives is_of_outside (λ log. log) result (log_after former.now.entries (log_of index.now)) }
     ensures inner { NeverFaults result }
 {
+    let log = match log_of(alloc, path, index) {
+        Ok(log) => log,
+        Err(refusal) => return Err(refusal),
+    };
     match first_changed(former.entries(), &log) {
         Some(rev) => Err(damage(alloc, path, Part::Shrunk, 1, rev as u64)),
         None => Ok(log),
+    }
+}
+
+// The former history with the entries of these bytes of its index behind its last one.
+fn log_on(
+    alloc: Global,
+    path: &StorePath,
+    former: Revlog,
+    behind: &[u8],
+) -> Result<Revlog, ReadAnswer>
+    requires path { path.now ≡ changelog_index }
+    ensures log { Gives is_of_outside (λ log. log) result (log_on former behind.now) }
+    ensures inner { NeverFaults result }
+{
+    match former.load_on(behind, Tail::Ignore) {
+        Ok(log) => Ok(log),
+        Err(fault) => Err(of_revlog(alloc, path, fault)),
+    }
+}
+
+/// The history that an index has to begin with.
+#[derive(Drop)]
+pub enum Former {
+    Nothing,
+    /// This one; the index is read from its first byte on.
+    Whole(Revlog),
+    /// This one; the index is read from the place of its last entry on.
+    Last(Revlog),
+}
+
+impl Former {
+    ghost use Rattle.std.specs.Prelude.{◌≡◌};
+    ghost use Rattle.hgs_load.specs.Load.{former_of};
+
+    fn of(old: Revlog) -> Former
+        ensures { result ≡ former_of old }
+    {
+        if old.is_inline() || old.len() == 0 {
+            Former::Whole(old)
+        } else {
+            Former::Last(old)
+        }
     }
 }
 
@@ -72,8 +119,7 @@ fn log_after(
 #[derive(Drop)]
 pub struct IndexLoad {
     alloc: Global,
-    /// The history that the new one has to begin with.
-    former: Option<Revlog>,
+    former: Former,
     left: u32,
     bytes: Vec<u8>,
     log: Option<Revlog>,
@@ -81,15 +127,15 @@ pub struct IndexLoad {
 }
 
 impl IndexLoad {
-    ghost use Rattle.std.specs.Prelude.{◌≡◌, ◌<◌, List, ℕ, IfOk, OnOk, Ok, Option, is_some};
+    ghost use Rattle.std.specs.Prelude.{◌≡◌, ◌<◌, ◌≤◌, List, ℕ, IfOk, OnOk, Ok, None, Option, is_some};
     ghost use Rattle.std.specs.Option.{option_copied};
     ghost use Rattle.hgs_bytes.specs.Answer.{Gives};
     ghost use Rattle.hgs_load.specs.Answer.{is_of_outside, NeverFaults};
     ghost use Rattle.hgs_load.specs.Asks.{answer};
-    ghost use Rattle.hgs_load.specs.Load.{index_asks, index_reads, log_behind, AsksFor, Feeds, HasEnded, Finishes};
+    ghost use Rattle.hgs_load.specs.Load.{index_asks, index_reads, place_behind, asks_behind, AsksFor, Feeds, HasEnded, Finishes};
     ghost use Rattle.hgs_load.specs.Open.{log_asks};
-    ghost use Rattle.hgs_load.specs.Refresh.{newer_log_asks};
-    ghost use Rattle.hgs_load.specs.View.{changelog_index};
+    ghost use Rattle.hgs_load.specs.Refresh.{newer_log_asks, whole_log_asks, behind_asks, behind_last};
+    ghost use Rattle.hgs_load.specs.View.{changelog_index, most_pieces};
 
     /// An index of which nothing was read. Takes no memory.
     pub fn new(alloc: Global) -> IndexLoad
@@ -97,7 +143,7 @@ impl IndexLoad {
     {
         IndexLoad {
             alloc,
-            former: None,
+            former: Former::Nothing,
             left: MOST_PIECES,
             bytes: Vec::new(alloc),
             log: None,
@@ -106,11 +152,11 @@ impl IndexLoad {
 
     /// An index of which nothing was read, whose history has to begin with this one.
     pub fn behind(alloc: Global, old: &Revlog) -> Result<IndexLoad, AllocError>
-        ensures { IfOk result (λ load. index_asks load ≡ newer_log_asks old.now.entries) }
+        ensures { IfOk result (λ load. index_asks load ≡ newer_log_asks old.now) }
     {
         Ok(IndexLoad {
             alloc,
-            former: Some(old.copy()?),
+            former: Former::of(old.copy()?),
             left: MOST_PIECES,
             bytes: Vec::new(alloc),
             log: None,
@@ -131,43 +177,73 @@ impl IndexLoad {
         self.log.is_some()
     }
 
-    /// How many bytes were read.
-    pub fn len(&self) -> u64
-        ensures { result ≡ length self.now.bytes.items }
+    /// The place of the next piece in the file.
+    pub fn place(&self) -> u64
+        ensures { result ≡ place_behind self.now.former self.now.bytes.items }
     {
-        self.bytes.len() as u64
-    }
-
-    // The history of the index that was read.
-    fn log_read(&self, path: &StorePath) -> Result<Revlog, ReadAnswer>
-        requires path { path.now ≡ changelog_index }
-        ensures log { Gives is_of_outside (λ log. log) result (log_behind self.now.former self.now.bytes.items) }
-        ensures inner { NeverFaults result }
-    {
-        let log = match log_of(self.alloc, path, &self.bytes) {
-            Ok(log) => log,
-            Err(refusal) => return Err(refusal),
-        };
+        let read = self.bytes.len() as u64;
         match &self.former {
-            Some(former) => log_after(self.alloc, path, former, log),
-            None => Ok(log),
+            Former::Nothing => read,
+            Former::Whole(_) => read,
+            Former::Last(old) => 64 * (old.len().saturating_sub(1) as u64) + read,
         }
     }
 
-    // Loads the revisions from the index that was read.
-    fn finish(&mut self, path: &StorePath) -> Result<(), ReadAnswer>
+    // Goes on where the index was read from the last entry of the former history on: with what stands behind it, or with the
+    // whole index, where another entry stands there.
+    fn finish_last(&mut self, path: &StorePath, former: Revlog) -> Result<(), ReadAnswer>
         requires path { path.now ≡ changelog_index }
-        ensures done { Finishes (log_behind self.old.former self.old.bytes.items) (index_asks self.new) result }
-        ensures ended { OnOk result (index_reads self.new ≡ 0) }
+        requires open { self.old.log ≡ None }
+        ensures done { Finishes (behind_asks former (behind_last former.entries self.old.bytes.items)) (index_asks self.new) result }
+        ensures fewer { OnOk result (index_reads self.new ≤ most_pieces) }
         ensures inner { NeverFaults result }
     {
-        match self.log_read(path) {
+        match behind_last(&former, &self.bytes) {
+            Some(behind) => match log_on(self.alloc, path, former, behind) {
+                Ok(log) => {
+                    self.log = Some(log);
+                    Ok(())
+                }
+                Err(refusal) => Err(refusal),
+            },
+            None => {
+                self.read_whole(former);
+                Ok(())
+            }
+        }
+    }
+
+    // Goes on where an index was read to its end, or its tail was.
+    fn finish(&mut self, path: &StorePath) -> Result<(), ReadAnswer>
+        requires path { path.now ≡ changelog_index }
+        requires open { self.old.log ≡ None }
+        ensures done { Finishes (asks_behind self.old.former self.old.bytes.items) (index_asks self.new) result }
+        ensures fewer { OnOk result (index_reads self.new < index_reads self.old) }
+        ensures inner { NeverFaults result }
+    {
+        let log = match mem::replace(&mut self.former, Former::Nothing) {
+            Former::Nothing => log_of(self.alloc, path, &self.bytes),
+            Former::Whole(former) => whole_log(self.alloc, path, &former, &self.bytes),
+            Former::Last(former) => return self.finish_last(path, former),
+        };
+        match log {
             Ok(log) => {
                 self.log = Some(log);
                 Ok(())
             }
             Err(refusal) => Err(refusal),
         }
+    }
+
+    // Begins to read the index from its first byte on.
+    fn read_whole(&mut self, former: Revlog)
+        requires open { self.old.log ≡ None }
+        ensures asks { index_asks self.new ≡ whole_log_asks former.entries }
+        ensures reads { index_reads self.new ≡ most_pieces }
+    {
+        self.former = Former::Whole(former);
+        self.left = MOST_PIECES;
+        self.bytes = Vec::new(self.alloc);
     }
 
     /// Takes the next piece of the file with this path, none where the file isn't there.

@@ -1,11 +1,13 @@
 //! Whether a history goes on from an older one.
-ghost use Rattle.std.specs.Prelude.{◌≡◌, ◌&&◌, length, false};
+ghost use Rattle.std.specs.Prelude.{◌≡◌, ◌<◌, ◌-◌, ◌&&◌, length, slice_get, false};
 ghost use Rattle.hgs_plan.specs.declared.damage.Part.TheVariants.{Shrunk};
-ghost use Rattle.hgs_load.specs.Refresh.{same_parent, same_lengths, same_links, same_entry, first_changed};
+ghost use Rattle.hgs_load.specs.Refresh.{same_parent, same_lengths, same_links, same_entry, first_changed, is_this, behind_last};
+ghost use Rattle.hgs_revlog.specs.Load.{separate_at};
+ghost use Rattle.std.specs.Option.{option_map};
 
 use hgs_bytes::parts::equal;
 use hgs_index::entry::Entry;
-use hgs_revlog::revlog::Revlog;
+use hgs_revlog::revlog::{Revlog, separate_entry};
 
 fn is_same_parent(a: Option<u32>, b: Option<u32>) -> bool
     ensures { result ≡ same_parent a b }
@@ -34,6 +36,34 @@ fn is_same_entry(a: &Entry, b: &Entry) -> bool
     ensures { result ≡ same_entry a.now b.now }
 {
     has_same_lengths(a, b) && has_same_links(a, b) && equal(&a.node.0, &b.node.0)
+}
+
+// Whether these bytes of an index are the last old entry.
+fn is_last(old: &Revlog, bytes: &[u8; 64]) -> bool
+    requires { 0 < length old.now.entries }
+    ensures { result ≡ is_this (slice_get old.now.entries (length old.now.entries - 1)) (separate_at bytes.now (length old.now.entries - 1)) }
+{
+    let last = old.len() - 1;
+    match separate_entry(bytes, last) {
+        Ok(entry) => is_same_entry(old.entry(last), &entry),
+        Err(_) => false,
+    }
+}
+
+/// Of the bytes of an index from the place of the last old entry on, those behind that entry; none where they do not begin
+/// with it.
+pub fn behind_last<'a>(old: &Revlog, tail: &'a [u8]) -> Option<&'a [u8]>
+    ensures { option_map (λ bytes. bytes.now) result ≡ behind_last old.now.entries tail.now }
+{
+    if old.len() == 0 {
+        return None;
+    }
+    let (bytes, behind) = tail.split_first_chunk::<64>()?;
+    if is_last(old, bytes) {
+        Some(behind)
+    } else {
+        None
+    }
 }
 
 /// The first of the old entries that isn't the new one in its place.

@@ -8,7 +8,7 @@ ghost use Rattle.hgs_load.specs.Asks.{Answers};
 ghost use Rattle.hgs_load.specs.Given.{Takes, TakesStep};
 ghost use Rattle.hgs_load.specs.Load.{asks_of, reads_left, Advances};
 ghost use Rattle.hgs_load.specs.Open.{open_asks};
-ghost use Rattle.hgs_load.specs.Refresh.{refresh_asks};
+ghost use Rattle.hgs_load.specs.Refresh.{refresh_asks, GivenFew};
 
 use crate::answer::ReadAnswer;
 use crate::ask::read_part;
@@ -88,7 +88,8 @@ pub fn load<R: Reads>(alloc: Global, files: &mut R) -> Result<Loaded, ReadAnswer
     load_with(alloc, files, machine)
 }
 
-/// Loads again what may have changed since, which is all but `requires`. It is damage of the changelog where the history does
+/// Loads again what may have changed since, which is all but `requires`, and of the changelog's index what stands from the
+/// last old entry on. It is damage of the changelog where the history does
 /// not begin with the old one.
 pub fn load_again<R: Reads>(
     alloc: Global,
@@ -98,6 +99,7 @@ pub fn load_again<R: Reads>(
     ensures answer { Answers (λ loaded. loaded) (R.seen files.old) (R.start files.old) (R.seen files.new) (refresh_asks old.now) result }
     ensures given { Takes (λ loaded. loaded) (R.given files.old) (R.given files.new) (R.seen files.old) (R.start files.old) (R.seen files.new) (refresh_asks old.now) result }
     ensures front { IfOk result (λ loaded. IsPrefixOf old.now.changelog.entries loaded.changelog.entries) }
+    ensures few { IfOk result (λ loaded. GivenFew R.alone (R.given files.old) (R.given files.new) (R.seen files.old) (R.start files.old) old.now loaded) }
     ensures seen { Grows (R.seen files.old) (R.seen files.new) }
     ensures same_start { R.start files.new ≡ R.start files.old }
     ensures still { R.alone ≡ true → R.seen files.new ≡ R.seen files.old }

@@ -49,7 +49,7 @@ impl Session {
     ghost use Rattle.hgs_reader.specs.Line.{change_at, change_asks, line_at, line_asks};
     ghost use Rattle.hgs_load.specs.Load.{Refreshes};
     ghost use Rattle.hgs_load.specs.Marks.{working_of};
-    ghost use Rattle.hgs_load.specs.Refresh.{refresh_asks};
+    ghost use Rattle.hgs_load.specs.Refresh.{refresh_asks, GivenFew};
     ghost use Rattle.hgs_reader.specs.Names.{named};
     ghost use Rattle.hgs_load.specs.Open.{open_asks};
     ghost use Rattle.hgs_reader.specs.Shown.{marks_text, parents_text};
@@ -92,12 +92,14 @@ impl Session {
         }
     }
 
-    /// Loads again what may have changed, which is all but `requires`. A refusal changes nothing; it is damage of the
-    /// changelog where the history does not begin with the one that was loaded.
+    /// Loads again what may have changed, which is all but `requires`, and of the changelog's index what stands from the last
+    /// loaded entry on. A refusal changes nothing; it is damage of the changelog where the history does not begin with the one
+    /// that was loaded.
     pub fn refresh<R: Reads>(&mut self, files: &mut R) -> Result<(), ReadAnswer>
         ensures answer { Refreshes (R.seen files.old) (R.start files.old) (R.seen files.new) (refresh_asks self.old) self.old self.new result }
         ensures given { TakesView (R.given files.old) (R.given files.new) (R.seen files.old) (R.start files.old) (R.seen files.new) (refresh_asks self.old) self.new result }
         ensures front { OnOk result (IsPrefixOf self.old.changelog.entries self.new.changelog.entries) }
+        ensures few { OnOk result (GivenFew R.alone (R.given files.old) (R.given files.new) (R.seen files.old) (R.start files.old) self.old self.new) }
         ensures seen { Grows (R.seen files.old) (R.seen files.new) }
         ensures same_start { R.start files.new ≡ R.start files.old }
         ensures still { R.alone ≡ true → R.seen files.new ≡ R.seen files.old }

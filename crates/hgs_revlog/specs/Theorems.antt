@@ -2,6 +2,7 @@
 -- that a contract cites.
 pub mod AddLemmas
 pub mod AddedLemmas
+pub mod BehindLemmas
 pub mod HeldLemmas
 pub mod LoadLemmas
 pub mod LogLemmas

@@ -1,5 +1,5 @@
 //! A loaded index.
-ghost use Rattle.std.specs.Prelude.{◌≡◌, ◌<◌, ◌≤◌, true, not, [], length, slice_get, IfSome, IfOk, IfErr, IsOk, OnOk, OnErr};
+ghost use Rattle.std.specs.Prelude.{◌≡◌, ◌<◌, ◌≤◌, ◌/◌, true, not, [], length, slice_get, IfSome, IfOk, IfErr, IsOk, OnOk, OnErr};
 ghost use Rattle.std.specs.Option.{option_map};
 ghost use Rattle.std.specs.Result.{result_map_both};
 ghost use Rattle.hgs_bytes.specs.Answer.{Gives};
@@ -10,7 +10,7 @@ ghost use Rattle.hgs_index.specs.Revlog.{chunk_text};
 ghost use Rattle.hgs_revlog.specs.declared.fault.RevFault.TheVariants.{Memory};
 ghost use Rattle.hgs_revlog.specs.Fault.{is_memory};
 ghost use Rattle.hgs_revlog.specs.Log.{place_of, nodes_of, new_header, stored_sum, with_entry};
-ghost use Rattle.hgs_revlog.specs.Load.{loaded, loaded_either, cell_of, separate_at, is_taken, entry_behind, fault_of, is_above, ends_at, at_end, most_data, most_revisions, pushed};
+ghost use Rattle.hgs_revlog.specs.Load.{loaded, load_from, loaded_either, cell_of, separate_at, is_taken, entry_behind, fault_of, is_above, ends_at, at_end, most_data, most_revisions, pushed};
 ghost use Rattle.hgs_revlog.specs.Text.{span_in, span_of, node_with, text_of};
 
 use crate::fault::{RevFault, Tail};
@@ -90,7 +90,15 @@ impl Revlog {
     pub fn load(alloc: Global, index: &[u8], tail: Tail) -> Result<Revlog, RevFault>
         ensures { Gives is_memory (λ log. log) result (loaded tail index.now) }
     {
-        let mut log = Revlog::empty(alloc, false);
+        Revlog::empty(alloc, false).load_on(index, tail)
+    }
+
+    /// The revlog with the entries of these bytes behind its own, or their first fault. The bytes are those of a separate
+    /// index behind the entries that it has.
+    pub fn load_on(self, index: &[u8], tail: Tail) -> Result<Revlog, RevFault>
+        ensures { Gives is_memory (λ log. log) result (load_from tail (length index.now / 64) self index.now) }
+    {
+        let mut log = self;
         let mut rest = index;
         while let Some((bytes, behind)) = rest.split_first_chunk::<64>() {
             let entry = match log.next_entry(bytes) {
@@ -402,8 +410,8 @@ impl Revlog {
     }
 }
 
-// The entry of a separate index, whose header has no bit 16.
-fn separate_entry(bytes: &[u8; 64], rev: u32) -> Result<Entry, EntryFault>
+/// The entry that 64 bytes of a separate index are at this revision. Its header has no bit 16.
+pub fn separate_entry(bytes: &[u8; 64], rev: u32) -> Result<Entry, EntryFault>
     ensures { result ≡ separate_at bytes.now rev }
 {
     if rev == 0 && is_inline(bytes) {

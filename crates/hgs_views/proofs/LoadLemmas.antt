@@ -1,5 +1,5 @@
 -- A load whose reads stand at different moments.
-use Rattle.std.proofs.Common.{◌≡◌, ℕ, ◌+◌, ◌-◌, ◌*◌, ◌/◌, ◌<◌, ◌≤◌, List, [], ◌++◌, length, take, map, Result, Ok, refl, sym, ◌∙◌, ap, subst, arith, append-nil, length-append}
+use Rattle.std.proofs.Common.{◌≡◌, ℕ, ◌+◌, ◌-◌, ◌*◌, ◌/◌, ◌<◌, ◌≤◌, List, [], ◌++◌, length, take, map, false, Result, Ok, refl, sym, ◌∙◌, ap, subst, arith, append-nil, length-append}
 use Rattle.std.proofs.Math.Nat.{lt-mul-div-succ}
 use Rattle.std.proofs.Math.Seq.{take-append-add, take-append_seam}
 use Rattle.std.proofs.lemmas.List.{take_all}
@@ -21,7 +21,9 @@ use Rattle.hgs_load.specs.Asks.{Asks, answer, then_asks, MayAnswer}
 use Rattle.hgs_load.specs.Marks.{Nodes, bookmarks_answer, dirstate_answer, roots_answer, working_answer}
 use Rattle.hgs_load.specs.Open.{requires_path, most_requires, most_bookmarks_text, most_dirstate, most_roots, bookmarks_asks, dirstate_asks, log_asks, roots_asks, log_of, view_with, view_of, open_asks}
 use Rattle.hgs_load.specs.Requirements.{requires_answer}
-use Rattle.hgs_load.specs.View.{View, log_answer, pieces_then, most_pieces, piece_length}
+use Rattle.hgs_load.specs.Refresh.{behind_asks, behind_last, last_place}
+use Rattle.hgs_load.specs.View.{View, log_answer, pieces_from, pieces_then, most_pieces, piece_length}
+use Rattle.hgs_load.specs.Theorems.TailLemmas.{tail-answers}
 use Rattle.hgs_stands.specs.Places.{bookmarks_path, dirstate_path, roots_path, changelog_index, changelog_data}
 use Rattle.hgs_stands.specs.Stands.{changeset_entries, mark_of}
 use Rattle.hgs_shown.specs.Shown.{working_nodes}
@@ -29,7 +31,7 @@ use Rattle.hgs_views.specs.Course.{Course, IsBetween, IsCourse, OpensAlong, tree
 use Rattle.hgs_views.specs.Moments.{WholeStays}
 use Rattle.hgs_views.specs.Seen.{Numbers, IsViewAt, AreReadBetween, AreInOrder, IsLoadedBetween}
 use Rattle.hgs_views.proofs.Basics.{prefix-refl, prefix-trans}
-use Rattle.hgs_views.proofs.MomentLemmas.{between-later, whole-then, pieces-end}
+use Rattle.hgs_views.proofs.MomentLemmas.{between-later, whole-then, pieces-end, pieces-whole}
 use Rattle.hgs_views.proofs.Below.{LoadLaws}
 
 -- ---- fronts
@@ -165,10 +167,23 @@ module _ (law : LoadLaws) (x : Course) (first last : List Op) (is : IsCourse x f
     pub pieces-step : (given : List ℕ → Result Log ReadAnswer) → ((log : List Op) (found : Log) → IsBetween first last log → LoadsAt x (x.published log) found → log_of (bytes_at (tree_after x log) changelog_index) ≡ Ok found → given (bytes_at (tree_after x log) changelog_index) ≡ Ok found)
         → LogStep (pieces_then changelog_index most_pieces [] (λ index. answer (given index)))
     pieces-step given passes more from y at m =
-        let a = pieces-end x.start changelog_index first last y (λ index. answer (given index)) more whole-stays room most_pieces 0 [] from at refl refl (bytes_at (tree_after x from) changelog_index, refl) m in
+        let a = pieces-whole x.start changelog_index first last y (λ index. answer (given index)) more whole-stays room from at m in
         let now = between-later first last from a.0 at a.1 in
         let found = loads-at a.0 now in
         (a.0, a.1, found.0, found.1, subst (λ q. MayAnswer x.start a.0 (then_asks (answer q) more) last y) (passes a.0 found.0 now found.1 (ap (log_answer changelog_index) (loads-as a.0 now ∙ found.1.loads))) a.2)
+
+    -- and so it is of the index from the last of some entries on, where each list on the way begins with them
+    pub last-step : (old : Log) (front : List ℕ) → old.inline ≡ false → 0 < length old.entries → length front ≡ last_place old.entries → IsPrefixOf front (bytes_at (tree_after x first) changelog_index)
+        → ((log : List Op) (found : Log) → IsBetween first last log → LoadsAt x (x.published log) found → IsPrefixOf old.entries found.entries)
+        → LogStep (pieces_from changelog_index (last_place old.entries) most_pieces [] (λ tail. behind_asks old (behind_last old.entries tail)))
+    last-step old front separate some size stands begins more from y at m =
+        let kept = whole-stays first from front (length old.entries - 1) (record { begins = prefix-refl first; ends = prefix-trans first from last at.begins at.ends }) at size stands in
+        let a = pieces-end x.start changelog_index first last y (λ tail. behind_asks old (behind_last old.entries tail)) more whole-stays room front (length old.entries - 1) size (λ bytes. last_place old.entries + length bytes) (λ b. ap (λ n. n + length b) (sym size))
+        most_pieces 0 [] from at refl refl (subst (λ l. IsPrefixOf l (bytes_at (tree_after x from) changelog_index)) (sym (append-nil front)) kept) m in
+        let now = between-later first last from a.0 at a.1 in
+        let found = loads-at a.0 now in
+        let loads : loaded Ignore (front ++ a.2) ≡ Ok found.0 = ap (loaded Ignore) (sym a.3) ∙ loads-as a.0 now ∙ found.1.loads in
+        (a.0, a.1, found.0, found.1, subst (λ q. MayAnswer x.start a.0 (then_asks q more) last y) (tail-answers front a.2 old found.0 separate some size loads (begins a.0 found.0 now found.1)) a.4)
 
     log-step : LogStep log_asks
     log-step = pieces-step log_of (λ log found at is loads. loads)

@@ -9,7 +9,7 @@ use Rattle.hgs_files.specs.declared.op.Op.{Op}
 use Rattle.hgs_files.specs.Tree.{Tree, bytes_at, after_all}
 use Rattle.hgs_load.specs.declared.answer.ReadAnswer.{ReadAnswer}
 use Rattle.hgs_load.specs.Asks.{Asks, answer, part_of, at_rest, then_asks, MayAnswer}
-use Rattle.hgs_load.specs.View.{pieces_then, piece_length, most_pieces}
+use Rattle.hgs_load.specs.View.{pieces_by, pieces_then, piece_length, most_pieces}
 use Rattle.hgs_load.specs.Whole.{within, whole_asks}
 use Rattle.hgs_views.specs.Course.{IsBetween}
 use Rattle.hgs_views.specs.Moments.{WholeStays}
@@ -38,41 +38,57 @@ short_piece n rest h = let e = length-take n rest in take_all n rest (grind (ari
 long_piece : (n : ℕ) (rest : List ℕ) → nat_lt (length (take n rest)) n ≡ false → length (take n rest) ≡ n
 long_piece n rest h = let e = length-take n rest in grind (arith, nat_tests, h, e)
 
-module _ {A B : Type 0} (start : Tree) (path : List ℕ) (first last : List Op) (y : Result B ReadAnswer) (f : List ℕ → Asks (Result A ReadAnswer)) (more : A → Asks (Result B ReadAnswer)) (stays : WholeStays start path first last) (room : (log : List Op) → IsBetween first last log → length (bytes_at (after_all log start) path) < most_pieces * piece_length) where
+module _ {A B : Type 0} (start : Tree) (path : List ℕ) (first last : List Op) (y : Result B ReadAnswer) (f : List ℕ → Asks (Result A ReadAnswer)) (more : A → Asks (Result B ReadAnswer)) (stays : WholeStays start path first last) (room : (log : List Op) → IsBetween first last log → length (bytes_at (after_all log start) path) < most_pieces * piece_length) (front : List ℕ) (before : ℕ) (whole : length front ≡ 64 * before) (place : List ℕ → ℕ) (placed : (b : List ℕ) → place b ≡ length front + length b) where
   -- what is asked once this piece was read behind these bytes
   abbrev asked : ℕ → List ℕ → List ℕ → Asks (Result A ReadAnswer)
-  asked left bytes p = cond (nat_lt (length p) piece_length) (f (bytes ++ p)) (pieces_then path left (bytes ++ p) f)
+  asked left bytes p = cond (nat_lt (length p) piece_length) (f (bytes ++ p)) (pieces_by path place left (bytes ++ p) f)
 
-  pub pieces-end : (left k : ℕ) (bytes : List ℕ) (now : List Op) → IsBetween first last now → length bytes ≡ 64 * k → length bytes + left * piece_length ≡ most_pieces * piece_length → IsPrefixOf bytes (bytes_at (after_all now start) path)
-      → MayAnswer start now (then_asks (pieces_then path left bytes f) more) last y
-      → (log : List Op) × IsBetween now last log × MayAnswer start log (then_asks (f (bytes_at (after_all log start) path)) more) last y
-  pieces-end zero k bytes now at whole all front m =
+  -- at some moment the file is the front and all that was read behind it
+  abbrev Ends : List Op → Type 0
+  Ends now = (log : List Op) × IsBetween now last log × (tail : List ℕ) × (bytes_at (after_all log start) path ≡ front ++ tail) × MayAnswer start log (then_asks (f tail) more) last y
+
+  pub pieces-end : (left k : ℕ) (bytes : List ℕ) (now : List Op) → IsBetween first last now → length bytes ≡ 64 * k → length bytes + left * piece_length ≡ most_pieces * piece_length → IsPrefixOf (front ++ bytes) (bytes_at (after_all now start) path)
+      → MayAnswer start now (then_asks (pieces_by path place left bytes f) more) last y → Ends now
+  pieces-end zero k bytes now at size all begins m =
       let less = room now at in
-      let size = ap length front.1 in
-      absurd (omega (arith, less, size, all, length-append bytes front.0))
-  pieces-end (suc left) k bytes now at whole all front m =
+      let longer = ap length begins.1 in
+      absurd (omega (arith, less, longer, all, length-append (front ++ bytes) begins.0, length-append front bytes))
+  pieces-end (suc left) k bytes now at size all begins m =
       let log = m.0 in
-      let part = part_of (after_all log start) path (length bytes) piece_length in
+      let part = part_of (after_all log start) path (place bytes) piece_length in
       let here : IsBetween now last log = record { begins = m.1; ends = may-front (then_asks (asked left bytes (unwrap_or part [])) more) start log last y m.2 } in
-      let kept = stays now log bytes k at here whole front in
+      let kept = stays now log (front ++ bytes) (before + k) at here (let both = length-append front bytes in omega (arith, both, whole, size)) begins in
       let piece : unwrap_or part [] ≡ take piece_length kept.0 =
-      part_is (after_all log start path) (length bytes) piece_length ∙ ap (λ l. take piece_length (drop (length bytes) l)) kept.1 ∙ ap (take piece_length) (drop-append_seam bytes kept.0) in
+      part_is (after_all log start path) (place bytes) piece_length
+      ∙ ap (λ l. take piece_length (drop (place bytes) l)) kept.1
+      ∙ ap (λ n. take piece_length (drop n (front ++ bytes ++ kept.0))) (placed bytes ∙ sym (length-append front bytes))
+      ∙ ap (take piece_length) (drop-append_seam (front ++ bytes) kept.0) in
       by log here kept (subst (λ p. MayAnswer start log (then_asks (asked left bytes p) more) last y) piece m.2) (nat_lt (length (take piece_length kept.0)) piece_length) refl (pieces-end left (k + 1024) (bytes ++ take piece_length kept.0) log (between-later first last now log at here))
     where
-      by : (log : List Op) → IsBetween now last log → (kept : IsPrefixOf bytes (bytes_at (after_all log start) path)) → MayAnswer start log (then_asks (asked left bytes (take piece_length kept.0)) more) last y
+      joined : (rest : List ℕ) → front ++ bytes ++ take piece_length rest ≡ front ++ (bytes ++ take piece_length rest)
+      joined rest = append_assoc front bytes (take piece_length rest)
+
+      by : (log : List Op) → IsBetween now last log → (kept : IsPrefixOf (front ++ bytes) (bytes_at (after_all log start) path)) → MayAnswer start log (then_asks (asked left bytes (take piece_length kept.0)) more) last y
           → (b : Bool) → nat_lt (length (take piece_length kept.0)) piece_length ≡ b
-          → (length (bytes ++ take piece_length kept.0) ≡ 64 * (k + 1024) → length (bytes ++ take piece_length kept.0) + left * piece_length ≡ most_pieces * piece_length → IsPrefixOf (bytes ++ take piece_length kept.0) (bytes_at (after_all log start) path)
-          → MayAnswer start log (then_asks (pieces_then path left (bytes ++ take piece_length kept.0) f) more) last y
-          → (end : List Op) × IsBetween log last end × MayAnswer start end (then_asks (f (bytes_at (after_all end start) path)) more) last y)
-          → (end : List Op) × IsBetween now last end × MayAnswer start end (then_asks (f (bytes_at (after_all end start) path)) more) last y
+          → (length (bytes ++ take piece_length kept.0) ≡ 64 * (k + 1024) → length (bytes ++ take piece_length kept.0) + left * piece_length ≡ most_pieces * piece_length → IsPrefixOf (front ++ (bytes ++ take piece_length kept.0)) (bytes_at (after_all log start) path)
+          → MayAnswer start log (then_asks (pieces_by path place left (bytes ++ take piece_length kept.0) f) more) last y → Ends log)
+          → Ends now
       by log here kept m true e next =
-          let all_read : bytes ++ take piece_length kept.0 ≡ bytes_at (after_all log start) path = ap (λ l. bytes ++ l) (short_piece piece_length kept.0 e) ∙ sym kept.1 in
-          let m1 = subst (λ b. MayAnswer start log (then_asks (cond b (f (bytes ++ take piece_length kept.0)) (pieces_then path left (bytes ++ take piece_length kept.0) f)) more) last y) e m in
-          (log, here, subst (λ l. MayAnswer start log (then_asks (f l) more) last y) all_read m1)
+          let all_read : bytes_at (after_all log start) path ≡ front ++ (bytes ++ take piece_length kept.0) = kept.1 ∙ ap (λ l. front ++ bytes ++ l) (sym (short_piece piece_length kept.0 e)) ∙ joined kept.0 in
+          let m1 = subst (λ b. MayAnswer start log (then_asks (cond b (f (bytes ++ take piece_length kept.0)) (pieces_by path place left (bytes ++ take piece_length kept.0) f)) more) last y) e m in
+          (log, here, bytes ++ take piece_length kept.0, all_read, m1)
       by log here kept m false e next =
-          let m1 = subst (λ b. MayAnswer start log (then_asks (cond b (f (bytes ++ take piece_length kept.0)) (pieces_then path left (bytes ++ take piece_length kept.0) f)) more) last y) e m in
-          let size = long_piece piece_length kept.0 e in
+          let m1 = subst (λ b. MayAnswer start log (then_asks (cond b (f (bytes ++ take piece_length kept.0)) (pieces_by path place left (bytes ++ take piece_length kept.0) f)) more) last y) e m in
+          let long = long_piece piece_length kept.0 e in
           let both = length-append bytes (take piece_length kept.0) in
-          let r = next (omega (arith, whole, size, both)) (omega (arith, all, size, both))
-          (drop piece_length kept.0, kept.1 ∙ ap (λ l. bytes ++ l) (sym (take-append-drop piece_length kept.0)) ∙ sym (append_assoc bytes (take piece_length kept.0) (drop piece_length kept.0))) m1 in
-          (r.0, between-later now last log r.0 here r.1, r.2)
+          let r = next (omega (arith, size, long, both)) (omega (arith, all, long, both))
+          (drop piece_length kept.0, kept.1 ∙ ap (λ l. front ++ bytes ++ l) (sym (take-append-drop piece_length kept.0)) ∙ sym (append_assoc (front ++ bytes) (take piece_length kept.0) (drop piece_length kept.0)) ∙ ap (λ l. l ++ drop piece_length kept.0) (joined kept.0)) m1 in
+          (r.0, between-later now last log r.0 here r.1, r.2, r.3, r.4)
+
+-- the pieces from the first byte on are the whole file
+pub pieces-whole : {A B : Type 0} (start : Tree) (path : List ℕ) (first last : List Op) (y : Result B ReadAnswer) (f : List ℕ → Asks (Result A ReadAnswer)) (more : A → Asks (Result B ReadAnswer)) → WholeStays start path first last → ((log : List Op) → IsBetween first last log → length (bytes_at (after_all log start) path) < most_pieces * piece_length)
+    → (now : List Op) → IsBetween first last now → MayAnswer start now (then_asks (pieces_then path most_pieces [] f) more) last y
+    → (log : List Op) × IsBetween now last log × MayAnswer start log (then_asks (f (bytes_at (after_all log start) path)) more) last y
+pieces-whole start path first last y f more stays room now at m =
+    let r = pieces-end start path first last y f more stays room [] 0 refl length (λ b. omega arith) most_pieces 0 [] now at refl refl (bytes_at (after_all now start) path, refl) m in
+    (r.0, r.1, subst (λ l. MayAnswer start r.0 (then_asks (f l) more) last y) (sym r.3) r.4)

@@ -1,8 +1,9 @@
 -- A refresh over an old view of the same course.
-use Rattle.std.proofs.Common.{◌≡◌, ℕ, zero, suc, ◌*◌, ◌/◌, ◌≤◌, List, [], ◌∷◌, ◌++◌, length, take, drop, true, false, cond, ◌&&◌, Some, None, Option, Result, Ok, Err, refl, sym, ◌∙◌, ap, subst, arith, length-append}
+use Rattle.std.proofs.Common.{◌≡◌, ℕ, zero, suc, ◌*◌, ◌/◌, ◌<◌, ◌≤◌, List, [], ◌∷◌, ◌++◌, length, take, drop, Bool, true, false, cond, ◌||◌, Some, None, Result, Ok, Err, refl, sym, ◌∙◌, ap, subst, arith, length-append}
 use Rattle.std.specs.Prelude.{◌==◌}
-use Rattle.std.proofs.lemmas.List.{take-append-le, drop-append-le, length-drop}
-use Rattle.hgs_bytes.specs.Bytes.{IsPrefixOf, same}
+use Rattle.std.proofs.lemmas.Bool.Decides.{nat_tests}
+use Rattle.std.proofs.lemmas.List.{take-append-drop, length-take-le, take-append-le, drop-append-le, length-drop}
+use Rattle.hgs_bytes.specs.Bytes.{IsPrefixOf}
 use Rattle.hgs_files.specs.declared.op.Op.{Op}
 use Rattle.hgs_files.specs.Tree.{bytes_at}
 use Rattle.hgs_index.specs.declared.entry.Entry.{Entry}
@@ -14,44 +15,19 @@ use Rattle.hgs_revlog.specs.Log.{Log, with_entry}
 use Rattle.hgs_load.specs.declared.answer.ReadAnswer.{ReadAnswer}
 use Rattle.hgs_load.specs.Asks.{MayAnswer}
 use Rattle.hgs_load.specs.Open.{log_of, view_of}
-use Rattle.hgs_load.specs.Refresh.{same_parent, same_lengths, same_links, same_entry, first_changed, unless_changed, log_after, newer_log_asks, refresh_asks}
-use Rattle.hgs_load.specs.View.{View}
+use Rattle.hgs_load.specs.Refresh.{behind_asks, behind_last, first_changed, last_place, unless_changed, log_after, newer_log_asks, refresh_asks, whole_log_asks}
+use Rattle.hgs_load.specs.View.{View, pieces_from, most_pieces}
+use Rattle.hgs_load.specs.Theorems.TailLemmas.{entry-itself}
+use Rattle.hgs_revlog.specs.Theorems.BehindLemmas.{loaded-count}
 use Rattle.hgs_stands.specs.Places.{changelog_index, changelog_data}
 use Rattle.hgs_views.specs.Course.{Course, IsBetween, IsCourse, OpensAlong, tree_after}
 use Rattle.hgs_views.specs.Seen.{Numbers, NoneFell, AreReadBetween, IsLoadedBetween}
-use Rattle.hgs_views.proofs.Basics.{same-refl, prefix-refl, prefix-trans, may-front}
+use Rattle.hgs_views.proofs.Basics.{prefix-refl, prefix-trans, may-front}
 use Rattle.hgs_views.proofs.CourseLemmas.{course-later, itself-between}
-use Rattle.hgs_views.proofs.LoadLemmas.{LoadsAt, front-of-longer, below, pieces-step, answered, in-order, viewed}
+use Rattle.hgs_views.proofs.LoadLemmas.{LoadsAt, LogStep, front-of-longer, below, pieces-step, last-step, answered, in-order, viewed}
 use Rattle.hgs_views.proofs.Below.{LoadLaws}
 
--- ---- an entry is the same as itself
-
-equal : (n : ℕ) → (n == n) ≡ true
-equal n = grind arith
-
-parent-itself : (o : Option ℕ) → same_parent o o ≡ true
-parent-itself None = refl
-parent-itself (Some n) = equal n
-
-entry-itself : (e : Entry) → same_entry e e ≡ true
-entry-itself e =
-    ap (λ b. b && same_links e e && same e.node.0 e.node.0) lengths
-    ∙ ap (λ b. b && same e.node.0 e.node.0) links
-    ∙ same-refl e.node.0
-  where
-    lengths : same_lengths e e ≡ true
-    lengths =
-        ap (λ b. b && e.flags == e.flags && e.stored == e.stored && e.size == e.size) (equal e.offset)
-        ∙ ap (λ b. b && e.stored == e.stored && e.size == e.size) (equal e.flags)
-        ∙ ap (λ b. b && e.size == e.size) (equal e.stored)
-        ∙ equal e.size
-
-    links : same_links e e ≡ true
-    links =
-        ap (λ b. b && e.link == e.link && same_parent e.p1 e.p1 && same_parent e.p2 e.p2) (equal e.base)
-        ∙ ap (λ b. b && same_parent e.p1 e.p1 && same_parent e.p2 e.p2) (equal e.link)
-        ∙ ap (λ b. b && same_parent e.p2 e.p2) (parent-itself e.p1)
-        ∙ parent-itself e.p2
+-- ---- the old entries in front
 
 unchanged : (rev : ℕ) (old more : List Entry) → first_changed rev old (old ++ more) ≡ None
 unchanged rev [] more = refl
@@ -144,15 +120,56 @@ module _ (x : Course) (first last : List Op) (is : IsCourse x first last) where
       omega (arith, e, p)
 
   -- the history of a later list begins with that of the old view
-  kept-at : (law : LoadLaws) (ended from : List Op) (v : Numbers) (old : View) → IsLoadedBetween x first ended v old → IsPrefixOf ended from → IsPrefixOf from last → (log : List Op) (found : Log) → IsBetween from last log → LoadsAt x (x.published log) found → first_changed 0 old.changelog.entries found.entries ≡ None
-  kept-at law ended from v old loaded_old then on log found at is_at =
+  begins-at : (law : LoadLaws) (ended from : List Op) (v : Numbers) (old : View) → IsLoadedBetween x first ended v old → IsPrefixOf ended from → IsPrefixOf from last → (log : List Op) (found : Log) → IsBetween from last log → LoadsAt x (x.published log) found → IsPrefixOf old.changelog.entries found.entries
+  begins-at law ended from v old loaded_old then on log found at is_at =
       let from_at : IsBetween first last from = record { begins = began-by ended from v loaded_old.reads then; ends = on } in
       let log_at : IsBetween first last log = record { begins = prefix-trans first from log from_at.begins at.begins; ends = at.ends } in
       let low = loaded-below ended from v loaded_old.reads then on in
       let up = (is.rises from log from_at at).published in
       let front = store-front law log v.read (x.published log) log_at (omega (arith, low, up)) (omega arith) in
-      let kept = loaded-front (bytes_at (x.store v.read) changelog_index) front.0 old.changelog found loaded_old.is_view.loads (ap (loaded Ignore) (sym front.1) ∙ is_at.loads) in
+      loaded-front (bytes_at (x.store v.read) changelog_index) front.0 old.changelog found loaded_old.is_view.loads (ap (loaded Ignore) (sym front.1) ∙ is_at.loads)
+
+  kept-at : (law : LoadLaws) (ended from : List Op) (v : Numbers) (old : View) → IsLoadedBetween x first ended v old → IsPrefixOf ended from → IsPrefixOf from last → (log : List Op) (found : Log) → IsBetween from last log → LoadsAt x (x.published log) found → first_changed 0 old.changelog.entries found.entries ≡ None
+  kept-at law ended from v old loaded_old then on log found at is_at =
+      let kept = begins-at law ended from v old loaded_old then on log found at is_at in
       ap (first_changed 0 old.changelog.entries) kept.1 ∙ unchanged 0 old.changelog.entries kept.0
+
+  -- what the index had before the last of the old entries stands in front of it
+  old-front : (law : LoadLaws) (ended from : List Op) (v : Numbers) (old : View) → IsLoadedBetween x first ended v old → IsPrefixOf ended from → IsPrefixOf from last
+      → (front : List ℕ) × (length front ≡ last_place old.changelog.entries) × IsPrefixOf front (bytes_at (tree_after x from) changelog_index)
+  old-front law ended from v old loaded_old then on =
+      let from_at : IsBetween first last from = record { begins = began-by ended from v loaded_old.reads then; ends = on } in
+      let low = loaded-below ended from v loaded_old.reads then on in
+      let index = bytes_at (x.store v.read) changelog_index in
+      let place = last_place old.changelog.entries in
+      let stands = (is.stays from v.read from_at low).changelog in
+      let count = (loaded-count index old.changelog loaded_old.is_view.loads).0 in
+      (take place index, length-take-le place index (omega (arith, count)), prefix-trans (take place index) index (bytes_at (tree_after x from) changelog_index) (drop place index, sym (take-append-drop place index)) stands)
+
+  -- so what is answered to the question of a refresh is the history of some list
+  newer-step : (law : LoadLaws) (ended from : List Op) (v : Numbers) (old : View) → IsLoadedBetween x first ended v old → IsPrefixOf ended from → (on : IsPrefixOf from last) → (at : IsBetween first last from) → (opens : OpensAlong x from last) → LogStep law x from last (course-later x first from last at is) opens (newer_log_asks old.changelog)
+  newer-step law ended from v old loaded_old then on at opens = by (old.changelog.inline || length old.changelog.entries == 0) refl
+    where
+      later : IsCourse x from last
+      later = course-later x first from last at is
+
+      log : Log
+      log = old.changelog
+
+      not_whole : (a b : Bool) → (a || b) ≡ false → (a ≡ false) × (b ≡ false)
+      not_whole true b h = cc
+      not_whole false b h = (refl, h)
+
+      some_entries : (n : ℕ) → (n == 0) ≡ false → 0 < n
+      some_entries n h = grind (arith, nat_tests, h)
+
+      by : (b : Bool) → (log.inline || length log.entries == 0) ≡ b
+          → LogStep law x from last later opens (cond b (whole_log_asks log.entries) (pieces_from changelog_index (last_place log.entries) most_pieces [] (λ tail. behind_asks log (behind_last log.entries tail))))
+      by true e = pieces-step law x from last later opens (λ index. log_after log.entries (log_of index)) (λ list found now is_at loads. ap (log_after log.entries) loads ∙ ap (λ o. unless_changed o found) (kept-at law ended from v old loaded_old then on list found now is_at))
+      by false e =
+          let n = not_whole log.inline (length log.entries == 0) e in
+          let front = old-front law ended from v old loaded_old then on in
+          last-step law x from last later opens log front.0 n.0 (some_entries (length log.entries) n.1) front.1 front.2 (begins-at law ended from v old loaded_old then on)
 
   pub refreshed-along : (law : LoadLaws) (ended from : List Op) (v : Numbers) (old : View) (y : Result View ReadAnswer) → IsLoadedBetween x first ended v old → IsPrefixOf ended from → OpensAlong x from last → MayAnswer x.start from (refresh_asks old) last y
       → (w : Numbers) × (view : View) × (y ≡ Ok view) × IsLoadedBetween x from last w view × NoneFell v w
@@ -161,10 +178,8 @@ module _ (x : Course) (first last : List Op) (is : IsCourse x first last) where
       let at : IsBetween first last from = record { begins = began-by ended from v loaded_old.reads then; ends = on } in
       let later = course-later x first from last at is in
       let now = itself-between from last on in
-      let entries = old.changelog.entries in
-      let kept = kept-at law ended from v old loaded_old then on in
-      let step = pieces-step law x from last later opens (λ index. log_after entries (log_of index)) (λ log found at is_at loads. ap (log_after entries) loads ∙ ap (λ o. unless_changed o found) (kept log found at is_at)) in
-      let r = answered law x from last later opens (newer_log_asks entries) step view_of from y now m in
+      let step = newer-step law ended from v old loaded_old then on at opens in
+      let r = answered law x from last later opens (newer_log_asks old.changelog) step view_of from y now m in
       let order = in-order law x from last later opens from r.v now r.has.reads in
       let fell = none-fell ended from v r.v loaded_old.reads then on order.first_marked order.first_worked order.first_read order.read_rooted in
       let seen = viewed law x from last later opens from r.v r.marks r.nodes r.log r.roots r.has order in

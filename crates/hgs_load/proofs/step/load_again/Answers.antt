@@ -5,6 +5,7 @@ use Rattle.hgs_load.specs.Given.{Takes}
 use Rattle.hgs_load.specs.Refresh.{refresh_asks}
 use Rattle.hgs_load.specs.View.{View}
 use Rattle.hgs_load.specs.Theorems.GivenLemmas.{takes-no-memory}
+use Rattle.hgs_load.proofs.BoundLemmas.{few-takes}
 use Rattle.hgs_load.proofs.WayLemmas.{refreshed-takes}
 use Rattle.hgs_load.proofs.step.load_again.Goals as goal
 
@@ -16,3 +17,8 @@ pub returns-clause-front : goal.returns-clause-front
 returns-clause-front g c =
     let P : Asks (Result View ReadAnswer) → Type 0 = λ q. Takes (λ (view : View). view) (g.R.Reads.given c.args.files.now) (g.R.Reads.given c.load_with.new.files) (g.R.Reads.seen c.args.files.now) (g.R.Reads.start c.args.files.now) (g.R.Reads.seen c.load_with.new.files) q c.load_with.result in
     refreshed-takes (g.R.Reads.given c.args.files.now) (g.R.Reads.given c.load_with.new.files) (g.R.Reads.start c.args.files.now) (g.R.Reads.seen c.args.files.now) (g.R.Reads.seen c.load_with.new.files) c.args.old.now c.load_with.result (subst P c.in_ok-machine.ensures.asks c.load_with.ensures.given)
+
+pub returns-clause-few : goal.returns-clause-few
+returns-clause-few g c =
+    let P : Asks (Result View ReadAnswer) → Type 0 = λ q. Takes (λ (view : View). view) (g.R.Reads.given c.args.files.now) (g.R.Reads.given c.load_with.new.files) (g.R.Reads.seen c.args.files.now) (g.R.Reads.start c.args.files.now) (g.R.Reads.seen c.load_with.new.files) q c.load_with.result in
+    few-takes (g.R.Reads.given c.args.files.now) (g.R.Reads.given c.load_with.new.files) g.R.Reads.alone (g.R.Reads.start c.args.files.now) (g.R.Reads.seen c.args.files.now) (g.R.Reads.seen c.load_with.new.files) c.args.old.now c.load_with.result c.load_with.ensures.still (subst P c.in_ok-machine.ensures.asks c.load_with.ensures.given)

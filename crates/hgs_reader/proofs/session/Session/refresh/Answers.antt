@@ -3,7 +3,7 @@ use Rattle.hgs_bytes.specs.Bytes.{IsPrefixOf}
 use Rattle.hgs_load.specs.Answer.{is_of_outside}
 use Rattle.hgs_load.specs.Asks.{answer, MayAnswerWhereTold}
 use Rattle.hgs_load.specs.Given.{Gave, GaveRefused}
-use Rattle.hgs_load.specs.Refresh.{refresh_asks}
+use Rattle.hgs_load.specs.Refresh.{refresh_asks, GivenFew}
 use Rattle.hgs_load.specs.View.{View}
 use Rattle.hgs_load.specs.Theorems.AskLemmas.{either}
 use Rattle.hgs_reader.proofs.session.Session.refresh.Goals as goal
@@ -32,3 +32,8 @@ pub returns-in-Ok-clause-front : goal.returns-in-Ok-clause-front
 returns-in-Ok-clause-front g c =
     let P : View → Type 0 = λ old. IsPrefixOf old.changelog.entries c.in-Ok.loaded.changelog.entries in
     subst P c.self.view_is c.in-Ok.ensures.front
+
+pub returns-in-Ok-clause-few : goal.returns-in-Ok-clause-few
+returns-in-Ok-clause-few g c =
+    let P : View → Type 0 = λ old. GivenFew g.R.Reads.alone (g.R.Reads.given c.args.files.now) (g.R.Reads.given c.load_again.new.files) (g.R.Reads.seen c.args.files.now) (g.R.Reads.start c.args.files.now) old c.in-Ok.loaded in
+    subst P c.self.view_is c.in-Ok.ensures.few

@@ -1,8 +1,8 @@
 use Rattle.std.proofs.Common.{◌≡◌, ◌≤◌, length, take, drop, Ok, arith, sym, ◌∙◌, ap}
 use Rattle.hgs_revlog.specs.Log.{with_entry}
-use Rattle.hgs_revlog.specs.Load.{loaded, entry_behind}
+use Rattle.hgs_revlog.specs.Load.{entry_behind}
 use Rattle.hgs_revlog.specs.Theorems.LoadLemmas.{load_rest, load_stops, load_ends, load_on, taken_entry, gives_err}
-use Rattle.hgs_revlog.proofs.revlog.Revlog.load.Goals as goal
+use Rattle.hgs_revlog.proofs.revlog.Revlog.load_on.Goals as goal
 
 pub returns-in-Err : goal.returns-in-Err
 returns-in-Err c =
@@ -10,7 +10,7 @@ returns-in-Err c =
     let rest = c.loop-bytes.rest.now in
     let front : c.in-Some.bytes.now ≡ take 64 rest = c.in-Some.ensures.cases.0 in
     let whole : 64 ≤ length rest = (let len = c.in-Some.ensures.cases.2 in omega (arith, len)) in
-    gives_err (λ log. log) c.in-Err.fault (loaded c.args.tail c.args.index.now)
+    gives_err (λ log. log) c.in-Err.fault (load_rest c.args.tail c.args.self c.args.index.now)
     (sym c.loop-bytes.invariant ∙ load_stops c.args.tail log rest c.in-Err.fault whole (ap (entry_behind log.entries) (sym front) ∙ sym c.in-Err.ensures))
 
 pub append-requires-clause-few : goal.append-requires-clause-few
