@@ -3,6 +3,7 @@ pub mod Basics
 pub mod ChangesetLemmas
 pub mod FoundLemmas
 pub mod KindsLemmas
+pub mod EnteredLemmas
 pub mod EntryLemmas
 pub mod PathLemmas
 pub mod ReportLemmas

@@ -1,5 +1,5 @@
 -- The paths that the changesets use.
-use Rattle.std.proofs.Common.{◌≡◌, ℕ, zero, suc, ◌+◌, ◌-◌, ◌<◌, ◌≤◌, Bool, true, false, cond, List, [], ◌∷◌, ◌++◌, length, drop, map, refl, sym, ◌∙◌, ap, arith}
+use Rattle.std.proofs.Common.{◌≡◌, ℕ, zero, suc, ◌+◌, ◌-◌, ◌<◌, Bool, true, false, cond, List, [], ◌∷◌, ◌++◌, length, drop, map, refl, sym, ◌∙◌, ap, arith}
 use Rattle.std.specs.Prelude.{Option, Some, None, option_map, slice_get, unwrap_or, flat_map, is_some}
 use Rattle.std.specs.BTreeSet.{insert_key}
 use Rattle.std.specs.declared.cmp.Ordering.{Ordering}
@@ -11,13 +11,14 @@ use Rattle.hgs_index.specs.Manifest.{Row, read_manifest}
 use Rattle.hgs_index.specs.Revision.{Revision}
 use Rattle.hgs_index.specs.TrackedPath.{is_tracked}
 use Rattle.hgs_model.specs.History.{in_order, inserted, text_at}
-use Rattle.hgs_findings.specs.Regular.{rows_of_seen, used_paths}
+use Rattle.hgs_findings.specs.Regular.{rows_of_seen}
 use Rattle.hgs_findings.specs.Sight.{Sight, Seen, value, row_paths, tracked_rows, has_null_manifest, rows_of, seen, seen_of, manifest_of_seen}
 use Rattle.hgs_judge.specs.declared.changesets.Changeset.{Changeset}
 use Rattle.hgs_judge.specs.Changesets.{changeset_as, tree_as}
 use Rattle.hgs_judge.specs.Paths.{entered, paths_in_tree}
-use Rattle.hgs_judge.specs.Trees.{rows_read, rows_in_tree, rows_or_none}
+use Rattle.hgs_judge.specs.Trees.{rows_read}
 use Rattle.hgs_judge.proofs.ChangesetLemmas.{mapped-at}
+use Rattle.hgs_judge.proofs.EnteredLemmas.{entered-before-others}
 use Rattle.hgs_judge.proofs.TreeLemmas.{rows_when, text-rows}
 
 -- a set takes a path as the list in order does
@@ -83,6 +84,18 @@ passed-before rows left r start old lt at untracked before =
     before
     ∙ sym (row-passed r (drop left rows) start untracked)
     ∙ ap (λ l. entered (row_paths (tracked_rows l)) start) (sym (rows-before rows left r lt at))
+
+-- a row whose path stood there before
+pub passed-known : (rows : List Row) (left : ℕ) (r : Row) (start old : List (List ℕ)) → 0 < left → slice_get rows (left - 1) ≡ Some r → (is_tracked r.path ≡ true → inserted r.path start ≡ start) → old ≡ entered (row_paths (tracked_rows (drop left rows))) start → old ≡ entered (row_paths (tracked_rows (drop (left - 1) rows))) start
+passed-known rows left r start old lt at known before = by (is_tracked r.path) refl
+  where
+    by : (b : Bool) → is_tracked r.path ≡ b → old ≡ entered (row_paths (tracked_rows (drop (left - 1) rows))) start
+    by false t = passed-before rows left r start old lt at t before
+    by true t =
+        before
+        ∙ sym (entered-before-others r.path (row_paths (tracked_rows (drop left rows))) start (known t))
+        ∙ sym (row-entered r (drop left rows) start t)
+        ∙ ap (λ l. entered (row_paths (tracked_rows l)) start) (sym (rows-before rows left r lt at))
 
 -- ---- changesets
 

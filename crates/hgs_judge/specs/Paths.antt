@@ -1,5 +1,6 @@
 -- The paths of trees, in order.
-use Rattle.std.specs.Prelude.{ℕ, List, [], ◌∷◌, Option, unwrap_or, option_map}
+use Rattle.std.specs.Prelude.{◌≡◌, ℕ, true, List, [], ◌∷◌, Option, unwrap_or, option_map}
+use Rattle.hgs_bytes.specs.Bytes.{among}
 use Rattle.hgs_index.specs.Manifest.{Row}
 use Rattle.hgs_model.specs.History.{inserted}
 use Rattle.hgs_findings.specs.Sight.{row_paths, tracked_rows}
@@ -10,6 +11,10 @@ use Rattle.hgs_judge.specs.Trees.{rows_in_tree}
 abbrev pub entered : List (List ℕ) → List (List ℕ) → List (List ℕ)
 entered [] keys = keys
 entered (path ∷ paths) keys = inserted path (entered paths keys)
+
+-- each of these paths stands in such a list
+abbrev pub AreEntered : List (List ℕ) → List (List ℕ) → Type 0
+AreEntered paths keys = (path : List ℕ) → among path paths ≡ true → inserted path keys ≡ keys
 
 -- the paths of a tree that may be tracked, none where it can't be read
 abbrev pub paths_in_tree : List (Option (List Row)) → Tree → List (List ℕ)

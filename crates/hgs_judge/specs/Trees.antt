@@ -21,6 +21,10 @@ rows_in_tree trees Unknown = None
 rows_in_tree trees Empty = Some []
 rows_in_tree trees (Manifest rev) = rows_or_none (slice_get trees rev)
 
+-- the path of a row
+abbrev pub path_of : Row → List ℕ
+path_of r = r.path
+
 -- the row of a path, which only a tracked one has
 abbrev pub row_for : Bool → List ℕ → List Row → Option Row
 row_for tracked path rows = if tracked then find (λ (r : Row). same r.path path) rows else None

@@ -8,5 +8,6 @@ pub mod path;
 pub mod paths;
 pub mod reading;
 pub mod report;
+mod search;
 pub mod trees;
 pub mod words;

@@ -9,7 +9,7 @@ ghost use Rattle.hgs_index.specs.TrackedPath.{is_tracked};
 ghost use Rattle.hgs_findings.specs.OnePath.{word_of};
 ghost use Rattle.hgs_findings.specs.OnePath as findings;
 ghost use Rattle.hgs_findings.specs.Regular.{are_tracked};
-ghost use Rattle.hgs_findings.specs.Sight.{Sight, seen, seen_of, value};
+ghost use Rattle.hgs_findings.specs.Sight.{Sight, row_paths, seen, seen_of, value};
 ghost use Rattle.hgs_revlog.specs.declared.fault.RevFault.TheVariants.{Memory};
 ghost use Rattle.hgs_judge.specs.Changesets.{changeset_as};
 ghost use Rattle.hgs_judge.specs.Read.{AreRead, revisions_in};
@@ -18,6 +18,7 @@ ghost use Rattle.hgs_judge.specs.Words.{row_in, word_in, words_in};
 
 use crate::changesets::{Changeset, Tree};
 use crate::reading::Reading;
+use crate::search::place_near;
 use crate::words::{Found, Word};
 use hgs_bytes::names::Names;
 use hgs_index::texts::ManifestFault;
@@ -76,28 +77,38 @@ pub fn is_sound(tree: &Option<Manifest>) -> bool
     }
 }
 
-// What the rows have at a path.
-fn found_in_rows(rows: &Manifest, path: &[u8], tracked: bool) -> Found
-    ensures { row_in path.now result ≡ Some (row_for tracked path.now rows.now) }
+// What the rows, whose paths ascend, have at a path. It is looked for at `near` first, and where it stands is put there.
+fn found_in_rows(rows: &Manifest, path: &[u8], tracked: bool, near: &mut u32) -> Found
+    ensures { ascends (row_paths rows.now) ≡ true → row_in path.now result ≡ Some (row_for tracked path.now rows.now) }
 {
     if !tracked {
         return Found::Nothing;
     }
-    match rows.get(path) {
-        Some((node, flag)) => Found::File(node, flag),
+    match place_near(rows, path, *near) {
+        Some(at) => {
+            *near = at;
+            let row = rows.row(at);
+            Found::File(row.node, row.flag)
+        }
         None => Found::Nothing,
     }
 }
 
 // What a tree has at a path.
-fn found(trees: &[Option<Manifest>], tree: &Tree, path: &[u8], tracked: bool) -> Found
-    ensures { row_in path.now result ≡ option_map (row_for tracked path.now) (rows_in_tree trees.now tree.now) }
+fn found(
+    trees: &[Option<Manifest>],
+    tree: &Tree,
+    path: &[u8],
+    tracked: bool,
+    near: &mut u32,
+) -> Found
+    ensures { (revisions : List Revision) → trees.now ≡ map rows_read revisions → row_in path.now result ≡ option_map (row_for tracked path.now) (rows_in_tree trees.now tree.now) }
 {
     match tree {
         Tree::Unknown => Found::Unread,
         Tree::Empty => Found::Nothing,
         Tree::Manifest(rev) => match trees.get(*rev as usize) {
-            Some(Some(rows)) => found_in_rows(rows, path, tracked),
+            Some(Some(rows)) => found_in_rows(rows, path, tracked, near),
             Some(None) => Found::Unread,
             None => Found::Nothing,
         },
@@ -115,12 +126,18 @@ fn has_name(names: &Names, path: &[u8]) -> bool
 }
 
 // What a changeset says of a path.
-fn word(trees: &[Option<Manifest>], changeset: &Changeset, path: &[u8], tracked: bool) -> Word
+fn word(
+    trees: &[Option<Manifest>],
+    changeset: &Changeset,
+    path: &[u8],
+    tracked: bool,
+    near: &mut u32,
+) -> Word
     ensures { (s : Sight) (r : Revision) → trees.now ≡ map rows_read s.manifest → changeset.now ≡ changeset_as (seen_of s r) → tracked ≡ is_tracked path.now → word_in path.now result ≡ word_of path.now (seen_of s r) }
 {
     Word {
         parents: changeset.parents,
-        found: found(trees, &changeset.tree, path, tracked),
+        found: found(trees, &changeset.tree, path, tracked, near),
         listed: match &changeset.files {
             None => None,
             Some(files) => Some(has_name(files, path)),
@@ -129,6 +146,9 @@ fn word(trees: &[Option<Manifest>], changeset: &Changeset, path: &[u8], tracked:
 }
 
 /// What each changeset says of a path, in their order.
+///
+/// In each tree the path is looked for where it stood in the one before, so where trees are much alike the time is that of one
+/// comparison for each changeset.
 pub fn words(
     alloc: Global,
     trees: &[Option<Manifest>],
@@ -139,9 +159,10 @@ pub fn words(
 {
     tracked_without_fault();
     let tracked = check(path).is_ok();
+    let mut near = 0;
     let mut words = Vec::with_capacity(alloc, changesets.len())?;
     for changeset in changesets {
-        words.push(word(trees, changeset, path, tracked))?;
+        words.push(word(trees, changeset, path, tracked, &mut near))?;
     }
     Ok(words)
 }

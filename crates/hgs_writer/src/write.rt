@@ -29,6 +29,7 @@ fn carried<F: Files>(files: &mut F, planned: Planned) -> Answer
     ensures fault { result.outcome ≡ Fault → Rose (F.faults files.old) (F.faults files.new) }
     ensures unfinished { (published : Published) → result.outcome ≡ Unfinished published → Rose (F.faults files.old) (F.faults files.new) ⊎ Rose (F.denied files.old) (F.denied files.new) }
     ensures later { F.faults files.old ≤ F.faults files.new }
+    ensures denied { F.denied files.old ≤ F.denied files.new }
     ensures same_start { F.start files.new ≡ F.start files.old }
 {
     let Planned { plan, rev, node } = planned;
@@ -50,6 +51,7 @@ pub fn write<F: Files>(alloc: Global, files: &mut F, command: &Command, who: &[u
     ensures fault { result.outcome ≡ Fault → Rose (F.faults files.old) (F.faults files.new) }
     ensures unfinished { (published : Published) → result.outcome ≡ Unfinished published → Rose (F.faults files.old) (F.faults files.new) ⊎ Rose (F.denied files.old) (F.denied files.new) }
     ensures later { F.faults files.old ≤ F.faults files.new }
+    ensures denied { F.denied files.old ≤ F.denied files.new }
     ensures same_start { F.start files.new ≡ F.start files.old }
 {
     match begin(alloc, files, command, who) {

@@ -1,4 +1,4 @@
-use Rattle.std.proofs.Common.{◌≡◌, ◌≤◌, ◌<◌, drop, length}
+use Rattle.std.proofs.Common.{◌≡◌, ◌≤◌, drop, length}
 use Rattle.hgs_findings.specs.Sight.{row_paths, tracked_rows}
 use Rattle.hgs_judge.specs.Paths.{entered}
 use Rattle.hgs_judge.proofs.paths.enter_rows.Given as goal

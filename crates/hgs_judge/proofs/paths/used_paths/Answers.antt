@@ -1,4 +1,4 @@
-use Rattle.std.proofs.Common.{◌≡◌, ◌-◌, ◌+◌, ◌<◌, length, drop, get_or, sym, ◌∙◌, ap, arith}
+use Rattle.std.proofs.Common.{◌≡◌, ◌-◌, ◌+◌, ◌<◌, length, drop, get_or, ◌∙◌, ap, arith}
 use Rattle.std.specs.Prelude.{Some, slice_get, flat_map}
 use Rattle.std.proofs.lemmas.Option.{slice_get-get_or}
 use Rattle.hgs_findings.specs.Sight.{seen}
@@ -19,5 +19,6 @@ loop-left-preserved c =
     record {
       within = omega (arith, w);
       keys = λ s trees is. seen-entered s (left - 1) item c.args.trees.now c.args.changesets.now c.loop-left.paths.keys c.enter_tree.new.paths.keys trees is at
-          (c.loop-left.invariant.keys s trees is ∙ ap (λ n. in_order (flat_map paths_of_seen (drop n (seen s)))) next) c.in_ok-enter_tree.ensures;
+          (c.loop-left.invariant.keys s trees is ∙ ap (λ n. in_order (flat_map paths_of_seen (drop n (seen s)))) next) c.in_ok-last.ensures.keys;
+      last = c.in_ok-last.ensures.last;
     }

@@ -1,0 +1,78 @@
+-- The changesets of a generator, committed one after another.
+use Rattle.std.specs.Prelude.{◌≡◌, ◌<◌, ◌⊎◌, ℕ, zero, suc, List, [], ◌++◌, Option, Some, None, Result, Ok, Err, ⊤}
+use Rattle.std.specs.Option.{option_and_then}
+use Rattle.hgs_answers.specs.declared.answer.Answer.{Answer}
+use Rattle.hgs_answers.specs.declared.outcome.Outcome.{Outcome}
+use Rattle.hgs_answers.specs.declared.outcome.Outcome.TheVariants.{Done, Fault, Unfinished}
+use Rattle.hgs_answers.specs.declared.outcome.Published.{Published}
+use Rattle.hgs_files.specs.declared.op.Op.{Op}
+use Rattle.hgs_files.specs.Reads.{Rose}
+use Rattle.hgs_files.specs.Tree.{Tree, after_all}
+use Rattle.hgs_gen.specs.Generated.{generated}
+use Rattle.hgs_index.specs.declared.node.Node.{Node}
+use Rattle.hgs_model.specs.declared.command.Command.{Command}
+use Rattle.hgs_model.specs.declared.command.Command.TheVariants.{Commit}
+use Rattle.hgs_model.specs.Repo.{Repo}
+use Rattle.hgs_model.specs.Step.{Next, step}
+use Rattle.hgs_model.specs.declared.command.Refusal.{Refusal}
+use Rattle.hgs_stands.specs.Stands.{Stands}
+use Rattle.hgs_writer.specs.Alone.{HasWhatItNeeds}
+use Rattle.hgs_writer.specs.Written.{IsWritten}
+use Rattle.hgs_grown.specs.declared.commits.Stop.{Stop}
+use Rattle.hgs_grown.specs.declared.commits.Stop.TheVariants.{Memory, Answered}
+
+-- So many of the changesets are committed, each by a call that was done, and the last has this node.
+pub data AreCommitted (who : List ℕ) (seed : ℕ) (t : Tree) : ℕ → Option Node → List Op → Type 0 where
+  nothing : AreCommitted who seed t 0 None []
+  one_more : (n : ℕ) (last : Option Node) (done more : List Op) (answer : Answer) (rev : ℕ) (node : Node) → AreCommitted who seed t n last done
+      → IsWritten who (Commit (generated seed n)) (after_all done t) answer more → answer.outcome ≡ Done rev node → AreCommitted who seed t (suc n) (Some node) (done ++ more)
+
+-- another answer than that it is done
+abbrev pub IsNotDone : Outcome → Type 0
+IsNotDone outcome = (rev : ℕ) (node : Node) → outcome ≡ Done rev node → ⊥
+
+-- One of them, behind those that are committed, was answered otherwise.
+pub record StopsBehind (who : List ℕ) (seed count : ℕ) (t : Tree) (command : Command) (answer : Answer) (ops : List Op) : Type 0 where
+  pub made : ℕ
+  pub last : Option Node
+  pub done : List Op
+  pub more : List Op
+  pub fewer : made < count
+  pub committed : AreCommitted who seed t made last done
+  pub next : command ≡ Commit (generated seed made)
+  pub written : IsWritten who command (after_all done t) answer more
+  pub refused : IsNotDone answer.outcome
+  pub all : ops ≡ done ++ more
+
+-- All of them are committed; or there was no memory for the next; or that was answered otherwise.
+abbrev pub GrowsTo : List ℕ → ℕ → ℕ → Result Node Stop → Tree → List Op → Type 0
+GrowsTo who seed count (Ok node) t ops = AreCommitted who seed t count (Some node) ops
+GrowsTo who seed count (Err Memory) t ops = (made : ℕ) × (last : Option Node) × (made < count) × AreCommitted who seed t made last ops
+GrowsTo who seed count (Err (Answered command answer)) t ops = StopsBehind who seed count t command answer ops
+
+-- one more is committed, from the tree that those before left
+abbrev pub CommitsNext : {G : Type 0} → List ℕ → ℕ → ℕ → Result (G × Node) Stop → Tree → List Op → Type 0
+CommitsNext who seed made (Ok next) t ops = (answer : Answer) × (rev : ℕ) × IsWritten who (Commit (generated seed made)) t answer ops × (answer.outcome ≡ Done rev next.1)
+CommitsNext who seed made (Err Memory) t ops = ops ≡ []
+CommitsNext who seed made (Err (Answered command answer)) t ops = (command ≡ Commit (generated seed made)) × IsWritten who command t answer ops × IsNotDone answer.outcome
+
+-- a failure is answered only where a count rose
+abbrev pub StopHasCause : ℕ → ℕ → ℕ → ℕ → Stop → Type 0
+StopHasCause faults_old faults_new denied_old denied_new Memory = ⊤
+StopHasCause faults_old faults_new denied_old denied_new (Answered command answer) =
+    (answer.outcome ≡ Fault → Rose faults_old faults_new) × ((published : Published) → answer.outcome ≡ Unfinished published → Rose faults_old faults_new ⊎ Rose denied_old denied_new)
+
+-- ---- the repository
+
+abbrev pub next_repo : Result Next Refusal → Option Repo
+next_repo (Ok next) = Some next.0
+next_repo (Err e) = None
+
+-- what a repository becomes by so many of the changesets, if it takes each of them
+abbrev pub grown : ℕ → ℕ → Repo → Option Repo
+grown seed zero r = Some r
+grown seed (suc n) r = option_and_then (λ s. next_repo (step s (Commit (generated seed n)))) (grown seed n r)
+
+-- On the way each tree has what the next commit needs of it that no test tells.
+abbrev pub HasWhatAllNeed : List ℕ → ℕ → ℕ → Tree → Type 0
+HasWhatAllNeed who seed count t = (n : ℕ) (last : Option Node) (done : List Op) (r : Repo) → n < count → AreCommitted who seed t n last done → Stands (after_all done t) r → HasWhatItNeeds (after_all done t) r (Commit (generated seed n))
