@@ -13,3 +13,4 @@ pub mod AppendLemmas
 pub mod AlikeLemmas
 pub mod GrowLemmas
 pub mod PublicLemmas
+pub mod NewLemmas

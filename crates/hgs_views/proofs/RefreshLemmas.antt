@@ -1,5 +1,5 @@
 -- A refresh over an old view of the same course.
-use Rattle.std.proofs.Common.{◌≡◌, ℕ, zero, suc, ◌*◌, ◌/◌, ◌<◌, ◌≤◌, List, [], ◌∷◌, ◌++◌, length, take, drop, Bool, true, false, cond, ◌||◌, Some, None, Result, Ok, Err, refl, sym, ◌∙◌, ap, subst, arith, length-append}
+use Rattle.std.proofs.Common.{◌≡◌, ℕ, zero, suc, ◌+◌, ◌-◌, ◌*◌, ◌/◌, ◌<◌, ◌≤◌, List, [], ◌∷◌, ◌++◌, length, take, drop, Bool, true, false, cond, ◌||◌, Some, None, Result, Ok, Err, refl, sym, ◌∙◌, ap, subst, arith, append-nil, length-append}
 use Rattle.std.specs.Prelude.{◌==◌}
 use Rattle.std.proofs.lemmas.Bool.Decides.{nat_tests}
 use Rattle.std.proofs.lemmas.List.{take-append-drop, length-take-le, take-append-le, drop-append-le, length-drop}
@@ -13,18 +13,25 @@ use Rattle.hgs_revlog.specs.declared.fault.Tail.TheVariants.{Ignore}
 use Rattle.hgs_revlog.specs.Load.{after, entry_behind, load_from, loaded}
 use Rattle.hgs_revlog.specs.Log.{Log, with_entry}
 use Rattle.hgs_load.specs.declared.answer.ReadAnswer.{ReadAnswer}
-use Rattle.hgs_load.specs.Asks.{MayAnswer}
-use Rattle.hgs_load.specs.Open.{log_of, view_of}
+use Rattle.hgs_load.specs.Asks.{Asks, answer, then_asks, MayAnswer}
+use Rattle.hgs_load.specs.Given.{GoesTo}
+use Rattle.hgs_load.specs.Marks.{Nodes, Working, bookmarks_answer, dirstate_answer, roots_answer, working_answer}
+use Rattle.hgs_marks.specs.Bookmarks.{Mark}
+use Rattle.hgs_phases.specs.declared.roots.Root.{Root}
+use Rattle.hgs_load.specs.Open.{bookmarks_asks, dirstate_asks, roots_asks, log_of, view_of, view_with, most_bookmarks_text, most_dirstate, most_roots}
 use Rattle.hgs_load.specs.Refresh.{behind_asks, behind_last, first_changed, last_place, unless_changed, log_after, newer_log_asks, refresh_asks, whole_log_asks}
 use Rattle.hgs_load.specs.View.{View, pieces_from, most_pieces}
-use Rattle.hgs_load.specs.Theorems.TailLemmas.{entry-itself}
+use Rattle.hgs_load.specs.Theorems.TailLemmas.{entry-itself, tail-answers}
 use Rattle.hgs_revlog.specs.Theorems.BehindLemmas.{loaded-count}
-use Rattle.hgs_stands.specs.Places.{changelog_index, changelog_data}
+use Rattle.hgs_stands.specs.Places.{bookmarks_path, dirstate_path, roots_path, changelog_index, changelog_data}
 use Rattle.hgs_views.specs.Course.{Course, IsBetween, IsCourse, OpensAlong, tree_after}
-use Rattle.hgs_views.specs.Seen.{Numbers, NoneFell, AreReadBetween, IsLoadedBetween}
+use Rattle.hgs_views.specs.Seen.{Numbers, NoneFell, AreReadBetween, IsGivenFew, IsLoadedBetween}
 use Rattle.hgs_views.proofs.Basics.{prefix-refl, prefix-trans, may-front}
 use Rattle.hgs_views.proofs.CourseLemmas.{course-later, itself-between}
-use Rattle.hgs_views.proofs.LoadLemmas.{LoadsAt, LogStep, front-of-longer, below, pieces-step, last-step, answered, in-order, viewed}
+use Rattle.hgs_views.proofs.LoadLemmas.{LoadsAt, LogStep, front-of-longer, below, loads-as, loads-at, pieces-step, last-step, room, whole-stays, answered, in-order, viewed}
+use Rattle.hgs_views.proofs.MomentLemmas.{between-later, pieces-end}
+use Rattle.hgs_views.proofs.NewLemmas.{all_bytes, answer-is, both-asked, go-front, pieces-asked, read-again, tail-few, whole-few, whole-log-few}
+use Rattle.hgs_views.proofs.OnlyLemmas.{later-end}
 use Rattle.hgs_views.proofs.Below.{LoadLaws}
 
 -- ---- the old entries in front
@@ -184,3 +191,109 @@ module _ (x : Course) (first last : List Op) (is : IsCourse x first last) where
       let fell = none-fell ended from v r.v loaded_old.reads then on order.first_marked order.first_worked order.first_read order.read_rooted in
       let seen = viewed law x from last later opens from r.v r.marks r.nodes r.log r.roots r.has order in
       (r.v, seen.0, r.answer_is ∙ seen.3, record { is_view = seen.1; reads = r.has.reads; order = order }, fell)
+
+  -- ---- how many bytes it is given
+
+  module _ (law : LoadLaws) (ended from : List Op) (v : Numbers) (old : View) (loaded_old : IsLoadedBetween x first ended v old) (then : IsPrefixOf ended from) (on : IsPrefixOf from last) (opens : OpensAlong x from last) where
+    abbrev log_old : Log
+    log_old = old.changelog
+
+    abbrev from_at : IsBetween first last from
+    from_at = record { begins = began-by ended from v loaded_old.reads then; ends = on }
+
+    abbrev later_on : IsCourse x from last
+    later_on = course-later x first from last from_at is
+
+    -- the tail that was read begins with the last of the old entries
+    tail-stands : log_old.inline ≡ false → 0 < length log_old.entries → (now mid : List Op) (tail : List ℕ) → IsPrefixOf from now → IsPrefixOf mid last
+        → MayAnswer x.start now (pieces_from changelog_index (last_place log_old.entries) most_pieces [] all_bytes) mid (Ok tail) → (found : Log) × (behind_asks log_old (behind_last log_old.entries tail) ≡ answer (Ok found))
+    tail-stands separate some now mid tail begun ends m =
+        let place = last_place log_old.entries in
+        let q = pieces_from changelog_index place most_pieces [] all_bytes in
+        let late = later-end x.start q now mid last (Ok tail) ends m in
+        let at : IsBetween from last now = record { begins = begun; ends = may-front q x.start now last (Ok tail) late } in
+        let front = old-front law ended from v old loaded_old then on in
+        let stays = whole-stays law x from last later_on in
+        let kept = stays from now front.0 (length log_old.entries - 1) (itself-between from last on) at front.1 front.2 in
+        let asked = read-again x.start now last q (Ok tail) late in
+        let a = pieces-end x.start changelog_index from last (Ok tail) all_bytes all_bytes stays (room law x from last later_on opens) front.0 (length log_old.entries - 1) front.1 (λ bytes. place + length bytes) (λ b. ap (λ n. n + length b) (sym front.1))
+        most_pieces 0 [] now at refl refl (subst (λ l. IsPrefixOf l (bytes_at (tree_after x now) changelog_index)) (sym (append-nil front.0)) kept) asked in
+        let here = between-later from last now a.0 at a.1 in
+        let found = loads-at law x from last later_on opens a.0 here in
+        let whole : loaded Ignore (front.0 ++ a.2) ≡ Ok found.0 = ap (loaded Ignore) (sym a.3) ∙ loads-as law x from last later_on a.0 here ∙ found.1.loads in
+        (found.0, ap (λ t. behind_asks log_old (behind_last log_old.entries t)) (same tail a.2 a.4.1) ∙ tail-answers front.0 a.2 log_old found.0 separate some front.1 whole (begins-at law ended from v old loaded_old then on a.0 found.0 here found.1))
+      where
+        same : (s t : List ℕ) → (let r : Result (List ℕ) ReadAnswer = Ok s in r) ≡ Ok t → s ≡ t
+        same s t e = cc
+
+    newer-few : (k l : List Op) (n : ℕ) (log : Log) → IsPrefixOf from k → IsPrefixOf l last → GoesTo x.start (Some k) (newer_log_asks log_old) n (Some l) (answer (Ok log)) → n ≤ 64 * (length log.entries - length log_old.entries + 2)
+    newer-few k l n log begun ends h = by (log_old.inline || length log_old.entries == 0) refl h
+      where
+        separate : log_old.inline ≡ false
+        separate = (loaded-count (bytes_at (x.store v.read) changelog_index) log_old loaded_old.is_view.loads).2
+
+        no_entries : (a : Bool) (n : ℕ) → a ≡ false → (a || n == 0) ≡ true → n ≡ 0
+        no_entries true n s h = cc
+        no_entries false n s h = grind (arith, nat_tests, h)
+
+        some_entries : (a : Bool) (n : ℕ) → (a || n == 0) ≡ false → 0 < n
+        some_entries true n h = cc
+        some_entries false n h = grind (arith, nat_tests, h)
+
+        few : (n own rest tail most : ℕ) → n ≡ own + rest → rest ≡ 0 → tail ≡ 0 + own → tail ≤ most → n ≤ most
+        few n own rest tail most e z s f = omega (arith, e, z, s, f)
+
+        by : (b : Bool) → (log_old.inline || length log_old.entries == 0) ≡ b
+            → GoesTo x.start (Some k) (cond b (whole_log_asks log_old.entries) (pieces_from changelog_index (last_place log_old.entries) most_pieces [] (λ tail. behind_asks log_old (behind_last log_old.entries tail)))) n (Some l) (answer (Ok log))
+            → n ≤ 64 * (length log.entries - length log_old.entries + 2)
+        by true e m = whole-log-few x.start k l log_old.entries n log (no_entries log_old.inline (length log_old.entries) separate e) m
+        by false e m =
+            let p = pieces-asked x.start k l changelog_index (λ bytes. last_place log_old.entries + length bytes) most_pieces [] (λ tail. behind_asks log_old (behind_last log_old.entries tail)) n log m in
+            let s = tail-stands separate (some_entries log_old.inline (length log_old.entries) e) k p.log p.all begun (prefix-trans p.log l last (go-front x.start p.log l (behind_asks log_old (behind_last log_old.entries p.all)) (answer (Ok log)) p.rest p.goes_on) ends) p.may in
+            let m1 = subst (λ q. GoesTo x.start (Some p.log) q p.rest (Some l) (answer (Ok log))) s.1 p.goes_on in
+            few n p.own p.rest (length p.all) (64 * (length log.entries - length log_old.entries + 2)) p.sum m1.1 p.size (tail-few log_old log p.all (s.1 ∙ sym m1.2))
+
+    pub given-along : (view : View) (n : ℕ) → GoesTo x.start (Some from) (refresh_asks old) n (Some last) (answer (Ok view)) → IsGivenFew x from last old view n
+    given-along view n h =
+        let newer = newer_log_asks log_old in
+        let behind_log = λ (marks : List Mark) (nodes : Nodes) (log : Log). then_asks roots_asks (λ roots. answer (view_of marks nodes log roots)) in
+        let behind_nodes = λ (marks : List Mark) (nodes : Nodes). then_asks newer (behind_log marks nodes) in
+        let a = both-asked x.start from last bookmarks_asks (λ marks. then_asks dirstate_asks (behind_nodes marks)) n view h in
+        let b = both-asked x.start a.log last dirstate_asks (behind_nodes a.value) a.second view a.to_second in
+        let c = both-asked x.start b.log last newer (behind_log a.value b.value) b.second view b.to_second in
+        let d = both-asked x.start c.log last roots_asks (λ roots. answer (view_of a.value b.value c.value roots)) c.second view c.to_second in
+        let marks = whole-few x.start from a.log bookmarks_path most_bookmarks_text bookmarks_answer a.first (Ok a.value) a.to_first in
+        let nodes = whole-few x.start a.log b.log dirstate_path most_dirstate dirstate_answer b.first (Ok b.value) b.to_first in
+        let roots = whole-few x.start c.log d.log roots_path most_roots roots_answer d.first (Ok d.value) d.to_first in
+        let to_d = go-front x.start d.log last (answer (view_of a.value b.value c.value d.value)) (answer (Ok view)) d.second d.to_second in
+        let to_c = prefix-trans c.log roots.0 last roots.1 (prefix-trans roots.0 d.log last roots.2 to_d) in
+        let to_b = go-front x.start b.log c.log newer (answer (Ok c.value)) c.first c.to_first in
+        let begun = prefix-trans from a.log b.log (prefix-trans from marks.0 a.log marks.1 marks.2) (prefix-trans a.log nodes.0 b.log nodes.1 nodes.2) in
+        let its = its-log a.value c.value d.value (working_answer c.value.entries b.value) view (sym (view-is (view_of a.value b.value c.value d.value) d.to_second.2)) in
+        let few = subst (λ (l : Log). c.first ≤ 64 * (length l.entries - length log_old.entries + 2)) its (newer-few b.log c.log c.first c.value begun to_c c.to_first) in
+        record {
+          bookmarks = marks.0;
+          dirstate = nodes.0;
+          roots = roots.0;
+          from_first = marks.1;
+          then_dirstate = prefix-trans marks.0 a.log nodes.0 marks.2 nodes.1;
+          then_roots = prefix-trans nodes.0 b.log roots.0 nodes.2 (prefix-trans b.log c.log roots.0 to_b roots.1);
+          to_last = prefix-trans roots.0 d.log last roots.2 to_d;
+          few = sums a.sum b.sum c.sum d.sum d.to_second.1 marks.3 nodes.3 few roots.3;
+        }
+      where
+        no_ok : (y : View) (e : ReadAnswer) → (let a : Result View ReadAnswer = Err e in a) ≡ Ok y → ⊥
+        no_ok y e h = cc
+
+        view-is : (r : Result View ReadAnswer) → (let q : Asks (Result View ReadAnswer) = answer (Ok view) in q) ≡ answer r → (let s : Result View ReadAnswer = Ok view in s) ≡ r
+        view-is r h = answer-is (Ok view) r h
+
+        changelog-is : (a b : View) → (let s : Result View ReadAnswer = Ok a in s) ≡ Ok b → a.changelog ≡ b.changelog
+        changelog-is a b e = cc
+
+        its-log : (marks : List Mark) (log : Log) (roots : List Root) (working : Result Working ReadAnswer) (y : View) → view_with marks log roots working ≡ Ok y → log ≡ y.changelog
+        its-log marks log roots (Err e) y h = absurd (no_ok y e h)
+        its-log marks log roots (Ok w) y h = changelog-is _ y h
+
+        sums : {n a b c d m1 m2 m3 m4 A B C D : ℕ} → n ≡ a + m1 → m1 ≡ b + m2 → m2 ≡ c + m3 → m3 ≡ d + m4 → m4 ≡ 0 → a ≤ A → b ≤ B → c ≤ C → d ≤ D → n ≤ A + B + D + C
+        sums e f g h z i j k l = omega (arith, e, f, g, h, z, i, j, k, l)

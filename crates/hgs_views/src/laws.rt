@@ -10,7 +10,8 @@ ghost use Rattle.hgs_reader.specs.Heads.{heads_text};
 ghost use Rattle.hgs_reader.specs.Shown.{marks_text, parents_text};
 ghost use Rattle.hgs_shown.specs.Shown.{IsViewOf};
 ghost use Rattle.hgs_load.specs.declared.answer.ReadAnswer.{ReadAnswer};
-ghost use Rattle.hgs_load.specs.Asks.{Asks, then_asks, MayAnswer, Answers, AddsAnswer, AddsGiven};
+ghost use Rattle.hgs_load.specs.Asks.{Asks, answer, then_asks, MayAnswer, Answers, AddsAnswer, AddsGiven};
+ghost use Rattle.hgs_load.specs.Given.{GoesTo};
 ghost use Rattle.hgs_load.specs.Load.{Refreshes};
 ghost use Rattle.hgs_load.specs.Open.{open_asks};
 ghost use Rattle.hgs_revlog.specs.Log.{Log, nodes_of};
@@ -23,7 +24,7 @@ ghost use Rattle.hgs_views.specs.Samples.{committing, publishing};
 ghost use Rattle.hgs_reader.specs.Find.{text_asks};
 ghost use Rattle.hgs_index.specs.Revision.{Revision};
 ghost use Rattle.hgs_views.specs.Moments.{WholeStays, StaysAt};
-ghost use Rattle.hgs_views.specs.Seen.{Numbers, NoneFell, IsLoadedBetween, Given, Refreshed, seen};
+ghost use Rattle.hgs_views.specs.Seen.{Numbers, NoneFell, IsGivenFew, IsLoadedBetween, Given, Refreshed, seen};
 ghost use Rattle.hgs_bytes.specs.Bytes.{IsPrefixOf, same, among};
 ghost use Rattle.hgs_model.specs.IsRepo.{IsRepo};
 ghost use Rattle.hgs_model.specs.Phase.{phase_number};
@@ -104,6 +105,24 @@ pub fn loads_answer_views()
 pub fn refreshes_answer_views()
     ensures { (x : Course) (began ended first last : List Op) (v : Numbers) (old : View) (y : Result View ReadAnswer) → IsCourse x began last → OpensAlong x first last → IsLoadedBetween x began ended v old → IsPrefixOf ended first → MayAnswer x.start first (refresh_asks old) last y →
         (w : Numbers) × (view : View) × (y ≡ Ok view) × IsLoadedBetween x first last w view × NoneFell v w }
+{
+    whole_files_are_read();
+    older_parts_stay();
+    parents_of_entries();
+    held_index_length();
+    changelog_is_whole();
+    entries_of_revisions();
+    ignored_rest();
+    entries_of_changesets();
+    roots_of_later_repository();
+    histories_go_on();
+}
+
+/// Such a refresh over what was opened is given the small files, each as it was at a moment, and of the changelog's index an
+/// entry for each new one and two more at most, however long the history is.
+pub fn refreshes_read_what_is_new_beside_writers()
+    ensures { (x : Course) (began ended first last : List Op) (v : Numbers) (old view : View) (bytes : ℕ) → IsCourse x began last → OpensAlong x first last → IsLoadedBetween x began ended v old → IsPrefixOf ended first → GoesTo x.start (Some first) (refresh_asks old) bytes (Some last) (answer (Ok view)) →
+        IsGivenFew x first last old view bytes }
 {
     whole_files_are_read();
     older_parts_stay();
