@@ -16,7 +16,7 @@ use Rattle.hgs_machine.proofs.Replied.{none-at-hand}
 use Rattle.hgs_machine.proofs.Stages.{carried-out, commit-within, none-there}
 
 -- an operation of the plan is at hand up to the journal's removal
-past : {A : Type 0} (t : Tree) (p : Plan) (done : ℕ) → IsPlanned t p → done ≤ p.commit → slice_get p.ops.items done ≡ None → A
+pub past : {A : Type 0} (t : Tree) (p : Plan) (done : ℕ) → IsPlanned t p → done ≤ p.commit → slice_get p.ops.items done ≡ None → A
 past t p done h within none =
     let many = commit-within t p h in
     let all = none-there p.ops.items done none in

@@ -191,7 +191,7 @@ undoes-on t m new log more e on last h hand =
 removed-whole : (op : Op) (path : List ℕ) (more : List Op) → op ≡ Remove path → Leaves op Done more → more ≡ op ∷ []
 removed-whole op path more e h = subst (λ (o : Op). more ≡ o ∷ []) (sym e) (subst (λ (o : Op). Leaves o Done more) e h)
 
-removed-none : (op : Op) (path : List ℕ) (more : List Op) → op ≡ Remove path → Leaves op Failed more → more ≡ []
+pub removed-none : (op : Op) (path : List ℕ) (more : List Op) → op ≡ Remove path → Leaves op Failed more → more ≡ []
 removed-none op path more e h = let k : Leaves (Remove path) Failed more = subst (λ (o : Op). Leaves o Failed more) e h in k
 
 pub drops : (t : Tree) (m new : Machine) (log more : List Op) → m.stage ≡ Dropping → new ≡ record m { stage = Sweeping; place = sweep_from m.plan m.outcome } → SoFar t m log → AtHand m Dropping Done more → SoFar t new (log ++ more)

@@ -10,3 +10,4 @@ pub mod Ending
 pub mod Carrying
 pub mod Locking
 pub mod Plans
+pub mod Stopping

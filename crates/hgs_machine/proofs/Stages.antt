@@ -168,7 +168,7 @@ undoes-more p place op log more at h one = record {
   whole = ap (λ (l : List Op). l ++ more) h.whole ∙ append_assoc h.working h.undoing more;
 }
 
-take-all : (xs : List Op) (n : ℕ) → length xs ≤ n → take n xs ≡ xs
+pub take-all : (xs : List Op) (n : ℕ) → length xs ≤ n → take n xs ≡ xs
 take-all xs n h = sym (append-nil (take n xs)) ∙ ap (λ (l : List Op). take n xs ++ l) (sym (drop_all n xs h)) ∙ take-append-drop n xs
 
 pub is-undone : (p : Plan) (place : ℕ) (log : List Op) → length p.undo.items ≤ place → UndoesTo p place log → IsTakenBack p log
@@ -249,7 +249,7 @@ sweeps-past p place outcome op log more at h e =
       whole = ap (λ (l : List Op). log ++ l) e ∙ append-nil log ∙ h.whole;
     }
 
-removals-left : (t : Tree) (p : Plan) (outcome : Short) → IsPlanned t p → drop (sweep_from p outcome) p.ops.items ≡ removals_after outcome
+pub removals-left : (t : Tree) (p : Plan) (outcome : Short) → IsPlanned t p → drop (sweep_from p outcome) p.ops.items ≡ removals_after outcome
 removals-left t p AllDone h = removals-behind t p h
 removals-left t p Fault h = removals-behind t p h
 removals-left t p OutOfMemory h = removals-behind t p h

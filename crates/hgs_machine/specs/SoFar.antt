@@ -1,5 +1,6 @@
 -- What has been done when a machine has come to a stage.
-use Rattle.std.specs.Prelude.{◌≡◌, ◌⊎◌, ℕ, ◌+◌, ◌-◌, ◌*◌, ◌<◌, ◌≤◌, List, [], ◌∷◌, ◌++◌, Bool, true, Some, length, take, slice_get, Ok, Err}
+use Rattle.std.specs.Prelude.{◌≡◌, ◌⊎◌, ℕ, ◌+◌, ◌-◌, ◌*◌, ◌<◌, ◌≤◌, List, [], ◌∷◌, ◌++◌, Bool, true, Some, length, take, slice_get, Ok, Err, if◌then◌else◌, nat_lt}
+use Rattle.hgs_machine.specs.declared.ended.Published.TheVariants.{No, Yes, Unknown}
 use Rattle.hgs_files.specs.declared.files.FileFault.TheVariants.{Failed as CallFailed}
 use Rattle.hgs_files.specs.declared.op.Op.{Op}
 use Rattle.hgs_files.specs.declared.op.Op.TheVariants.{Append, Create}
@@ -15,7 +16,7 @@ use Rattle.hgs_machine.specs.declared.machine.Reply.{Reply}
 use Rattle.hgs_machine.specs.declared.machine.Reply.TheVariants.{Done, Failed, Memory, Size, SizeFailed, SizeMemory}
 use Rattle.hgs_machine.specs.declared.machine.Stage.{Stage}
 use Rattle.hgs_machine.specs.declared.machine.Stage.TheVariants.{Preparing, Beginning, Working, Publishing, Asking, Finishing, Undoing, Dropping, Sweeping, Removing}
-use Rattle.hgs_machine.specs.Asked.{Question, Doing, Sizing, Ending, asked, stray_end}
+use Rattle.hgs_machine.specs.Asked.{Question, Doing, Sizing, Ending, asked, bytes_in, stray_end}
 use Rattle.hgs_machine.specs.Course.{AreGone, AreSome, CarriedOut, Ends, HasBegun, before_journal, between, through_publishing, to_publishing}
 use Rattle.hgs_machine.specs.Planned.{IsPlanned}
 
@@ -191,3 +192,25 @@ left_at p _ done place = 2 * (length p.ops.items - done) + length p.undo.items +
 
 abbrev pub questions_left : Machine → ℕ
 questions_left m = left_at m.plan m.stage m.done m.place
+
+-- ---- where it stands
+
+-- of an operation that is asked for a front may be done, or nothing of it
+abbrev pub IsInPart : Question → List Op → Type 0
+IsInPart (Doing op) more = Leaves op Failed more
+IsInPart _ more = more ≡ []
+
+-- How a machine ends that does nothing more from where it stands, by its stage, the bytes of its operation and the end that it
+-- was coming to: it is given up, or broke off before it was published, or behind that, or has ended; where its publishing
+-- append stands in part that is not known.
+abbrev pub stops_as : Stage → ℕ → Short → Short
+stops_as Preparing bytes outcome = Fault
+stops_as Publishing bytes outcome = if nat_lt 0 bytes then Unfinished Unknown else Unfinished No
+stops_as Asking bytes outcome = Unfinished Unknown
+stops_as Finishing bytes outcome = Unfinished Yes
+stops_as Sweeping bytes outcome = outcome
+stops_as Removing bytes outcome = outcome
+stops_as _ bytes outcome = Unfinished No
+
+abbrev pub stopped_as : Machine → Short
+stopped_as m = stops_as m.stage (bytes_in (slice_get m.plan.ops.items m.done)) m.outcome

@@ -1,10 +1,11 @@
 //! Which plans can be carried out. Each function is one law; none does anything.
-ghost use Rattle.std.specs.Prelude.{◌≡◌, List};
+ghost use Rattle.std.specs.Prelude.{◌≡◌, ◌++◌, List, false};
+ghost use Rattle.hgs_machine.specs.Course.{CarriedOut};
 ghost use Rattle.hgs_files.specs.Tree.{Tree, after_all};
 ghost use Rattle.hgs_files.specs.declared.op.Op.{Op};
 ghost use Rattle.hgs_machine.specs.Asked.{Doing, asked};
 ghost use Rattle.hgs_machine.specs.Planned.{HasSource, IsPlanned};
-ghost use Rattle.hgs_machine.specs.SoFar.{SoFar};
+ghost use Rattle.hgs_machine.specs.SoFar.{IsInPart, SoFar, stopped_as};
 ghost use Rattle.hgs_machine.specs.declared.machine.Machine.{Machine};
 ghost use Rattle.hgs_machine.specs.Sound.{AreSound};
 ghost use Rattle.hgs_transaction.specs.Assembled.{IsPlanOf};
@@ -20,4 +21,10 @@ pub fn plans_can_be_carried_out()
 /// The file that is renamed stands when a machine asks for that.
 pub fn sources_stand()
     ensures { (t : Tree) (m : Machine) (log : List Op) (op : Op) → SoFar t m log → asked m ≡ Doing op → HasSource op (after_all log t) }
+{}
+
+/// Wherever a machine stands, also with a front of its operation done, what was done so far is the log of a plan that was
+/// carried out, was given up or broke off there.
+pub fn machines_may_stop_anywhere()
+    ensures { (t : Tree) (m : Machine) (log more : List Op) → SoFar t m log → IsInPart (asked m) more → CarriedOut t m.plan (stopped_as m) false (log ++ more) }
 {}

@@ -1,4 +1,6 @@
 pub mod PartLemmas
 pub mod WorkLemmas
 pub mod ReaderLemmas
+pub mod QuestionLemmas
 pub mod WorldLemmas
+pub mod SceneLemmas

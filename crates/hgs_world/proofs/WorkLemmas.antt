@@ -1,5 +1,5 @@
 -- A writer at work, from one event to the next.
-use Rattle.std.proofs.Common.{◌≡◌, ℕ, suc, zero, ◌+◌, ◌-◌, ◌<◌, ◌≤◌, List, [], ◌∷◌, ◌++◌, refl, sym, ◌∙◌, ap, subst, arith, append-nil, append_assoc, inr, Bor}
+use Rattle.std.proofs.Common.{◌≡◌, ℕ, suc, zero, ◌-◌, ◌<◌, List, [], ◌∷◌, ◌++◌, refl, sym, ◌∙◌, ap, subst, arith, append-nil, append_assoc, inr, Bor}
 use Rattle.std.specs.Prelude.{Option, Some, None, IsSome, Result, Ok, Err, OnOk, Bool, true, false}
 use Rattle.hgs_files.specs.Files.{GoesOn}
 use Rattle.hgs_files.specs.Reads.{IsSizeOf}
@@ -17,11 +17,11 @@ use Rattle.hgs_machine.specs.declared.ended.Ended.{Ended}
 use Rattle.hgs_machine.specs.declared.machine.Machine.{Machine}
 use Rattle.hgs_machine.specs.declared.machine.Next.TheVariants.{Do, Size as SizeNext, End}
 use Rattle.hgs_machine.specs.declared.machine.Reply.{Reply}
-use Rattle.hgs_machine.specs.declared.machine.Reply.TheVariants.{Done, Failed, Size}
+use Rattle.hgs_machine.specs.declared.machine.Reply.TheVariants.{Done, Size}
 use Rattle.hgs_world.specs.Parts.{DoesPart, DoesRest, HasDone, op_length}
 use Rattle.std.specs.Prelude.{nat_lt}
 use Rattle.std.proofs.lemmas.Bool.Decides.{nat_tests}
-use Rattle.hgs_world.specs.Working.{Acts, AnswersSize, CanGoOn, Does, OfOperation, Runs, RunsTo, Stops, StopsWithin, asks_part, is_at, is_ending, is_part, not_yet, once_more, wholly, IsAtNext, IsAtWork, IsBegun, IsSizing, KeepsSoFar, Sizes, no_more, one_more, at_machine}
+use Rattle.hgs_world.specs.Working.{Acts, AnswersSize, CanGoOn, Does, OfOperation, Runs, RunsTo, Stops, StopsWithin, asks_part, is_at, is_ending, once_more, IsAtNext, IsAtWork, IsBegun, IsSizing, KeepsSoFar, Sizes, no_more, one_more, at_machine}
 use Rattle.hgs_world.specs.declared.working.Working.{Working}
 
 pub after_append : (a b : List Op) (t : Tree) → after_all (a ++ b) t ≡ after_all b (after_all a t)

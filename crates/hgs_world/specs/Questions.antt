@@ -1,5 +1,5 @@
 -- Readers: what they have loaded, and what is written of that.
-use Rattle.std.specs.Prelude.{◌≡◌, ℕ, zero, suc, List, [], ◌∷◌, ◌++◌, length, Option, Some, None, Result, Ok, Err, codes, slice_get}
+use Rattle.std.specs.Prelude.{◌≡◌, ℕ, zero, suc, List, [], ◌++◌, length, Option, Some, None, Result, Ok, Err, codes, slice_get}
 use Rattle.std.specs.Option.{option_map}
 use Rattle.std.specs.Bool.{MatchBool}
 use Rattle.std.specs.Prelude.{⊤}
@@ -102,6 +102,24 @@ line_of (answer (Err e)) = refusal_line e
 abbrev pub IsLoaded : Result View ReadAnswer → Sight → Sight → Result Unit ReadAnswer → Type 0
 IsLoaded given old new (Ok x) = (view : View) × (given ≡ Ok view) × (new ≡ record { last = Some view; load = None })
 IsLoaded given old new (Err e) = (new ≡ old) × MatchBool (is_of_outside e) ⊤ (given ≡ Err e)
+
+-- the answer of a load whose reads are all made of one tree
+abbrev pub load_answer : Tree → Option View → Result View ReadAnswer
+load_answer t last = at_rest t (load_asks last)
+
+-- a reader that has made all reads of a load at once, and the line of that
+abbrev pub loaded_by : Tree → Sight → Sight
+loaded_by t s = sight_at s.last (answer (load_answer t s.last))
+
+abbrev pub load_line : Tree → Sight → List ℕ
+load_line t s = line_of (answer (load_answer t s.last))
+
+-- a reader that begins a load
+abbrev pub opened : Sight → Sight
+opened s = record s { load = Some (load_asks s.last) }
+
+abbrev pub loading_line : List ℕ
+loading_line = word_line (codes "loading")
 
 abbrev pub unloaded_line : List ℕ
 unloaded_line = word_line (codes "unloaded")

@@ -1,8 +1,5 @@
 -- A repository with one writer and some readers, and what each event does to it and writes.
-use Rattle.std.specs.Prelude.{◌≡◌, ◌⊎◌, ℕ, List, [], ◌∷◌, ◌++◌, Bool, true, false, Option, Some, None, codes, map, length, replicate}
-use Rattle.hgs_answers.specs.declared.answer.Answer.{Answer}
-use Rattle.hgs_answers.specs.declared.outcome.Outcome.{Outcome}
-use Rattle.hgs_answers.specs.declared.outcome.Outcome.TheVariants as outcomes
+use Rattle.std.specs.Prelude.{◌≡◌, ℕ, List, [], ◌++◌, Bool, true, false, Option, Some, None, codes, map, length, replicate, slice_get, slice_set}
 use Rattle.hgs_files.specs.declared.op.Op.{Op}
 use Rattle.hgs_files.specs.Tree.{Tree, after_all}
 use Rattle.hgs_machine.specs.Asked.{asked}
@@ -19,7 +16,9 @@ use Rattle.hgs_writer.specs.Begun.{Begins}
 use Rattle.hgs_writer.specs.declared.begin.Begun.{Begun}
 use Rattle.hgs_writer.specs.declared.begin.Begun.TheVariants.{Ready, Refused}
 use Rattle.hgs_writer.specs.declared.plan.Planned.{Planned}
-use Rattle.hgs_world.specs.Questions.{Sight, no_sight, sight_of}
+use Rattle.hgs_load.specs.View.{View}
+use Rattle.hgs_reader.specs.Shown.{marks_text}
+use Rattle.hgs_world.specs.Questions.{Sight, body_text, load_line, loaded_by, loading_line, log_text, no_sight, of_last, opened, phase_text, read_by, read_line, sight_of}
 use Rattle.hgs_world.specs.Texts.{begun_line, recovered_line, word_line}
 use Rattle.hgs_world.specs.Working.{Acts, RunsTo, StopsWithin, line_at, writer_left}
 use Rattle.hgs_world.specs.declared.seen.Seen.{Seen}
@@ -119,9 +118,18 @@ RecoversIn old new text =
 
 -- ---- events of readers
 
--- the files and the writer are as before
-abbrev pub KeepsWriter : Scene → Scene → Type 0
-KeepsWriter old new = new ≡ record old { readers = new.readers }
+-- the reader with this number is there, and this holds of it
+abbrev pub OfReader : List Sight → ℕ → (Sight → Type 0) → Type 0
+OfReader readers number Holds = (s : Sight) × (slice_get readers number ≡ Some s) × Holds s
+
+-- One reader becomes this, and this is written. The files, the writer and the other readers are as before.
+abbrev pub Sees : ℕ → (Sight → Sight) → (Sight → List ℕ) → Scene → Scene → List ℕ → Type 0
+Sees number becomes writes old new text =
+    OfReader old.readers number (λ s. (new ≡ record old { readers = slice_set old.readers number (becomes s) }) × (text ≡ writes s))
+
+-- This is written of what one reader has loaded last; where it has loaded nothing, that is said. All is as before.
+abbrev pub Answers : ℕ → (View → List ℕ) → Scene → Scene → List ℕ → Type 0
+Answers number writes old new text = OfReader old.readers number (λ s. (new ≡ old) × (text ≡ of_last s.last writes))
 
 -- ---- what an event does, and what it writes
 
@@ -135,13 +143,13 @@ Happens UntilClean old new text = RunsIn goals.Cleaning (codes "at clean") old n
 Happens Finish old new text = RunsIn goals.End [] old new text
 Happens (Stop count) old new text = StopsIn count old new text
 Happens Recover old new text = RecoversIn old new text
-Happens (Open reader) old new text = KeepsWriter old new
-Happens (Read reader) old new text = KeepsWriter old new
-Happens (Load reader) old new text = KeepsWriter old new
-Happens (Log reader) old new text = KeepsWriter old new
-Happens (Cat reader rev path) old new text = KeepsWriter old new
-Happens (Phase reader rev) old new text = KeepsWriter old new
-Happens (Bookmarks reader) old new text = KeepsWriter old new
+Happens (Open reader) old new text = Sees reader opened (λ s. loading_line) old new text
+Happens (Read reader) old new text = Sees reader (λ s. read_by (tree_of old) s s.load) (λ s. read_line (tree_of old) s.load) old new text
+Happens (Load reader) old new text = Sees reader (loaded_by (tree_of old)) (load_line (tree_of old)) old new text
+Happens (Log reader) old new text = Answers reader (log_text (tree_of old)) old new text
+Happens (Cat reader rev path) old new text = Answers reader (λ view. body_text (tree_of old) view rev path) old new text
+Happens (Phase reader rev) old new text = Answers reader (λ view. phase_text view rev) old new text
+Happens (Bookmarks reader) old new text = Answers reader marks_text old new text
 
 -- An event happened, unless there was no memory; then, and ever after, nothing happens any more.
 abbrev pub IsSeen : Event → Scene → Scene → Seen → Type 0

@@ -3,7 +3,7 @@ ghost use Rattle.std.specs.Prelude.{◌≡◌, ◌++◌, ◌<◌, IfOk, OnOk, fa
 ghost use Rattle.hgs_mem.specs.Steady.{steady_log, steady_start, steady_tree};
 ghost use Rattle.hgs_load.specs.Answer.{is_of_outside, refusal_line};
 ghost use Rattle.hgs_reader.specs.Shown.{marks_text};
-ghost use Rattle.hgs_world.specs.Questions.{phase_text};
+ghost use Rattle.hgs_world.specs.Questions.{body_text, log_text, phase_text};
 
 use crate::seen::NoMemory;
 use crate::texts::word_line;
@@ -42,6 +42,7 @@ pub fn log_text(
     files: &mut SteadyFiles,
     session: &mut Session,
 ) -> Result<Vec<u8>, NoMemory>
+    ensures text { IfOk result (λ text. text.items ≡ log_text (steady_tree files.old) session.old) }
     ensures kept { session.new ≡ session.old }
     ensures log { steady_log files.new ≡ steady_log files.old }
     ensures same_start { steady_start files.new ≡ steady_start files.old }
@@ -66,6 +67,7 @@ pub fn body_text(
     name: &[u8],
     path: &[u8],
 ) -> Result<Vec<u8>, NoMemory>
+    ensures text { IfOk result (λ text. text.items ≡ body_text (steady_tree files.old) session.old name.now path.now) }
     ensures kept { session.new ≡ session.old }
     ensures log { steady_log files.new ≡ steady_log files.old }
     ensures same_start { steady_start files.new ≡ steady_start files.old }

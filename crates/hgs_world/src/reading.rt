@@ -4,7 +4,7 @@ ghost use Rattle.std.specs.Option.{option_map};
 ghost use Rattle.hgs_mem.specs.Steady.{steady_log, steady_start, steady_tree};
 ghost use Rattle.hgs_load.specs.Load.{asks_of};
 ghost use Rattle.hgs_world.specs.Texts.{loaded_line};
-ghost use Rattle.hgs_world.specs.Questions.{IsRead, line_of, load_asks, no_sight, read_by, read_line, sight_at, sight_of};
+ghost use Rattle.hgs_world.specs.Questions.{IsLoaded, IsRead, line_of, load_answer, load_asks, load_line, loaded_by, no_sight, opened, read_by, read_line, sight_at, sight_of};
 
 use crate::questions::refusal_line;
 use crate::seen::NoMemory;
@@ -85,7 +85,7 @@ impl Reading {
 
     /// Begins to load, or to load again what may have changed.
     pub fn open(&mut self, alloc: Global) -> Result<(), NoMemory>
-        ensures { OnOk result (sight_of self.new ≡ record (sight_of self.old) { load = Some (load_asks (sight_of self.old).last) }) }
+        ensures { OnOk result (sight_of self.new ≡ opened (sight_of self.old)) }
     {
         let load = new_load(alloc, &self.session)?;
         self.load = Some(load);
@@ -131,6 +131,7 @@ impl Reading {
     // Loads all, or again what may have changed.
     fn load_all(&mut self, alloc: Global, files: &mut SteadyFiles) -> Result<(), ReadAnswer>
         requires { self.old.load ≡ None }
+        ensures loaded { IsLoaded (load_answer (steady_tree files.old) (sight_of self.old).last) (sight_of self.old) (sight_of self.new) result }
         ensures log { steady_log files.new ≡ steady_log files.old }
         ensures same_start { steady_start files.new ≡ steady_start files.old }
     {
@@ -148,6 +149,8 @@ impl Reading {
 
     /// Begins to load, and makes all reads.
     pub fn load(&mut self, alloc: Global, files: &mut SteadyFiles) -> Result<Vec<u8>, NoMemory>
+        ensures sight { OnOk result (sight_of self.new ≡ loaded_by (steady_tree files.old) (sight_of self.old)) }
+        ensures line { IfOk result (λ line. line.items ≡ load_line (steady_tree files.old) (sight_of self.old)) }
         ensures log { steady_log files.new ≡ steady_log files.old }
         ensures same_start { steady_start files.new ≡ steady_start files.old }
     {

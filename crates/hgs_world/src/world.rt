@@ -5,12 +5,13 @@ ghost use Rattle.hgs_machine.specs.Asked.{asked};
 ghost use Rattle.hgs_machine.specs.Planned.{IsPlanned};
 ghost use Rattle.hgs_mem.specs.Steady.{steady_log, steady_start, steady_tree};
 ghost use Rattle.hgs_model.specs.Valid.{IsValid};
-ghost use Rattle.hgs_schedule.specs.declared.event.Event.TheVariants.{Begin};
+ghost use Rattle.hgs_schedule.specs.declared.event.Event.TheVariants.{Begin, Load, Log, Open, Read};
 ghost use Rattle.hgs_schedule.specs.Schedule.{CanCome};
-ghost use Rattle.hgs_world.specs.Questions.{no_sight, sight_of};
+ghost use Rattle.hgs_reader.specs.Shown.{marks_text};
+ghost use Rattle.hgs_world.specs.Questions.{body_text, no_sight, phase_text, sight_of};
 ghost use Rattle.hgs_world.specs.Texts.{begun_line, recovered_line};
 ghost use Rattle.hgs_world.specs.Working.{HasBytes, CanGoOn, writer_left};
-ghost use Rattle.hgs_world.specs.World.{ActsIn, Happens, HasEnded, IsFirst, IsSeen, KeepsWriter, RecoversIn, RunsIn, StopsIn, forgotten, new_writer, scene_of, tree_of};
+ghost use Rattle.hgs_world.specs.World.{ActsIn, Answers, Happens, HasEnded, IsFirst, IsSeen, RecoversIn, RunsIn, StopsIn, forgotten, new_writer, scene_of, tree_of};
 
 use crate::questions::{body_text, bookmarks_text, log_text, phase_text};
 use crate::reading::Reading;
@@ -208,7 +209,7 @@ impl World {
 
     fn open(&mut self, reader: u32) -> Result<Vec<u8>, NoMemory>
         requires { reader < length self.old.readers.items }
-        ensures does { KeepsWriter (scene_of self.old) (scene_of self.new) }
+        ensures does { IfOk result (λ text. Happens (Open reader) (scene_of self.old) (scene_of self.new) text.items) }
         ensures count { length self.new.readers.items ≡ length self.old.readers.items }
     {
         self.readers[reader as usize].open(self.alloc)?;
@@ -217,7 +218,7 @@ impl World {
 
     fn log(&mut self, reader: u32) -> Result<Vec<u8>, NoMemory>
         requires { reader < length self.old.readers.items }
-        ensures does { KeepsWriter (scene_of self.old) (scene_of self.new) }
+        ensures does { IfOk result (λ text. Happens (Log reader) (scene_of self.old) (scene_of self.new) text.items) }
         ensures count { length self.new.readers.items ≡ length self.old.readers.items }
     {
         match &mut self.readers[reader as usize].session {
@@ -228,7 +229,7 @@ impl World {
 
     fn body(&mut self, reader: u32, name: &[u8], path: &[u8]) -> Result<Vec<u8>, NoMemory>
         requires { reader < length self.old.readers.items }
-        ensures does { KeepsWriter (scene_of self.old) (scene_of self.new) }
+        ensures does { IfOk result (λ text. Answers reader (λ view. body_text (tree_of (scene_of self.old)) view name.now path.now) (scene_of self.old) (scene_of self.new) text.items) }
         ensures count { length self.new.readers.items ≡ length self.old.readers.items }
     {
         match &mut self.readers[reader as usize].session {
@@ -239,6 +240,7 @@ impl World {
 
     fn phase(&self, reader: u32, name: &[u8]) -> Result<Vec<u8>, NoMemory>
         requires { reader < length self.now.readers.items }
+        ensures { IfOk result (λ text. Answers reader (λ view. phase_text view name.now) (scene_of self.now) (scene_of self.now) text.items) }
     {
         match &self.readers[reader as usize].session {
             Some(session) => phase_text(self.alloc, session, name),
@@ -248,6 +250,7 @@ impl World {
 
     fn bookmarks(&self, reader: u32) -> Result<Vec<u8>, NoMemory>
         requires { reader < length self.now.readers.items }
+        ensures { IfOk result (λ text. Answers reader marks_text (scene_of self.now) (scene_of self.now) text.items) }
     {
         match &self.readers[reader as usize].session {
             Some(session) => bookmarks_text(self.alloc, session),
@@ -257,7 +260,7 @@ impl World {
 
     fn read(&mut self, reader: u32) -> Result<Vec<u8>, NoMemory>
         requires { reader < length self.old.readers.items }
-        ensures does { KeepsWriter (scene_of self.old) (scene_of self.new) }
+        ensures does { IfOk result (λ text. Happens (Read reader) (scene_of self.old) (scene_of self.new) text.items) }
         ensures count { length self.new.readers.items ≡ length self.old.readers.items }
     {
         self.readers[reader as usize].read(self.alloc, &mut self.files)
@@ -265,7 +268,7 @@ impl World {
 
     fn load(&mut self, reader: u32) -> Result<Vec<u8>, NoMemory>
         requires { reader < length self.old.readers.items }
-        ensures does { KeepsWriter (scene_of self.old) (scene_of self.new) }
+        ensures does { IfOk result (λ text. Happens (Load reader) (scene_of self.old) (scene_of self.new) text.items) }
         ensures count { length self.new.readers.items ≡ length self.old.readers.items }
     {
         self.readers[reader as usize].load(self.alloc, &mut self.files)

@@ -1,6 +1,6 @@
 use Rattle.std.proofs.Common.{◌≡◌, ◌∙◌, ap, Some}
 use Rattle.hgs_machine.specs.Asked.{asked}
-use Rattle.hgs_mem.specs.Steady.{steady_log, steady_start}
+use Rattle.hgs_mem.specs.Steady.{steady_log}
 use Rattle.hgs_world.specs.Working.{writer_left}
 use Rattle.hgs_world.specs.World.{scene_of}
 use Rattle.hgs_world.proofs.WorldLemmas.{runs_in}

@@ -2,7 +2,7 @@ use Rattle.std.proofs.Common.{◌≡◌, [], Some, subst, sym}
 use Rattle.std.specs.Prelude.{OnOk}
 use Rattle.hgs_files.specs.Files.{GoesOn}
 use Rattle.hgs_machine.specs.Asked.{asked}
-use Rattle.hgs_mem.specs.Steady.{steady_log, steady_start, steady_tree}
+use Rattle.hgs_mem.specs.Steady.{steady_log, steady_tree}
 use Rattle.hgs_world.specs.Working.{Acts, Does, OfOperation}
 use Rattle.hgs_world.specs.declared.working.Deed.TheVariants.{All, Part, Fail}
 use Rattle.hgs_world.proofs.WorkLemmas.{acts_after, on_ok}

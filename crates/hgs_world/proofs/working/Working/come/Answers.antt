@@ -1,5 +1,4 @@
 use Rattle.hgs_mem.specs.Steady.{steady_log, steady_start, steady_tree}
-use Rattle.hgs_world.specs.Working.{CanGoOn, IsAtNext, KeepsSoFar, at_machine}
 use Rattle.hgs_world.proofs.WorkLemmas.{both_ok, come_on, same_tree}
 use Rattle.hgs_world.proofs.working.Working.come.Goals as goal
 

@@ -2,8 +2,7 @@ use Rattle.std.proofs.Common.{◌+◌, ap, sym, ◌∙◌, ◌≡◌, [], Some, 
 use Rattle.hgs_files.specs.Files.{GoesOn}
 use Rattle.hgs_machine.specs.Asked.{asked}
 use Rattle.hgs_mem.specs.Steady.{steady_log, steady_start, steady_tree}
-use Rattle.hgs_world.specs.Parts.{op_length}
-use Rattle.hgs_world.specs.Working.{Does, OfOperation, asks_part}
+use Rattle.hgs_world.specs.Working.{Does, OfOperation}
 use Rattle.hgs_world.specs.declared.working.Deed.TheVariants.{All, Part}
 use Rattle.hgs_world.proofs.PartLemmas.{part_further}
 use Rattle.hgs_world.proofs.WorkLemmas.{goes_by, goes_further, is_doing, less_than, on_ok, rest_for_part, still, tree_after}

@@ -1,6 +1,6 @@
-use Rattle.std.proofs.Common.{◌≡◌, [], Some, sym, ◌∙◌, refl, arith, append-nil, ap}
+use Rattle.std.proofs.Common.{[], Some, sym, ◌∙◌, refl, arith, append-nil, ap}
 use Rattle.hgs_machine.specs.Asked.{asked}
-use Rattle.hgs_mem.specs.Steady.{steady_log, steady_start, steady_tree}
+use Rattle.hgs_mem.specs.Steady.{steady_log, steady_start}
 use Rattle.hgs_world.specs.Working.{not_yet}
 use Rattle.hgs_world.proofs.WorkLemmas.{doing_of, runs_more, runs_until}
 use Rattle.hgs_world.proofs.working.Working.run.Goals as goal

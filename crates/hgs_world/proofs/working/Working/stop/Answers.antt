@@ -1,7 +1,7 @@
-use Rattle.std.proofs.Common.{◌≡◌, [], Some, sym, ◌∙◌}
+use Rattle.std.proofs.Common.{Some}
 use Rattle.hgs_files.specs.Files.{GoesOn}
 use Rattle.hgs_machine.specs.Asked.{asked}
-use Rattle.hgs_mem.specs.Steady.{steady_log, steady_start, steady_tree}
+use Rattle.hgs_mem.specs.Steady.{steady_log, steady_tree}
 use Rattle.hgs_world.specs.Parts.{DoesPart}
 use Rattle.hgs_world.specs.Working.{StopsWithin}
 use Rattle.hgs_world.proofs.WorkLemmas.{asks_nothing, is_doing, is_sizing, on_ok, stops_at_end, stops_at_op, stops_at_size}
