@@ -1,5 +1,5 @@
 -- An inline index and the separate revlog that it stands for.
-use Rattle.std.proofs.Common.{◌≡◌, ℕ, zero, suc, ◌+◌, ◌-◌, ◌%◌, ◌<◌, ◌≤◌, List, [], ◌∷◌, ◌++◌, Bool, true, false, cond, ◌&&◌, ◌||◌, not, length, take, drop, map, Option, Some, None, Result, Ok, Err, refl, sym, ◌∙◌, ap, subst, arith, append_assoc, append-nil, length-append}
+use Rattle.std.proofs.Common.{◌≡◌, ℕ, zero, suc, ◌+◌, ◌-◌, ◌%◌, ◌<◌, ◌≤◌, List, [], ◌∷◌, ◌++◌, Bool, true, false, cond, ◌&&◌, ◌||◌, not, length, take, drop, map, Option, Some, None, Ok, Err, refl, sym, ◌∙◌, ap, arith, append_assoc, append-nil, length-append}
 use Rattle.std.specs.Prelude.{flat_map, nat_le, nat_lt, ◌==◌}
 use Rattle.std.specs.Int.{w16, w32, from_be_bytes}
 use Rattle.std.specs.List.{AllByRecursion, concat}
@@ -16,34 +16,34 @@ use Rattle.hgs_index.specs.Theorems.EntryPartLemmas.{length-entry_bytes}
 use Rattle.hgs_index.specs.Theorems.UniqueLemmas.{chunk-same, held-unique}
 
 -- the entries alone, and each with its chunk
-abbrev cells : Option Header → List Item → List ℕ
+abbrev pub cells : Option Header → List Item → List ℕ
 cells first [] = []
 cells first (i ∷ is) = entry_bytes i.entry first ++ cells None is
 
-abbrev inlined : Option Header → List Item → List ℕ
+abbrev pub inlined : Option Header → List Item → List ℕ
 inlined first [] = []
 inlined first (i ∷ is) = (entry_bytes i.entry first ++ i.chunk) ++ inlined None is
 
-abbrev Fit : List Item → Type 0
+abbrev pub Fit : List Item → Type 0
 Fit is = AllByRecursion (λ (i : Item). Fits i.entry None) is
 
-abbrev AreStored : List Item → Type 0
+abbrev pub AreStored : List Item → Type 0
 AreStored is = AllByRecursion (λ (i : Item). length i.chunk ≡ i.entry.stored) is
 
-abbrev chunks_of_items : List Item → List ℕ
+abbrev pub chunks_of_items : List Item → List ℕ
 chunks_of_items is = concat (map (λ (i : Item). i.chunk) is)
 
-abbrev inline_header : Bool → Header
+abbrev pub inline_header : Bool → Header
 inline_header g = record { inline = true; generaldelta = g }
 
-abbrev plain_header : Bool → Header
+abbrev pub plain_header : Bool → Header
 plain_header g = record { inline = false; generaldelta = g }
 
 rest-plain : (g : Bool) (is : List Item) → flat_map (item_bytes (plain_header g) None) is ≡ cells None is
 rest-plain g [] = refl
 rest-plain g (i ∷ is) = ap (λ l. l ++ flat_map (item_bytes (plain_header g) None) is) (append-nil (entry_bytes i.entry None)) ∙ ap (λ l. entry_bytes i.entry None ++ l) (rest-plain g is)
 
-index-plain : (g : Bool) (is : List Item) → index_bytes (plain_header g) is ≡ cells (Some (plain_header g)) is
+pub index-plain : (g : Bool) (is : List Item) → index_bytes (plain_header g) is ≡ cells (Some (plain_header g)) is
 index-plain g [] = refl
 index-plain g (i ∷ is) = ap (λ l. l ++ flat_map (item_bytes (plain_header g) None) is) (append-nil (entry_bytes i.entry (Some (plain_header g)))) ∙ ap (λ l. entry_bytes i.entry (Some (plain_header g)) ++ l) (rest-plain g is)
 
@@ -51,7 +51,7 @@ rest-inline : (g : Bool) (is : List Item) → flat_map (item_bytes (inline_heade
 rest-inline g [] = refl
 rest-inline g (i ∷ is) = ap (λ l. (entry_bytes i.entry None ++ i.chunk) ++ l) (rest-inline g is)
 
-index-inline : (g : Bool) (is : List Item) → index_bytes (inline_header g) is ≡ inlined (Some (inline_header g)) is
+pub index-inline : (g : Bool) (is : List Item) → index_bytes (inline_header g) is ≡ inlined (Some (inline_header g)) is
 index-inline g [] = refl
 index-inline g (i ∷ is) = ap (λ l. (entry_bytes i.entry (Some (inline_header g)) ++ i.chunk) ++ l) (rest-inline g is)
 
@@ -98,12 +98,12 @@ module _ (e : Entry) (first : Option Header) (chunk rest : List ℕ) (fits : Fit
   item-rest : drop (64 + number_at 8 item) item ≡ rest
   item-rest = ap (λ n. drop (64 + n) item) item-stored ∙ sym (drop-drop e.stored 64 item) ∙ ap (drop e.stored) item-behind ∙ drop_at chunk rest e.stored stored
 
-  entries-item : (n : ℕ) → entries_in (suc n) item ≡ entry_bytes e first ++ entries_in n rest
+  pub entries-item : (n : ℕ) → entries_in (suc n) item ≡ entry_bytes e first ++ entries_in n rest
   entries-item n =
       ap (λ b. cond b (take 63 item) (take 64 item ++ entries_in n (drop (64 + number_at 8 item) item))) (whole-item e first chunk rest fits stored)
       ∙ (λ i. item-cell i ++ entries_in n (item-rest i))
 
-  chunks-item : (n : ℕ) → chunks_in (suc n) item ≡ chunk ++ chunks_in n rest
+  pub chunks-item : (n : ℕ) → chunks_in (suc n) item ≡ chunk ++ chunks_in n rest
   chunks-item n =
       ap (λ b. cond b [] (part 64 (number_at 8 item) item ++ chunks_in n (drop (64 + number_at 8 item) item))) (whole-item e first chunk rest fits stored)
       ∙ (λ i. item-chunk i ++ chunks_in n (item-rest i))
@@ -145,7 +145,7 @@ item-refused bytes cell behind n front back-is whole number short high =
 
 -- ---- all of them
 
-entries-none : (n : ℕ) → entries_in n [] ≡ []
+pub entries-none : (n : ℕ) → entries_in n [] ≡ []
 entries-none zero = refl
 entries-none (suc n) = refl
 
@@ -153,43 +153,43 @@ chunks-none : (n : ℕ) → chunks_in n [] ≡ []
 chunks-none zero = refl
 chunks-none (suc n) = refl
 
-entries-inlined : (n : ℕ) (first : Option Header) (is : List Item) → length is ≤ n → Fit is → AreStored is → entries_in n (inlined first is) ≡ cells first is
+pub entries-inlined : (n : ℕ) (first : Option Header) (is : List Item) → length is ≤ n → Fit is → AreStored is → entries_in n (inlined first is) ≡ cells first is
 entries-inlined n first [] few fits stored = entries-none n
 entries-inlined zero first (i ∷ is) few fits stored = absurd (omega (arith, few))
 entries-inlined (suc n) first (i ∷ is) few fits stored =
     entries-item i.entry first i.chunk (inlined None is) fits.0 stored.0 n ∙ ap (λ l. entry_bytes i.entry first ++ l) (entries-inlined n None is (omega (arith, few)) fits.1 stored.1)
 
-chunks-inlined : (n : ℕ) (first : Option Header) (is : List Item) → length is ≤ n → Fit is → AreStored is → chunks_in n (inlined first is) ≡ chunks_of_items is
+pub chunks-inlined : (n : ℕ) (first : Option Header) (is : List Item) → length is ≤ n → Fit is → AreStored is → chunks_in n (inlined first is) ≡ chunks_of_items is
 chunks-inlined n first [] few fits stored = chunks-none n
 chunks-inlined zero first (i ∷ is) few fits stored = absurd (omega (arith, few))
 chunks-inlined (suc n) first (i ∷ is) few fits stored =
     chunks-item i.entry first i.chunk (inlined None is) fits.0 stored.0 n ∙ ap (λ l. i.chunk ++ l) (chunks-inlined n None is (omega (arith, few)) fits.1 stored.1)
 
-few-items : (first : Option Header) (is : List Item) → Fit is → length is ≤ length (inlined first is)
+pub few-items : (first : Option Header) (is : List Item) → Fit is → length is ≤ length (inlined first is)
 few-items first [] fits = omega arith
 few-items first (i ∷ is) fits =
     let rest = few-items None is fits.1 in
     omega (arith, rest, length-append (entry_bytes i.entry first ++ i.chunk) (inlined None is), length-append (entry_bytes i.entry first) i.chunk, length-entry_bytes i.entry first fits.0.node)
 
-items-stored : (offset : ℕ) (known : List (List ℕ)) (stored : List Stored) → AreStored (items_from offset known stored)
+pub items-stored : (offset : ℕ) (known : List (List ℕ)) (stored : List Stored) → AreStored (items_from offset known stored)
 items-stored offset known [] = tt
 items-stored offset known (s ∷ stored) = (refl, items-stored (offset + length s.chunk) (known ++ node_after known s.revision ∷ []) stored)
 
-item-chunks : (offset : ℕ) (known : List (List ℕ)) (stored : List Stored) → chunks_of_items (items_from offset known stored) ≡ concat (map (λ s. s.chunk) stored)
+pub item-chunks : (offset : ℕ) (known : List (List ℕ)) (stored : List Stored) → chunks_of_items (items_from offset known stored) ≡ concat (map (λ s. s.chunk) stored)
 item-chunks offset known [] = refl
 item-chunks offset known (s ∷ stored) = ap (λ l. s.chunk ++ l) (item-chunks (offset + length s.chunk) (known ++ node_after known s.revision ∷ []) stored)
 
 -- ---- the header
 
-plain-cells : (g : Bool) (is : List Item) → without_inline (cells (Some (inline_header g)) is) ≡ cells (Some (plain_header g)) is
+pub plain-cells : (g : Bool) (is : List Item) → without_inline (cells (Some (inline_header g)) is) ≡ cells (Some (plain_header g)) is
 plain-cells g [] = refl
 plain-cells true (i ∷ is) = refl
 plain-cells false (i ∷ is) = refl
 
-at-least : (n len : ℕ) → n ≤ len → nat_le n len ≡ true
+pub at-least : (n len : ℕ) → n ≤ len → nat_le n len ≡ true
 at-least n len h = grind arith
 
-is-inlined : (g : Bool) (i : Item) (is : List Item) → Fits i.entry None → is_inline (inlined (Some (inline_header g)) (i ∷ is)) ≡ true
+pub is-inlined : (g : Bool) (i : Item) (is : List Item) → Fits i.entry None → is_inline (inlined (Some (inline_header g)) (i ∷ is)) ≡ true
 is-inlined g i is fits =
     let first = Some (inline_header g) in
     let bytes = inlined first (i ∷ is) in
@@ -208,8 +208,17 @@ apart-inlined g (i ∷ is) fits stored =
     ∙ ap without_inline (entries-inlined (length bytes) (Some (inline_header g)) (i ∷ is) (few-items (Some (inline_header g)) (i ∷ is) fits) fits stored)
     ∙ plain-cells g (i ∷ is)
 
-header-is : (b : Bool) (h : Header) → h.inline ≡ b → h ≡ record { inline = b; generaldelta = h.generaldelta }
+pub header-is : (b : Bool) (h : Header) → h.inline ≡ b → h ≡ record { inline = b; generaldelta = h.generaldelta }
 header-is b h form = λ i. record { inline = form i; generaldelta = h.generaldelta }
+
+-- the chunks that an inline index is taken apart into are those of the revisions that it holds
+pub apart-chunks : (index data_bytes : List ℕ) (revisions : List Revision) (h : Holds true index data_bytes revisions) → chunks_apart index ≡ concat (map (λ s. s.chunk) h.stored)
+apart-chunks index data_bytes revisions h =
+    let is = items h.stored in
+    let g = h.header.generaldelta in
+    let first = Some (inline_header g) in
+    let spelled : index ≡ inlined first is = h.index_is ∙ ap (λ k. index_bytes k is) (header-is true h.header h.form) ∙ index-inline g is in
+    ap chunks_apart spelled ∙ chunks-inlined (length (inlined first is)) first is (few-items first is h.fits) h.fits (items-stored 0 [] h.stored) ∙ item-chunks 0 [] h.stored
 
 -- An inline index that holds revisions is taken apart into an index and data that hold them.
 pub held-apart : (index data_bytes : List ℕ) (revisions : List Revision) → Holds true index data_bytes revisions → HoldsRevisions (index_apart index) (chunks_apart index) revisions
@@ -230,7 +239,7 @@ held-apart index data_bytes revisions h =
       not_null = h.not_null;
       form = refl;
       index_is = ap index_apart spelled ∙ apart-inlined g is h.fits stored ∙ sym (index-plain g is);
-      data_is = ap chunks_apart spelled ∙ chunks-inlined (length (inlined first is)) first is (few-items first is h.fits) h.fits stored ∙ item-chunks 0 [] h.stored;
+      data_is = apart-chunks index data_bytes revisions h;
     }
 
 -- ---- back
