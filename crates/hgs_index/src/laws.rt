@@ -12,7 +12,7 @@ ghost use Rattle.hgs_index.specs.Hex.{hex, node_at};
 ghost use Rattle.hgs_index.specs.Inline.{chunks_apart, index_apart, is_inline};
 ghost use Rattle.hgs_index.specs.Node.{IsNode, null_node};
 ghost use Rattle.hgs_index.specs.Revision.{Parents, ParentsBefore, Revision, node_after, nodes};
-ghost use Rattle.hgs_index.specs.Revlog.{BeginsWithRevisions, Holds, HoldsRevisions, Stored, all_different, chunk_of, chunk_text, entry_after, next_header};
+ghost use Rattle.hgs_index.specs.Revlog.{Begins, BeginsWithRevisions, Holds, HoldsRevisions, Stored, all_different, chunk_of, chunk_text, entry_after, next_header};
 
 /// An entry that is written is read again.
 pub fn encode_then_decode()
@@ -82,6 +82,12 @@ pub fn inline_taken_apart()
     ensures separate { (index data_bytes more : List ℕ) (first : Revision) (revisions : List Revision) → HoldsRevisions index data_bytes (first ∷ revisions) → is_inline (index ++ more) ≡ false }
     ensures fronts { (size : ℕ) (index : List ℕ) → is_inline index ≡ false → is_inline (take size index) ≡ false }
     ensures one { (index data_bytes other_data : List ℕ) (revisions others : List Revision) → Holds true index data_bytes revisions → Holds true index other_data others → revisions ≡ others }
+{}
+
+/// An inline index that begins with bytes that hold revisions, whatever follows, is taken apart into an index and data that
+/// begin with bytes that hold them.
+pub fn inline_fronts_taken_apart()
+    ensures { (index data_bytes : List ℕ) (revisions : List Revision) → Begins true index data_bytes revisions → BeginsWithRevisions (index_apart index) (chunks_apart index) revisions }
 {}
 
 /// There is a node for each revision.

@@ -6,12 +6,12 @@ use Rattle.hgs_bytes.specs.Bytes.{among, same}
 use Rattle.hgs_index.specs.declared.entry.Header.{Header}
 use Rattle.hgs_index.specs.Either.{BeginsEither, HoldsEither, chunk_bytes, data_more, index_more}
 use Rattle.hgs_index.specs.Entry.{Fits, entry_bytes, header_at}
-use Rattle.hgs_index.specs.Inline.{is_inline, says_inline}
+use Rattle.hgs_index.specs.Inline.{chunks_apart, index_apart, is_inline, says_inline}
 use Rattle.hgs_index.specs.Node.{null_node}
 use Rattle.hgs_index.specs.Revision.{ParentsBefore, Revision, node_after, nodes, nodes_from}
-use Rattle.hgs_index.specs.Revlog.{Begins, Holds, HoldsRevisions, IsDataOf, Item, Stored, all_different, chunk_text, entry_after, index_bytes, item_bytes, items, items_from, next_header}
+use Rattle.hgs_index.specs.Revlog.{Begins, BeginsWithRevisions, Holds, HoldsRevisions, IsDataOf, Item, Stored, all_different, chunk_text, entry_after, index_bytes, item_bytes, items, items_from, next_header}
 use Rattle.hgs_index.specs.Theorems.EntryPartLemmas.{length-entry_bytes}
-use Rattle.hgs_index.specs.Theorems.InlineLemmas.{apart-chunks, at-least, header-is, held-plain, index-inline, inline-unique, inline_header, inlined, is-inlined}
+use Rattle.hgs_index.specs.Theorems.InlineLemmas.{apart-chunks, apart-front, at-least, held-apart, header-is, held-plain, index-inline, inline-unique, inline_header, inlined, is-inlined}
 use Rattle.hgs_index.specs.Theorems.RevisionLemmas.{nodes-append}
 use Rattle.hgs_index.specs.Theorems.RevlogFrontLemmas.{all-front, among-both, among-front, different-front, different-last, halves, nodes-last, or-false, parents-front, revisions_of, same-swap}
 use Rattle.hgs_index.specs.Theorems.RevlogLemmas.{all-append, chunks_of, concat-append, entries_behind, index_bytes-append, items_from-append, length-parents, map-append, parents-append}
@@ -235,4 +235,21 @@ form-one-more inline index data_bytes revisions s k held form text p1 p2 fits ne
       form = h.form;
       index_is = (λ i. h.index_is i ++ (sym (one-behind inline h.header h.stored revisions item h.form h.these ∙ ap (λ n. index_more inline n item) (sym g.1))) i) ∙ sym (index_bytes-append h.header (items h.stored) (item ∷ [])) ∙ ap (index_bytes h.header) (sym split);
       data_is = data-behind inline h.stored s data_bytes h.data_is;
+    }
+
+-- ---- an inline index that begins with a list
+
+-- It is taken apart into bytes that begin with the list.
+pub begins-apart : (index data_bytes : List ℕ) (revisions : List Revision) → Begins true index data_bytes revisions → BeginsWithRevisions (index_apart index) (chunks_apart index) revisions
+begins-apart index data_bytes [] b = begins-none false (index_apart index) (chunks_apart index)
+begins-apart index data_bytes (r ∷ revisions) b =
+    let whole = b.index_begins.1 in
+    let inline : is_inline (b.index_front ++ b.index_begins.0) ≡ true = held-form true b.index_front b.data_front b.index_begins.0 r revisions b.held in
+    let parts = apart-front b.index_front b.index_begins.0 b.data_front r revisions inline b.held in
+    record {
+      index_front = index_apart b.index_front;
+      data_front = chunks_apart b.index_front;
+      held = held-apart b.index_front b.data_front (r ∷ revisions) b.held;
+      index_begins = (parts.0.0, ap index_apart whole ∙ parts.0.1);
+      data_begins = (parts.1.0, ap chunks_apart whole ∙ parts.1.1);
     }

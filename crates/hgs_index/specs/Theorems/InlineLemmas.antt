@@ -11,7 +11,7 @@ use Rattle.hgs_index.specs.declared.entry.EntryFault.TheVariants.{Version, Heade
 use Rattle.hgs_index.specs.Entry.{entry_bytes, part, number_at, is_negative, has_bad_header, header_of, header_at, Fits}
 use Rattle.hgs_index.specs.Inline.{says_inline, is_inline, is_cut, whole_item, entries_in, chunks_in, without_inline, index_apart, chunks_apart}
 use Rattle.hgs_index.specs.Revision.{Revision, node_after}
-use Rattle.hgs_index.specs.Revlog.{Stored, Item, items_from, items, item_bytes, index_bytes, Holds, HoldsRevisions}
+use Rattle.hgs_index.specs.Revlog.{Stored, Item, entry_after, items_from, items, item_bytes, index_bytes, Holds, HoldsRevisions}
 use Rattle.hgs_index.specs.Theorems.EntryPartLemmas.{length-entry_bytes}
 use Rattle.hgs_index.specs.Theorems.UniqueLemmas.{chunk-same, held-unique}
 
@@ -241,6 +241,74 @@ held-apart index data_bytes revisions h =
       index_is = ap index_apart spelled ∙ apart-inlined g is h.fits stored ∙ sym (index-plain g is);
       data_is = apart-chunks index data_bytes revisions h;
     }
+
+-- ---- what stands behind
+
+pub entries-behind : (n : ℕ) (first : Option Header) (is : List Item) (more : List ℕ) → length is ≤ n → Fit is → AreStored is → (rest : List ℕ) × (entries_in n (inlined first is ++ more) ≡ cells first is ++ rest)
+entries-behind n first [] more few fits stored = (entries_in n more, refl)
+entries-behind zero first (i ∷ is) more few fits stored = absurd (omega (arith, few))
+entries-behind (suc n) first (i ∷ is) more few fits stored =
+    let behind = entries-behind n None is more (omega (arith, few)) fits.1 stored.1 in (
+      behind.0,
+      ap (entries_in (suc n)) (append_assoc (entry_bytes i.entry first ++ i.chunk) (inlined None is) more)
+          ∙ entries-item i.entry first i.chunk (inlined None is ++ more) fits.0 stored.0 n
+          ∙ ap (λ l. entry_bytes i.entry first ++ l) behind.1
+          ∙ sym (append_assoc (entry_bytes i.entry first) (cells None is) behind.0),
+    )
+
+pub chunks-behind : (n : ℕ) (first : Option Header) (is : List Item) (more : List ℕ) → length is ≤ n → Fit is → AreStored is → (rest : List ℕ) × (chunks_in n (inlined first is ++ more) ≡ chunks_of_items is ++ rest)
+chunks-behind n first [] more few fits stored = (chunks_in n more, refl)
+chunks-behind zero first (i ∷ is) more few fits stored = absurd (omega (arith, few))
+chunks-behind (suc n) first (i ∷ is) more few fits stored =
+    let behind = chunks-behind n None is more (omega (arith, few)) fits.1 stored.1 in (
+      behind.0,
+      ap (chunks_in (suc n)) (append_assoc (entry_bytes i.entry first ++ i.chunk) (inlined None is) more)
+          ∙ chunks-item i.entry first i.chunk (inlined None is ++ more) fits.0 stored.0 n
+          ∙ ap (λ l. i.chunk ++ l) behind.1
+          ∙ sym (append_assoc i.chunk (chunks_of_items is) behind.0),
+    )
+
+-- the header of an entry is changed in front of what follows
+cleared-front : (g : Bool) (i : Item) (is : List Item) (rest : List ℕ) → without_inline (cells (Some (inline_header g)) (i ∷ is) ++ rest) ≡ without_inline (cells (Some (inline_header g)) (i ∷ is)) ++ rest
+cleared-front true i is rest = refl
+cleared-front false i is rest = refl
+
+-- The same where more stands behind the bytes that hold revisions: what they are taken apart into is in front.
+pub apart-front : (front more data_bytes : List ℕ) (r : Revision) (revisions : List Revision) → is_inline (front ++ more) ≡ true → Holds true front data_bytes (r ∷ revisions)
+    → ((rest : List ℕ) × (index_apart (front ++ more) ≡ index_apart front ++ rest)) × ((rest : List ℕ) × (chunks_apart (front ++ more) ≡ chunks_apart front ++ rest))
+apart-front front more data_bytes r revisions inline h = by h.stored h.these h.fits (h.index_is ∙ ap (λ k. index_bytes k (items h.stored)) (header-is true h.header h.form) ∙ index-inline h.header.generaldelta (items h.stored))
+  where
+    g : Bool
+    g = h.header.generaldelta
+
+    first : Option Header
+    first = Some (inline_header g)
+
+    n : ℕ
+    n = length (front ++ more)
+
+    by : (stored : List Stored) → map (λ s. s.revision) stored ≡ r ∷ revisions → Fit (items stored) → front ≡ inlined first (items stored)
+        → ((rest : List ℕ) × (index_apart (front ++ more) ≡ index_apart front ++ rest)) × ((rest : List ℕ) × (chunks_apart (front ++ more) ≡ chunks_apart front ++ rest))
+    by [] these fits is = cc
+    by (s ∷ stored) these fits is =
+        let all : List Item = items (s ∷ stored) in
+        let few : length all ≤ n = (let k = few-items first all fits in omega (arith, k, ap length is, length-append front more)) in
+        let kept = items-stored 0 [] (s ∷ stored) in
+        let entries = entries-behind n first all more few fits kept in
+        let chunks = chunks-behind n first all more few fits kept in (
+          (
+            entries.0,
+            ap (λ b. cond b (without_inline (entries_in n (front ++ more))) (front ++ more)) inline
+                ∙ ap (λ l. without_inline (entries_in n (l ++ more))) is ∙ ap without_inline entries.1
+                ∙ cleared-front g (record { entry = entry_after 0 [] s; chunk = s.chunk }) (items_from (0 + length s.chunk) (node_after [] s.revision ∷ []) stored) entries.0
+                ∙ ap (λ l. l ++ entries.0) (plain-cells g all ∙ sym (apart-inlined g all fits kept) ∙ ap index_apart (sym is)),
+          ),
+          (
+            chunks.0,
+            ap (λ l. chunks_in n (l ++ more)) is ∙ chunks.1
+                ∙ ap (λ l. l ++ chunks.0) (sym (chunks-inlined (length (inlined first all)) first all (few-items first all fits) fits kept) ∙ ap chunks_apart (sym is)),
+          ),
+        )
 
 -- ---- back
 
