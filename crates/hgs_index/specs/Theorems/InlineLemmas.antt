@@ -57,7 +57,7 @@ index-inline g (i ∷ is) = ap (λ l. (entry_bytes i.entry (Some (inline_header 
 
 -- ---- one entry and its chunk
 
-stored-at : (e : Entry) (first : Option Header) (rest : List ℕ) → Fits e None → number_at 8 (entry_bytes e first ++ rest) ≡ e.stored
+pub stored-at : (e : Entry) (first : Option Header) (rest : List ℕ) → Fits e None → number_at 8 (entry_bytes e first ++ rest) ≡ e.stored
 stored-at e None rest fits = from_be_bytes-to_be_bytes_4 e.stored (let l = fits.stored in omega arith)
 stored-at e (Some h) rest fits = from_be_bytes-to_be_bytes_4 e.stored (let l = fits.stored in omega arith)
 
@@ -68,7 +68,7 @@ or-both a false c x y = ap (λ d. d || false) x
 least : (n len : ℕ) → n ≤ len → nat_lt len n ≡ false
 least n len h = grind arith
 
-whole-item : (e : Entry) (first : Option Header) (chunk rest : List ℕ) → Fits e None → length chunk ≡ e.stored → is_cut ((entry_bytes e first ++ chunk) ++ rest) ≡ false
+pub whole-item : (e : Entry) (first : Option Header) (chunk rest : List ℕ) → Fits e None → length chunk ≡ e.stored → is_cut ((entry_bytes e first ++ chunk) ++ rest) ≡ false
 whole-item e first chunk rest fits stored =
     let bytes = (entry_bytes e first ++ chunk) ++ rest in
     let n : number_at 8 bytes ≡ e.stored = ap (number_at 8) (append_assoc (entry_bytes e first) chunk rest) ∙ stored-at e first (chunk ++ rest) fits in
@@ -83,10 +83,10 @@ module _ (e : Entry) (first : Option Header) (chunk rest : List ℕ) (fits : Fit
   item-parts : item ≡ entry_bytes e first ++ (chunk ++ rest)
   item-parts = append_assoc (entry_bytes e first) chunk rest
 
-  item-stored : number_at 8 item ≡ e.stored
+  pub item-stored : number_at 8 item ≡ e.stored
   item-stored = ap (number_at 8) item-parts ∙ stored-at e first (chunk ++ rest) fits
 
-  item-cell : take 64 item ≡ entry_bytes e first
+  pub item-cell : take 64 item ≡ entry_bytes e first
   item-cell = ap (take 64) item-parts ∙ take_at (entry_bytes e first) (chunk ++ rest) 64 (length-entry_bytes e first fits.node)
 
   item-behind : drop 64 item ≡ chunk ++ rest
@@ -95,7 +95,7 @@ module _ (e : Entry) (first : Option Header) (chunk rest : List ℕ) (fits : Fit
   item-chunk : part 64 (number_at 8 item) item ≡ chunk
   item-chunk = ap (λ n. take n (drop 64 item)) item-stored ∙ ap (take e.stored) item-behind ∙ take_at chunk rest e.stored stored
 
-  item-rest : drop (64 + number_at 8 item) item ≡ rest
+  pub item-rest : drop (64 + number_at 8 item) item ≡ rest
   item-rest = ap (λ n. drop (64 + n) item) item-stored ∙ sym (drop-drop e.stored 64 item) ∙ ap (drop e.stored) item-behind ∙ drop_at chunk rest e.stored stored
 
   pub entries-item : (n : ℕ) → entries_in (suc n) item ≡ entry_bytes e first ++ entries_in n rest
@@ -114,7 +114,7 @@ empty : (xs : List ℕ) → length xs ≤ 0 → xs ≡ []
 empty [] h = refl
 empty (x ∷ xs) h = absurd (omega (arith, h))
 
-number-in-cell : (bytes : List ℕ) → number_at 8 (take 64 bytes) ≡ number_at 8 bytes
+pub number-in-cell : (bytes : List ℕ) → number_at 8 (take 64 bytes) ≡ number_at 8 bytes
 number-in-cell bytes = ap (λ l. from_be_bytes w32 (take 4 l)) (drop-take 8 56 bytes) ∙ ap (from_be_bytes w32) (take-take 4 56 (drop 8 bytes) (omega arith))
 
 pub item-found : (bytes cell behind : List ℕ) (n : ℕ) → cell ≡ take 64 bytes → behind ≡ drop 64 bytes → 64 ≤ length bytes → n ≡ number_at 8 cell → n ≤ length behind → whole_item bytes ≡ Some (cell, drop n behind)
