@@ -1,5 +1,6 @@
 pub mod Ancestor
 pub mod ChangeText
+pub mod Either
 pub mod Entry
 pub mod FileText
 pub mod Hex

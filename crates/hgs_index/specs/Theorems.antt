@@ -4,12 +4,14 @@ pub mod AncestorLemmas
 pub mod AncestorTestLemmas
 pub mod AppendLemmas
 pub mod ChangeTextLemmas
+pub mod EitherLemmas
 pub mod EntryLemmas
 pub mod EntryPartLemmas
 pub mod EntryTakenLemmas
 pub mod FileTextLemmas
 pub mod HeaderText
 pub mod HexText
+pub mod InlineLemmas
 pub mod ManifestText
 pub mod NumberText
 pub mod PlaceLemmas

@@ -1,17 +1,18 @@
 //! What the definitions of this crate imply. Each function is one law; none does anything.
-ghost use Rattle.std.specs.Prelude.{◌≡◌, ◌⊎◌, ◌↔◌, false, true, ℕ, ◌<◌, ◌*◌, ◌++◌, List, [], ◌∷◌, length, take, map, None, Some, Ok, IsSome, IfSome, Option, position, slice_index_or};
+ghost use Rattle.std.specs.Prelude.{◌≡◌, ◌⊎◌, ◌↔◌, false, true, Bool, ℕ, ◌<◌, ◌*◌, ◌++◌, List, [], ◌∷◌, length, take, map, None, Some, Ok, IsSome, IfSome, Option, position, slice_index_or};
 ghost use Rattle.hex.specs.Hex.{IsBytes};
 ghost use Rattle.hgs_bytes.specs.Bytes.{among, begins_with, same};
 ghost use Rattle.hgs_index.specs.declared.entry.Entry.{Entry};
 ghost use Rattle.hgs_index.specs.declared.entry.Header.{Header};
 ghost use Rattle.hgs_index.specs.Ancestor.{IsAncestor, is_ancestor};
+ghost use Rattle.hgs_index.specs.Either.{BeginsEither, HoldsEither, chunk_bytes, data_more, index_more};
 ghost use Rattle.hgs_index.specs.Entry.{Fits, entry_at, entry_bytes, header_at, header_within};
 ghost use Rattle.hgs_index.specs.FileText.{IsBlock, marker, plain_prefix, prefix_of, body_of, unpacked};
 ghost use Rattle.hgs_index.specs.Hex.{hex, node_at};
 ghost use Rattle.hgs_index.specs.Inline.{chunks_apart, index_apart, is_inline};
 ghost use Rattle.hgs_index.specs.Node.{IsNode, null_node};
 ghost use Rattle.hgs_index.specs.Revision.{Parents, ParentsBefore, Revision, node_after, nodes};
-ghost use Rattle.hgs_index.specs.Revlog.{BeginsWithRevisions, Holds, HoldsRevisions, Stored, all_different, chunk_of, chunk_text, entry_after, next_header};
+ghost use Rattle.hgs_index.specs.Revlog.{Begins, BeginsWithRevisions, Holds, HoldsRevisions, Stored, all_different, chunk_of, chunk_text, entry_after, next_header};
 
 /// An entry that is written is read again.
 pub fn encode_then_decode()
@@ -83,6 +84,12 @@ pub fn inline_taken_apart()
     ensures one { (index data_bytes other_data : List ℕ) (revisions others : List Revision) → Holds true index data_bytes revisions → Holds true index other_data others → revisions ≡ others }
 {}
 
+/// An inline index that begins with bytes that hold revisions, whatever follows, is taken apart into an index and data that
+/// begin with bytes that hold them.
+pub fn inline_fronts_taken_apart()
+    ensures { (index data_bytes : List ℕ) (revisions : List Revision) → Begins true index data_bytes revisions → BeginsWithRevisions (index_apart index) (chunks_apart index) revisions }
+{}
+
 /// There is a node for each revision.
 pub fn nodes_are_counted()
     ensures { (revisions : List Revision) → length (nodes revisions) ≡ length revisions }
@@ -119,4 +126,28 @@ pub fn held_and_one_more()
         Fits (entry_after (length data_bytes) (nodes revisions) new) None →
         among (node_after (nodes revisions) new.revision) (null_node ∷ nodes revisions) ≡ false →
         HoldsRevisions (index ++ entry_bytes (entry_after (length data_bytes) (nodes revisions) new) (next_header revisions header)) (data_bytes ++ new.chunk) (revisions ++ new.revision ∷ []) }
+{}
+
+/// In the form that its index says, a revlog holds at most one list, begins with what it holds and with each front of what it
+/// begins with, and does so with any more bytes behind; a separate revlog holds its list so, and an index with a revision says
+/// its form, whatever stands behind it.
+pub fn either_form_holds()
+    ensures once { (index data_bytes : List ℕ) (revisions others : List Revision) → HoldsEither index data_bytes revisions → HoldsEither index data_bytes others → revisions ≡ others }
+    ensures begins { (index data_bytes : List ℕ) (revisions : List Revision) → HoldsEither index data_bytes revisions → BeginsEither index data_bytes revisions }
+    ensures fronts { (index data_bytes : List ℕ) (revisions front back : List Revision) → front ++ back ≡ revisions → BeginsEither index data_bytes revisions → BeginsEither index data_bytes front }
+    ensures more { (index data_bytes more more_data : List ℕ) (revisions : List Revision) → BeginsEither index data_bytes revisions → BeginsEither (index ++ more) (data_bytes ++ more_data) revisions }
+    ensures separate { (index data_bytes : List ℕ) (revisions : List Revision) → HoldsRevisions index data_bytes revisions → HoldsEither index data_bytes revisions }
+    ensures form { (inline : Bool) (index data_bytes more : List ℕ) (first : Revision) (revisions : List Revision) → Holds inline index data_bytes (first ∷ revisions) → is_inline (index ++ more) ≡ inline }
+{}
+
+/// Behind bytes that hold a list in either form, one more revision's entry with its chunk behind it, or the entry and the
+/// chunk by themselves, hold the list with it.
+pub fn held_and_one_more_in_either_form()
+    ensures { (inline : Bool) (index data_bytes : List ℕ) (revisions : List Revision) (new : Stored) (header : Header) →
+        Holds inline index data_bytes revisions → header.inline ≡ inline →
+        chunk_text new.chunk ≡ Some new.revision.text →
+        IfSome new.revision.parents.0 (λ p. p < length revisions) → IfSome new.revision.parents.1 (λ p. p < length revisions) →
+        Fits (entry_after (length (chunk_bytes inline index data_bytes)) (nodes revisions) new) None →
+        among (node_after (nodes revisions) new.revision) (null_node ∷ nodes revisions) ≡ false →
+        Holds inline (index ++ index_more inline (next_header revisions header) (record { entry = entry_after (length (chunk_bytes inline index data_bytes)) (nodes revisions) new; chunk = new.chunk })) (data_bytes ++ data_more inline new.chunk) (revisions ++ new.revision ∷ []) }
 {}

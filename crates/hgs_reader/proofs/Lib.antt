@@ -2,6 +2,7 @@ pub mod ChunkLemmas
 pub mod ContentLemmas
 pub mod FirstLemmas
 pub mod HeadLemmas
+pub mod InlineHeldLemmas
 pub mod ItemLemmas
 pub mod NumberLemmas
 pub mod TreeLemmas

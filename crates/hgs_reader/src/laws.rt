@@ -30,7 +30,7 @@ ghost use Rattle.hgs_load.specs.declared.answer.ReadAnswer.TheVariants.{UnknownP
 ghost use Rattle.hgs_load.specs.Asks.{at_rest, MayAnswer};
 ghost use Rattle.hgs_reader.specs.Contents.{manifest_index, manifest_data, most_files, most_file_text, tree_asks, files_text, files_asks, cat_asks};
 ghost use Rattle.hgs_reader.specs.Find.{has_node, separate_asks, text_asks};
-ghost use Rattle.hgs_reader.specs.Held.{HasText};
+ghost use Rattle.hgs_reader.specs.Held.{HasInlineText, HasText};
 ghost use Rattle.hgs_reader.specs.Line.{change_asks};
 ghost use Rattle.hgs_load.specs.Marks.{Nodes, Working, bookmarks_answer, bookmarks_path, dirstate_answer, dirstate_path, roots_answer, roots_path, working_answer};
 ghost use Rattle.hgs_load.specs.Open.{bookmarks_asks, dirstate_asks, log_asks, log_of, most_bookmarks_text, most_dirstate, most_requires, most_roots, open_asks, requires_asks, requires_path, roots_asks};
@@ -39,12 +39,20 @@ ghost use Rattle.hgs_load.specs.Requirements.{requires_answer};
 ghost use Rattle.hgs_load.specs.View.{View, changelog_data, changelog_index};
 
 use hgs_index::laws::inline_taken_apart;
+use hgs_revlog::laws::inline_index;
 
 /// Where a revlog has a text with a node, that is what is found, whatever a writer has appended behind it.
 pub fn text_of_node_held()
     ensures { (t : Tree) (index chunks node text : List ℕ) → HasText t index chunks node text → at_rest t (text_asks index chunks node) ≡ Ok text }
 {
     inline_taken_apart();
+}
+
+/// So it is of an inline revlog, whatever stands beside its index: the chunk is taken from behind its entry.
+pub fn inline_text_of_node_held()
+    ensures { (t : Tree) (index chunks node text : List ℕ) → HasInlineText t index node text → at_rest t (text_asks index chunks node) ≡ Ok text }
+{
+    inline_index();
 }
 
 /// Of a separate index the first piece says so; then the text with a node is asked for as that of a separate revlog, whatever

@@ -69,7 +69,8 @@ impl Revlog {
     ///
     /// `standing` is the chunk of the revision that has the node already, given exactly where there is one. The node
     /// is taken from the text and the parents. That it is not the null node is not tested: no text is known whose node
-    /// that is, and what the laws say of a new revision has it as a premise. An inline revlog takes no revision yet.
+    /// that is, and what the laws say of a new revision has it as a premise. The entry and the chunk are the same in either
+    /// form, but that a first entry's header says it; in an inline revlog the chunk goes behind the entry.
     pub fn add(
         &self,
         text: &[u8],
@@ -78,7 +79,6 @@ impl Revlog {
         link: u32,
         standing: Option<&[u8]>,
     ) -> Result<Added, RevFault>
-        requires separate { self.now.inline ≡ false }
         requires first { IfSome p1 (λ rev. rev < length self.now.entries) }
         requires second { IfSome p2 (λ rev. rev < length self.now.entries) }
         requires link { link < 2 ^ 31 }

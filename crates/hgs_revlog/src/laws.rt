@@ -101,6 +101,14 @@ pub fn new_revision()
         Agrees (index ++ entry) (data_bytes ++ chunk) (with_entry log (next_entry log.entries r)).entries (revisions ++ r ∷ []) }
 {}
 
+/// What is written of a new revision in an inline revlog, its entry and behind it its chunk, appended to an index that holds
+/// the revisions before, makes one that holds the new one last.
+pub fn new_inline_revision()
+    ensures { (log : Log) (r : Revision) (standing : Option (List ℕ)) (entry chunk : List ℕ) (node : Node) → IfSome r.parents.0 (λ p. p < length log.entries) → IfSome r.parents.1 (λ p. p < length log.entries) → r.link < 2 ^ 31 → same null_node node.0 ≡ false →
+        added log r standing ≡ Ok (New entry chunk node) → log.inline ≡ true → (index data_bytes : List ℕ) (revisions : List Revision) → Holds true index data_bytes revisions → Agrees (index_apart index) (chunks_apart index) log.entries revisions →
+        Holds true (index ++ (entry ++ chunk)) data_bytes (revisions ++ r ∷ []) }
+{}
+
 /// A revision whose node stands is that revision exactly where the texts are the same, and the two parents in either
 /// order; else the two collide.
 pub fn standing_revision()

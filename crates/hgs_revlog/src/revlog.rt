@@ -71,7 +71,7 @@ fn ends(tail: &Tail, entry: &Entry) -> bool
 }
 
 impl Revlog {
-    /// A revlog without revisions. Takes no memory. An inline one takes no revision yet.
+    /// A revlog without revisions. Takes no memory.
     pub fn empty(alloc: Global, inline: bool) -> Revlog
         ensures { result ≡ record { inline = inline; entries = [] } }
     {

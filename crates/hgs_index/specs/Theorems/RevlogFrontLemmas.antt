@@ -14,15 +14,15 @@ use Rattle.hgs_index.specs.Revlog.{chunk_text, Stored, Item, entry_after, items_
 use Rattle.hgs_index.specs.Theorems.RevisionLemmas.{nodes_from-append, nodes-append}
 use Rattle.hgs_index.specs.Theorems.RevlogLemmas.{chunks_of, map-append, concat-append, items_from-append, index_bytes-append, entries_behind, HeldAs, held-more, begins-more}
 
-all-front : {A : Type 0} (P : A → Type 0) (xs ys : List A) → AllByRecursion P (xs ++ ys) → AllByRecursion P xs
+pub all-front : {A : Type 0} (P : A → Type 0) (xs ys : List A) → AllByRecursion P (xs ++ ys) → AllByRecursion P xs
 all-front P [] ys h = tt
 all-front P (x ∷ xs) ys h = (h.0, all-front P xs ys h.1)
 
-parents-front : (n : ℕ) (xs ys : List Parents) → ParentsBefore n (xs ++ ys) → ParentsBefore n xs
+pub parents-front : (n : ℕ) (xs ys : List Parents) → ParentsBefore n (xs ++ ys) → ParentsBefore n xs
 parents-front n [] ys h = tt
 parents-front n (x ∷ xs) ys h = (h.0, h.1, parents-front (suc n) xs ys h.2)
 
-or-false : (a b : Bool) → (a || b) ≡ false → (a ≡ false) × (b ≡ false)
+pub or-false : (a b : Bool) → (a || b) ≡ false → (a ≡ false) × (b ≡ false)
 or-false true b h = cc
 or-false false b h = (refl, h)
 
@@ -30,13 +30,13 @@ and-true : (a b : Bool) → (a && b) ≡ true → (a ≡ true) × (b ≡ true)
 and-true true b h = (refl, h)
 and-true false b h = cc
 
-among-front : (x : List ℕ) (xs ys : List (List ℕ)) → among x (xs ++ ys) ≡ false → among x xs ≡ false
+pub among-front : (x : List ℕ) (xs ys : List (List ℕ)) → among x (xs ++ ys) ≡ false → among x xs ≡ false
 among-front x [] ys h = refl
 among-front x (y ∷ xs) ys h =
     let p = or-false (same x y) (among x (xs ++ ys)) h in
     ap (λ b. b || among x xs) p.0 ∙ among-front x xs ys p.1
 
-among-both : (x : List ℕ) (xs ys : List (List ℕ)) → among x xs ≡ false → among x ys ≡ false → among x (xs ++ ys) ≡ false
+pub among-both : (x : List ℕ) (xs ys : List (List ℕ)) → among x xs ≡ false → among x ys ≡ false → among x (xs ++ ys) ≡ false
 among-both x [] ys h k = k
 among-both x (y ∷ xs) ys h k =
     let p = or-false (same x y) (among x xs) h in
@@ -46,19 +46,19 @@ not-true : (b : Bool) → not b ≡ true → b ≡ false
 not-true true h = cc
 not-true false h = refl
 
-different-front : (xs ys : List (List ℕ)) → all_different (xs ++ ys) ≡ true → all_different xs ≡ true
+pub different-front : (xs ys : List (List ℕ)) → all_different (xs ++ ys) ≡ true → all_different xs ≡ true
 different-front [] ys h = refl
 different-front (x ∷ xs) ys h =
     let p = and-true (not (among x (xs ++ ys))) (all_different (xs ++ ys)) h in
     ap (λ b. not b && all_different xs) (among-front x xs ys (not-true (among x (xs ++ ys)) p.0)) ∙ different-front xs ys p.1
 
-same-swap : (x y : List ℕ) → same x y ≡ false → same y x ≡ false
+pub same-swap : (x y : List ℕ) → same x y ≡ false → same y x ≡ false
 same-swap x y h = false_from_ne_true (same y x) (λ e. clash (ap (same x) (same-eq y x e) ∙ same-refl x))
   where
     clash : same x y ≡ true → ⊥
     clash k = cc
 
-different-last : (xs : List (List ℕ)) (y : List ℕ) → all_different xs ≡ true → among y xs ≡ false → all_different (xs ++ y ∷ []) ≡ true
+pub different-last : (xs : List (List ℕ)) (y : List ℕ) → all_different xs ≡ true → among y xs ≡ false → all_different (xs ++ y ∷ []) ≡ true
 different-last [] y h k = refl
 different-last (x ∷ xs) y h k =
     let p = and-true (not (among x xs)) (all_different xs) h in
@@ -68,7 +68,7 @@ different-last (x ∷ xs) y h k =
 
 -- ---- a front of what is held
 
-abbrev revisions_of : List Stored → List Revision
+abbrev pub revisions_of : List Stored → List Revision
 revisions_of stored = map (λ s. s.revision) stored
 
 pub record Halves (front more : List Revision) (stored : List Stored) : Type 0 where
@@ -87,7 +87,7 @@ with_one s r front more stored e h = record {
   rest = h.rest;
 }
 
-halves : (front more : List Revision) (stored : List Stored) → revisions_of stored ≡ front ++ more → Halves front more stored
+pub halves : (front more : List Revision) (stored : List Stored) → revisions_of stored ≡ front ++ more → Halves front more stored
 halves [] more stored e = record { first = []; second = stored; whole = refl; these = refl; rest = e }
 halves (r ∷ front) more [] e = cc
 halves (r ∷ front) more (s ∷ stored) e =
@@ -141,7 +141,7 @@ one_behind h [] (r ∷ revisions) e chunk separate these = cc
 one_behind h (s ∷ old) [] e chunk separate these = cc
 one_behind h (s ∷ old) (r ∷ revisions) e chunk separate these = append-nil (entry_bytes e None ++ cond h.inline chunk []) ∙ ap (λ b. entry_bytes e None ++ cond b chunk []) separate ∙ append-nil (entry_bytes e None)
 
-nodes-last : (revisions : List Revision) (r : Revision) → nodes (revisions ++ r ∷ []) ≡ nodes revisions ++ node_after (nodes revisions) r ∷ []
+pub nodes-last : (revisions : List Revision) (r : Revision) → nodes (revisions ++ r ∷ []) ≡ nodes revisions ++ node_after (nodes revisions) r ∷ []
 nodes-last revisions r = nodes_from-append [] revisions (r ∷ [])
 
 -- Behind the bytes that hold a list, the entry and the chunk of one more revision hold this too, with it stored last.

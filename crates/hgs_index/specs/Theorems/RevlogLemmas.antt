@@ -122,11 +122,11 @@ index_bytes-append h (i ∷ old) new =
     ap (λ l. item_bytes h (Some h) i ++ l) (flat_map-append (item_bytes h None) old new)
     ∙ sym (append_assoc (item_bytes h (Some h) i) (flat_map (item_bytes h None) old) (flat_map (item_bytes h None) new))
 
-parents-append : (n : ℕ) (xs ys : List Parents) → ParentsBefore n xs → ParentsBefore (n + length xs) ys → ParentsBefore n (xs ++ ys)
+pub parents-append : (n : ℕ) (xs ys : List Parents) → ParentsBefore n xs → ParentsBefore (n + length xs) ys → ParentsBefore n (xs ++ ys)
 parents-append n [] ys a b = subst (λ m. ParentsBefore m ys) (omega arith) b
 parents-append n (x ∷ xs) ys a b = (a.0, a.1, parents-append (suc n) xs ys a.2 (subst (λ m. ParentsBefore m ys) (omega arith) b))
 
-length-parents : (revisions : List Revision) → length (map (λ (r : Revision). r.parents) revisions) ≡ length revisions
+pub length-parents : (revisions : List Revision) → length (map (λ (r : Revision). r.parents) revisions) ≡ length revisions
 length-parents [] = refl
 length-parents (r ∷ revisions) = ap suc (length-parents revisions)
 

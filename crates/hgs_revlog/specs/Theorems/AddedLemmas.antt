@@ -8,10 +8,10 @@ use Rattle.hgs_index.specs.declared.node.Node.{Node}
 use Rattle.hgs_index.specs.declared.kinds.Which.TheVariants.{Changesets}
 use Rattle.hgs_index.specs.declared.entry.EntryFault.TheVariants.{HeaderFlags}
 use Rattle.hgs_index.specs.Entry.{entry_bytes, entry_at, header_at, Fits}
-use Rattle.hgs_index.specs.Inline.{says_inline}
+use Rattle.hgs_index.specs.Inline.{chunks_apart, index_apart, says_inline}
 use Rattle.hgs_index.specs.Node.{null_node}
 use Rattle.hgs_index.specs.Revision.{Revision, parent_node}
-use Rattle.hgs_index.specs.Revlog.{chunk_of, next_header}
+use Rattle.hgs_index.specs.Revlog.{Holds, chunk_of, next_header}
 use Rattle.hgs_index.specs.Theorems.EntryLemmas.{entry_again}
 use Rattle.hgs_index.specs.Theorems.RevlogLemmas.{chunk_text-chunk_of}
 use Rattle.hgs_revlog.specs.declared.add.Added.{Added}
@@ -27,7 +27,7 @@ use Rattle.hgs_revlog.specs.Theorems.LoadLemmas.{IsFaultless}
 use Rattle.hgs_revlog.specs.Theorems.LogLemmas.{length-nodes_of}
 use Rattle.hgs_revlog.specs.Theorems.TestLemmas.{number_test, at_most, at_most_test}
 use Rattle.hgs_revlog.specs.Theorems.AddLemmas.{length-chunk_of, length-node_hash, next_fits}
-use Rattle.hgs_revlog.specs.Theorems.HeldLemmas.{IsWhole, length-agrees, agrees_on}
+use Rattle.hgs_revlog.specs.Theorems.HeldLemmas.{IsWhole, length-agrees, agrees_on, holds_on}
 use Rattle.hgs_revlog.specs.Theorems.ReadLemmas.{fits_none}
 
 -- ---- the other way of the tests of an entry
@@ -163,7 +163,7 @@ new-named log r standing entry chunk node new =
     (parts.chunk_is, parts.node_is)
 
 module _ (log : Log) (r : Revision) (standing : Option (List ℕ)) (entry chunk : List ℕ) (node : Node)
-    (separate : log.inline ≡ false) (p1 : IfSome r.parents.0 (λ a. a < length log.entries)) (p2 : IfSome r.parents.1 (λ a. a < length log.entries)) (link : r.link < 2 ^ 31)
+    (p1 : IfSome r.parents.0 (λ a. a < length log.entries)) (p2 : IfSome r.parents.1 (λ a. a < length log.entries)) (link : r.link < 2 ^ 31)
     (not_null : same null_node node.0 ≡ false) (new : added log r standing ≡ Ok (New entry chunk node)) where
   fresh : place_of log.entries (next_entry log.entries r).node.0 ≡ None
   fresh = (new_fresh log r standing (place_of log.entries (next_entry log.entries r).node.0) entry chunk node new).0
@@ -193,11 +193,35 @@ module _ (log : Log) (r : Revision) (standing : Option (List ℕ)) (entry chunk 
       let chunk = length-chunk_of r.text in
       next_fits log (next_entry log.entries r) refl (omega arith) refl (omega arith) (omega arith) (let n = length-nodes_of log.entries in omega (arith, n)) link p1 p2 (omega arith) (length-node_hash (parent_node (nodes_of log.entries) r.parents.0) (parent_node (nodes_of log.entries) r.parents.1) r.text)
 
+  -- behind an inline index that holds the revisions of the log, the entry and the chunk hold them and the new one last
+  pub new-inline-held : log.inline ≡ true → (index data_bytes : List ℕ) (revisions : List Revision) → Holds true index data_bytes revisions → Agrees (index_apart index) (chunks_apart index) log.entries revisions → Holds true (index ++ (entry ++ chunk)) data_bytes (revisions ++ r ∷ [])
+  new-inline-held inline index data_bytes revisions held h =
+      let e = next_entry log.entries r in
+      let header = header_same log revisions (length-agrees (index_apart index) (chunks_apart index) log.entries revisions h) in
+      subst (λ b. Holds true (index ++ (b ++ chunk)) data_bytes (revisions ++ r ∷ [])) (ap (entry_bytes e) (sym header) ∙ sym parts.entry_is)
+      (subst (λ c. Holds true (index ++ (entry_bytes e (next_header revisions (record { inline = log.inline; generaldelta = false })) ++ c)) data_bytes (revisions ++ r ∷ [])) (sym parts.chunk_is)
+      (holds_on index data_bytes log.entries revisions e (chunk_of r.text) r.text (record { inline = log.inline; generaldelta = false }) held h new_faultless new_whole (fits_none e (new_header log) new_fits) inline))
+
+module _ (log : Log) (r : Revision) (standing : Option (List ℕ)) (entry chunk : List ℕ) (node : Node)
+    (separate : log.inline ≡ false) (p1 : IfSome r.parents.0 (λ a. a < length log.entries)) (p2 : IfSome r.parents.1 (λ a. a < length log.entries)) (link : r.link < 2 ^ 31)
+    (not_null : same null_node node.0 ≡ false) (new : added log r standing ≡ Ok (New entry chunk node)) where
+  is_new : IsNew log r entry chunk node
+  is_new = parts log r standing entry chunk node p1 p2 link not_null new
+
+  faultless : IsFaultless log.entries (next_entry log.entries r)
+  faultless = new_faultless log r standing entry chunk node p1 p2 link not_null new
+
+  whole : IsWhole log.entries (next_entry log.entries r) (chunk_of r.text) r.text
+  whole = new_whole log r standing entry chunk node p1 p2 link not_null new
+
+  fits : Fits (next_entry log.entries r) (new_header log)
+  fits = new_fits log r standing entry chunk node p1 p2 link not_null new
+
   -- the entry that is written is read as this one
   pub new-entry : entry_behind log.entries entry ≡ Ok (next_entry log.entries r)
   new-entry =
-      ap (entry_behind log.entries) parts.entry_is
-      ∙ (taken_again log.entries (next_entry log.entries r) (new_header log) parts.few new_faultless new_fits (header_separate log (length log.entries == 0) separate) (header_first log) (first_header log))
+      ap (entry_behind log.entries) is_new.entry_is
+      ∙ (taken_again log.entries (next_entry log.entries r) (new_header log) is_new.few faultless fits (header_separate log (length log.entries == 0) separate) (header_first log) (first_header log))
 
   pub new-may-be-pushed : IsOk (entry_behind log.entries entry)
   new-may-be-pushed = subst IsOk (sym new-entry) ok
@@ -214,6 +238,6 @@ module _ (log : Log) (r : Revision) (standing : Option (List ℕ)) (entry chunk 
   new-held index data_bytes revisions h =
       let e = next_entry log.entries r in
       let header = header_same log revisions (length-agrees index data_bytes log.entries revisions h) in
-      subst (λ b. Agrees (index ++ b) (data_bytes ++ chunk) (log.entries ++ e ∷ []) (revisions ++ r ∷ [])) (ap (entry_bytes e) (sym header) ∙ sym parts.entry_is)
-      (subst (λ c. Agrees (index ++ entry_bytes e (next_header revisions (record { inline = log.inline; generaldelta = false }))) (data_bytes ++ c) (log.entries ++ e ∷ []) (revisions ++ r ∷ [])) (sym parts.chunk_is)
-      (agrees_on index data_bytes log.entries revisions e (chunk_of r.text) r.text (record { inline = log.inline; generaldelta = false }) h new_faultless new_whole (fits_none e (new_header log) new_fits) separate))
+      subst (λ b. Agrees (index ++ b) (data_bytes ++ chunk) (log.entries ++ e ∷ []) (revisions ++ r ∷ [])) (ap (entry_bytes e) (sym header) ∙ sym is_new.entry_is)
+      (subst (λ c. Agrees (index ++ entry_bytes e (next_header revisions (record { inline = log.inline; generaldelta = false }))) (data_bytes ++ c) (log.entries ++ e ∷ []) (revisions ++ r ∷ [])) (sym is_new.chunk_is)
+      (agrees_on index data_bytes log.entries revisions e (chunk_of r.text) r.text (record { inline = log.inline; generaldelta = false }) h faultless whole (fits_none e (new_header log) fits) separate))

@@ -7,9 +7,11 @@ use Rattle.hgs_bytes.specs.Bytes.{same, among}
 use Rattle.hgs_index.specs.declared.entry.Entry.{Entry}
 use Rattle.hgs_index.specs.declared.entry.Header.{Header}
 use Rattle.hgs_index.specs.Entry.{entry_bytes, Fits}
+use Rattle.hgs_index.specs.Inline.{chunks_apart, index_apart}
 use Rattle.hgs_index.specs.Node.{null_node, node_hash}
 use Rattle.hgs_index.specs.Revision.{Revision, nodes, nodes_from, node_after, parent_node}
-use Rattle.hgs_index.specs.Revlog.{Stored, Item, chunk_text, entry_after, items_from, items, next_header}
+use Rattle.hgs_index.specs.Revlog.{Holds, Stored, Item, chunk_text, entry_after, items_from, items, next_header}
+use Rattle.hgs_index.specs.Theorems.EitherLemmas.{form-one-more}
 use Rattle.hgs_index.specs.Theorems.RevisionLemmas.{length-nodes_from}
 use Rattle.hgs_index.specs.Theorems.RevlogFrontLemmas.{held-one-more}
 use Rattle.hgs_index.specs.Theorems.RevlogLemmas.{chunks_of, items-more, map-append}
@@ -134,3 +136,21 @@ agrees_on index data_bytes entries revisions e chunk text header h f w fits sepa
     ap (λ l. entries_of (items l)) more.1 ∙ ap entries_of (items-more index data_bytes revisions h.held (s ∷ [])) ∙ map-append (λ (i : Item). i.entry) (items h.held.stored) _ in
     subst (λ x. Agrees (index ++ entry_bytes x (next_header revisions header)) (data_bytes ++ chunk) (entries ++ x ∷ []) (revisions ++ revision_of e text ∷ [])) (sym is)
     (record { held = more.0; entries_are = ap (λ l. l ++ next ∷ []) h.entries_are ∙ sym entries_are })
+
+-- The same behind an inline index that holds revisions, where the chunk stands behind the entry.
+pub holds_on : (index data_bytes : List ℕ) (entries : List Entry) (revisions : List Revision) (e : Entry) (chunk text : List ℕ) (header : Header)
+    → Holds true index data_bytes revisions → Agrees (index_apart index) (chunks_apart index) entries revisions → IsFaultless entries e → IsWhole entries e chunk text → Fits e None → header.inline ≡ true
+    → Holds true (index ++ (entry_bytes e (next_header revisions header) ++ chunk)) data_bytes (revisions ++ revision_of e text ∷ [])
+holds_on index data_bytes entries revisions e chunk text header held h f w fits inline =
+    let s = stored_of e chunk text in
+    let next = entry_after (length (chunks_apart index)) (nodes revisions) s in
+    let is : e ≡ next = entry_is (index_apart index) (chunks_apart index) entries revisions e chunk text h f.offset w in
+    let len = length-agrees (index_apart index) (chunks_apart index) entries revisions h in
+    let fresh : among e.node.0 (null_node ∷ nodes revisions) ≡ false =
+    ap (λ known. same e.node.0 null_node || among e.node.0 known) (sym (nodes_of-agrees (index_apart index) (chunks_apart index) entries revisions h))
+    ∙ ap (λ b. b || among e.node.0 (nodes_of entries)) (swap_same null_node e.node.0 f.named) ∙ not_among entries e.node.0 f.fresh in
+    subst (λ x. Holds true (index ++ (entry_bytes x (next_header revisions header) ++ chunk)) data_bytes (revisions ++ revision_of e text ∷ [])) (sym is)
+    (subst (λ d. Holds true (index ++ (entry_bytes next (next_header revisions header) ++ chunk)) d (revisions ++ revision_of e text ∷ [])) (append-nil data_bytes)
+    (form-one-more true index data_bytes revisions s header held inline w.spells
+    (subst (λ n. IfSome e.p1 (λ p. p < n)) len (below (length entries) e.p1 f.first)) (subst (λ n. IfSome e.p2 (λ p. p < n)) len (below (length entries) e.p2 f.second))
+    (subst (λ x. Fits x None) is fits) (subst (λ x. among x.node.0 (null_node ∷ nodes revisions) ≡ false) is fresh)))

@@ -1,8 +1,8 @@
-use Rattle.std.proofs.Common.{◌≡◌, ◌++◌, ◌<◌, ◌≤◌, [], drop, length, Some, inl, inr, sym, ◌∙◌, ap, arith, append-nil}
+use Rattle.std.proofs.Common.{◌≡◌, ◌++◌, ◌<◌, drop, length, Some, inl, inr, sym, ◌∙◌, ap, arith, append-nil}
 use Rattle.std.proofs.Math.Seq.{drop-length}
 use Rattle.std.proofs.lemmas.List.Folds.{drop_split}
 use Rattle.std.specs.List.{slice_range}
-use Rattle.hgs_index.proofs.InlineLemmas.{item-found, item-refused}
+use Rattle.hgs_index.specs.Theorems.InlineLemmas.{item-found, item-refused}
 use Rattle.hgs_index.proofs.inline.whole_item.Goals as goal
 
 pub returns-in-Some-get : goal.returns-in-Some-get

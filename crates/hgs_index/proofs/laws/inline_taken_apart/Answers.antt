@@ -1,4 +1,4 @@
-use Rattle.hgs_index.proofs.InlineLemmas.{apart-held, fronts-separate, held-apart, held-plain, inline-unique}
+use Rattle.hgs_index.specs.Theorems.InlineLemmas.{apart-held, fronts-separate, held-apart, held-plain, inline-unique}
 use Rattle.hgs_index.proofs.laws.inline_taken_apart.Goals as goal
 
 pub returns-clause-apart : goal.returns-clause-apart

@@ -1,5 +1,5 @@
 -- An inline index and the separate revlog that it stands for.
-use Rattle.std.proofs.Common.{◌≡◌, ℕ, zero, suc, ◌+◌, ◌-◌, ◌%◌, ◌<◌, ◌≤◌, List, [], ◌∷◌, ◌++◌, Bool, true, false, cond, ◌&&◌, ◌||◌, not, length, take, drop, map, Option, Some, None, Result, Ok, Err, refl, sym, ◌∙◌, ap, subst, arith, append_assoc, append-nil, length-append}
+use Rattle.std.proofs.Common.{◌≡◌, ℕ, zero, suc, ◌+◌, ◌-◌, ◌%◌, ◌<◌, ◌≤◌, List, [], ◌∷◌, ◌++◌, Bool, true, false, cond, ◌&&◌, ◌||◌, not, length, take, drop, map, Option, Some, None, Ok, Err, refl, sym, ◌∙◌, ap, arith, append_assoc, append-nil, length-append}
 use Rattle.std.specs.Prelude.{flat_map, nat_le, nat_lt, ◌==◌}
 use Rattle.std.specs.Int.{w16, w32, from_be_bytes}
 use Rattle.std.specs.List.{AllByRecursion, concat}
@@ -11,39 +11,39 @@ use Rattle.hgs_index.specs.declared.entry.EntryFault.TheVariants.{Version, Heade
 use Rattle.hgs_index.specs.Entry.{entry_bytes, part, number_at, is_negative, has_bad_header, header_of, header_at, Fits}
 use Rattle.hgs_index.specs.Inline.{says_inline, is_inline, is_cut, whole_item, entries_in, chunks_in, without_inline, index_apart, chunks_apart}
 use Rattle.hgs_index.specs.Revision.{Revision, node_after}
-use Rattle.hgs_index.specs.Revlog.{Stored, Item, items_from, items, item_bytes, index_bytes, Holds, HoldsRevisions}
+use Rattle.hgs_index.specs.Revlog.{Stored, Item, entry_after, items_from, items, item_bytes, index_bytes, Holds, HoldsRevisions}
 use Rattle.hgs_index.specs.Theorems.EntryPartLemmas.{length-entry_bytes}
 use Rattle.hgs_index.specs.Theorems.UniqueLemmas.{chunk-same, held-unique}
 
 -- the entries alone, and each with its chunk
-abbrev cells : Option Header → List Item → List ℕ
+abbrev pub cells : Option Header → List Item → List ℕ
 cells first [] = []
 cells first (i ∷ is) = entry_bytes i.entry first ++ cells None is
 
-abbrev inlined : Option Header → List Item → List ℕ
+abbrev pub inlined : Option Header → List Item → List ℕ
 inlined first [] = []
 inlined first (i ∷ is) = (entry_bytes i.entry first ++ i.chunk) ++ inlined None is
 
-abbrev Fit : List Item → Type 0
+abbrev pub Fit : List Item → Type 0
 Fit is = AllByRecursion (λ (i : Item). Fits i.entry None) is
 
-abbrev AreStored : List Item → Type 0
+abbrev pub AreStored : List Item → Type 0
 AreStored is = AllByRecursion (λ (i : Item). length i.chunk ≡ i.entry.stored) is
 
-abbrev chunks_of_items : List Item → List ℕ
+abbrev pub chunks_of_items : List Item → List ℕ
 chunks_of_items is = concat (map (λ (i : Item). i.chunk) is)
 
-abbrev inline_header : Bool → Header
+abbrev pub inline_header : Bool → Header
 inline_header g = record { inline = true; generaldelta = g }
 
-abbrev plain_header : Bool → Header
+abbrev pub plain_header : Bool → Header
 plain_header g = record { inline = false; generaldelta = g }
 
 rest-plain : (g : Bool) (is : List Item) → flat_map (item_bytes (plain_header g) None) is ≡ cells None is
 rest-plain g [] = refl
 rest-plain g (i ∷ is) = ap (λ l. l ++ flat_map (item_bytes (plain_header g) None) is) (append-nil (entry_bytes i.entry None)) ∙ ap (λ l. entry_bytes i.entry None ++ l) (rest-plain g is)
 
-index-plain : (g : Bool) (is : List Item) → index_bytes (plain_header g) is ≡ cells (Some (plain_header g)) is
+pub index-plain : (g : Bool) (is : List Item) → index_bytes (plain_header g) is ≡ cells (Some (plain_header g)) is
 index-plain g [] = refl
 index-plain g (i ∷ is) = ap (λ l. l ++ flat_map (item_bytes (plain_header g) None) is) (append-nil (entry_bytes i.entry (Some (plain_header g)))) ∙ ap (λ l. entry_bytes i.entry (Some (plain_header g)) ++ l) (rest-plain g is)
 
@@ -51,13 +51,13 @@ rest-inline : (g : Bool) (is : List Item) → flat_map (item_bytes (inline_heade
 rest-inline g [] = refl
 rest-inline g (i ∷ is) = ap (λ l. (entry_bytes i.entry None ++ i.chunk) ++ l) (rest-inline g is)
 
-index-inline : (g : Bool) (is : List Item) → index_bytes (inline_header g) is ≡ inlined (Some (inline_header g)) is
+pub index-inline : (g : Bool) (is : List Item) → index_bytes (inline_header g) is ≡ inlined (Some (inline_header g)) is
 index-inline g [] = refl
 index-inline g (i ∷ is) = ap (λ l. (entry_bytes i.entry (Some (inline_header g)) ++ i.chunk) ++ l) (rest-inline g is)
 
 -- ---- one entry and its chunk
 
-stored-at : (e : Entry) (first : Option Header) (rest : List ℕ) → Fits e None → number_at 8 (entry_bytes e first ++ rest) ≡ e.stored
+pub stored-at : (e : Entry) (first : Option Header) (rest : List ℕ) → Fits e None → number_at 8 (entry_bytes e first ++ rest) ≡ e.stored
 stored-at e None rest fits = from_be_bytes-to_be_bytes_4 e.stored (let l = fits.stored in omega arith)
 stored-at e (Some h) rest fits = from_be_bytes-to_be_bytes_4 e.stored (let l = fits.stored in omega arith)
 
@@ -68,7 +68,7 @@ or-both a false c x y = ap (λ d. d || false) x
 least : (n len : ℕ) → n ≤ len → nat_lt len n ≡ false
 least n len h = grind arith
 
-whole-item : (e : Entry) (first : Option Header) (chunk rest : List ℕ) → Fits e None → length chunk ≡ e.stored → is_cut ((entry_bytes e first ++ chunk) ++ rest) ≡ false
+pub whole-item : (e : Entry) (first : Option Header) (chunk rest : List ℕ) → Fits e None → length chunk ≡ e.stored → is_cut ((entry_bytes e first ++ chunk) ++ rest) ≡ false
 whole-item e first chunk rest fits stored =
     let bytes = (entry_bytes e first ++ chunk) ++ rest in
     let n : number_at 8 bytes ≡ e.stored = ap (number_at 8) (append_assoc (entry_bytes e first) chunk rest) ∙ stored-at e first (chunk ++ rest) fits in
@@ -83,10 +83,10 @@ module _ (e : Entry) (first : Option Header) (chunk rest : List ℕ) (fits : Fit
   item-parts : item ≡ entry_bytes e first ++ (chunk ++ rest)
   item-parts = append_assoc (entry_bytes e first) chunk rest
 
-  item-stored : number_at 8 item ≡ e.stored
+  pub item-stored : number_at 8 item ≡ e.stored
   item-stored = ap (number_at 8) item-parts ∙ stored-at e first (chunk ++ rest) fits
 
-  item-cell : take 64 item ≡ entry_bytes e first
+  pub item-cell : take 64 item ≡ entry_bytes e first
   item-cell = ap (take 64) item-parts ∙ take_at (entry_bytes e first) (chunk ++ rest) 64 (length-entry_bytes e first fits.node)
 
   item-behind : drop 64 item ≡ chunk ++ rest
@@ -95,15 +95,15 @@ module _ (e : Entry) (first : Option Header) (chunk rest : List ℕ) (fits : Fit
   item-chunk : part 64 (number_at 8 item) item ≡ chunk
   item-chunk = ap (λ n. take n (drop 64 item)) item-stored ∙ ap (take e.stored) item-behind ∙ take_at chunk rest e.stored stored
 
-  item-rest : drop (64 + number_at 8 item) item ≡ rest
+  pub item-rest : drop (64 + number_at 8 item) item ≡ rest
   item-rest = ap (λ n. drop (64 + n) item) item-stored ∙ sym (drop-drop e.stored 64 item) ∙ ap (drop e.stored) item-behind ∙ drop_at chunk rest e.stored stored
 
-  entries-item : (n : ℕ) → entries_in (suc n) item ≡ entry_bytes e first ++ entries_in n rest
+  pub entries-item : (n : ℕ) → entries_in (suc n) item ≡ entry_bytes e first ++ entries_in n rest
   entries-item n =
       ap (λ b. cond b (take 63 item) (take 64 item ++ entries_in n (drop (64 + number_at 8 item) item))) (whole-item e first chunk rest fits stored)
       ∙ (λ i. item-cell i ++ entries_in n (item-rest i))
 
-  chunks-item : (n : ℕ) → chunks_in (suc n) item ≡ chunk ++ chunks_in n rest
+  pub chunks-item : (n : ℕ) → chunks_in (suc n) item ≡ chunk ++ chunks_in n rest
   chunks-item n =
       ap (λ b. cond b [] (part 64 (number_at 8 item) item ++ chunks_in n (drop (64 + number_at 8 item) item))) (whole-item e first chunk rest fits stored)
       ∙ (λ i. item-chunk i ++ chunks_in n (item-rest i))
@@ -114,7 +114,7 @@ empty : (xs : List ℕ) → length xs ≤ 0 → xs ≡ []
 empty [] h = refl
 empty (x ∷ xs) h = absurd (omega (arith, h))
 
-number-in-cell : (bytes : List ℕ) → number_at 8 (take 64 bytes) ≡ number_at 8 bytes
+pub number-in-cell : (bytes : List ℕ) → number_at 8 (take 64 bytes) ≡ number_at 8 bytes
 number-in-cell bytes = ap (λ l. from_be_bytes w32 (take 4 l)) (drop-take 8 56 bytes) ∙ ap (from_be_bytes w32) (take-take 4 56 (drop 8 bytes) (omega arith))
 
 pub item-found : (bytes cell behind : List ℕ) (n : ℕ) → cell ≡ take 64 bytes → behind ≡ drop 64 bytes → 64 ≤ length bytes → n ≡ number_at 8 cell → n ≤ length behind → whole_item bytes ≡ Some (cell, drop n behind)
@@ -145,7 +145,7 @@ item-refused bytes cell behind n front back-is whole number short high =
 
 -- ---- all of them
 
-entries-none : (n : ℕ) → entries_in n [] ≡ []
+pub entries-none : (n : ℕ) → entries_in n [] ≡ []
 entries-none zero = refl
 entries-none (suc n) = refl
 
@@ -153,43 +153,43 @@ chunks-none : (n : ℕ) → chunks_in n [] ≡ []
 chunks-none zero = refl
 chunks-none (suc n) = refl
 
-entries-inlined : (n : ℕ) (first : Option Header) (is : List Item) → length is ≤ n → Fit is → AreStored is → entries_in n (inlined first is) ≡ cells first is
+pub entries-inlined : (n : ℕ) (first : Option Header) (is : List Item) → length is ≤ n → Fit is → AreStored is → entries_in n (inlined first is) ≡ cells first is
 entries-inlined n first [] few fits stored = entries-none n
 entries-inlined zero first (i ∷ is) few fits stored = absurd (omega (arith, few))
 entries-inlined (suc n) first (i ∷ is) few fits stored =
     entries-item i.entry first i.chunk (inlined None is) fits.0 stored.0 n ∙ ap (λ l. entry_bytes i.entry first ++ l) (entries-inlined n None is (omega (arith, few)) fits.1 stored.1)
 
-chunks-inlined : (n : ℕ) (first : Option Header) (is : List Item) → length is ≤ n → Fit is → AreStored is → chunks_in n (inlined first is) ≡ chunks_of_items is
+pub chunks-inlined : (n : ℕ) (first : Option Header) (is : List Item) → length is ≤ n → Fit is → AreStored is → chunks_in n (inlined first is) ≡ chunks_of_items is
 chunks-inlined n first [] few fits stored = chunks-none n
 chunks-inlined zero first (i ∷ is) few fits stored = absurd (omega (arith, few))
 chunks-inlined (suc n) first (i ∷ is) few fits stored =
     chunks-item i.entry first i.chunk (inlined None is) fits.0 stored.0 n ∙ ap (λ l. i.chunk ++ l) (chunks-inlined n None is (omega (arith, few)) fits.1 stored.1)
 
-few-items : (first : Option Header) (is : List Item) → Fit is → length is ≤ length (inlined first is)
+pub few-items : (first : Option Header) (is : List Item) → Fit is → length is ≤ length (inlined first is)
 few-items first [] fits = omega arith
 few-items first (i ∷ is) fits =
     let rest = few-items None is fits.1 in
     omega (arith, rest, length-append (entry_bytes i.entry first ++ i.chunk) (inlined None is), length-append (entry_bytes i.entry first) i.chunk, length-entry_bytes i.entry first fits.0.node)
 
-items-stored : (offset : ℕ) (known : List (List ℕ)) (stored : List Stored) → AreStored (items_from offset known stored)
+pub items-stored : (offset : ℕ) (known : List (List ℕ)) (stored : List Stored) → AreStored (items_from offset known stored)
 items-stored offset known [] = tt
 items-stored offset known (s ∷ stored) = (refl, items-stored (offset + length s.chunk) (known ++ node_after known s.revision ∷ []) stored)
 
-item-chunks : (offset : ℕ) (known : List (List ℕ)) (stored : List Stored) → chunks_of_items (items_from offset known stored) ≡ concat (map (λ s. s.chunk) stored)
+pub item-chunks : (offset : ℕ) (known : List (List ℕ)) (stored : List Stored) → chunks_of_items (items_from offset known stored) ≡ concat (map (λ s. s.chunk) stored)
 item-chunks offset known [] = refl
 item-chunks offset known (s ∷ stored) = ap (λ l. s.chunk ++ l) (item-chunks (offset + length s.chunk) (known ++ node_after known s.revision ∷ []) stored)
 
 -- ---- the header
 
-plain-cells : (g : Bool) (is : List Item) → without_inline (cells (Some (inline_header g)) is) ≡ cells (Some (plain_header g)) is
+pub plain-cells : (g : Bool) (is : List Item) → without_inline (cells (Some (inline_header g)) is) ≡ cells (Some (plain_header g)) is
 plain-cells g [] = refl
 plain-cells true (i ∷ is) = refl
 plain-cells false (i ∷ is) = refl
 
-at-least : (n len : ℕ) → n ≤ len → nat_le n len ≡ true
+pub at-least : (n len : ℕ) → n ≤ len → nat_le n len ≡ true
 at-least n len h = grind arith
 
-is-inlined : (g : Bool) (i : Item) (is : List Item) → Fits i.entry None → is_inline (inlined (Some (inline_header g)) (i ∷ is)) ≡ true
+pub is-inlined : (g : Bool) (i : Item) (is : List Item) → Fits i.entry None → is_inline (inlined (Some (inline_header g)) (i ∷ is)) ≡ true
 is-inlined g i is fits =
     let first = Some (inline_header g) in
     let bytes = inlined first (i ∷ is) in
@@ -208,8 +208,17 @@ apart-inlined g (i ∷ is) fits stored =
     ∙ ap without_inline (entries-inlined (length bytes) (Some (inline_header g)) (i ∷ is) (few-items (Some (inline_header g)) (i ∷ is) fits) fits stored)
     ∙ plain-cells g (i ∷ is)
 
-header-is : (b : Bool) (h : Header) → h.inline ≡ b → h ≡ record { inline = b; generaldelta = h.generaldelta }
+pub header-is : (b : Bool) (h : Header) → h.inline ≡ b → h ≡ record { inline = b; generaldelta = h.generaldelta }
 header-is b h form = λ i. record { inline = form i; generaldelta = h.generaldelta }
+
+-- the chunks that an inline index is taken apart into are those of the revisions that it holds
+pub apart-chunks : (index data_bytes : List ℕ) (revisions : List Revision) (h : Holds true index data_bytes revisions) → chunks_apart index ≡ concat (map (λ s. s.chunk) h.stored)
+apart-chunks index data_bytes revisions h =
+    let is = items h.stored in
+    let g = h.header.generaldelta in
+    let first = Some (inline_header g) in
+    let spelled : index ≡ inlined first is = h.index_is ∙ ap (λ k. index_bytes k is) (header-is true h.header h.form) ∙ index-inline g is in
+    ap chunks_apart spelled ∙ chunks-inlined (length (inlined first is)) first is (few-items first is h.fits) h.fits (items-stored 0 [] h.stored) ∙ item-chunks 0 [] h.stored
 
 -- An inline index that holds revisions is taken apart into an index and data that hold them.
 pub held-apart : (index data_bytes : List ℕ) (revisions : List Revision) → Holds true index data_bytes revisions → HoldsRevisions (index_apart index) (chunks_apart index) revisions
@@ -230,8 +239,76 @@ held-apart index data_bytes revisions h =
       not_null = h.not_null;
       form = refl;
       index_is = ap index_apart spelled ∙ apart-inlined g is h.fits stored ∙ sym (index-plain g is);
-      data_is = ap chunks_apart spelled ∙ chunks-inlined (length (inlined first is)) first is (few-items first is h.fits) h.fits stored ∙ item-chunks 0 [] h.stored;
+      data_is = apart-chunks index data_bytes revisions h;
     }
+
+-- ---- what stands behind
+
+pub entries-behind : (n : ℕ) (first : Option Header) (is : List Item) (more : List ℕ) → length is ≤ n → Fit is → AreStored is → (rest : List ℕ) × (entries_in n (inlined first is ++ more) ≡ cells first is ++ rest)
+entries-behind n first [] more few fits stored = (entries_in n more, refl)
+entries-behind zero first (i ∷ is) more few fits stored = absurd (omega (arith, few))
+entries-behind (suc n) first (i ∷ is) more few fits stored =
+    let behind = entries-behind n None is more (omega (arith, few)) fits.1 stored.1 in (
+      behind.0,
+      ap (entries_in (suc n)) (append_assoc (entry_bytes i.entry first ++ i.chunk) (inlined None is) more)
+          ∙ entries-item i.entry first i.chunk (inlined None is ++ more) fits.0 stored.0 n
+          ∙ ap (λ l. entry_bytes i.entry first ++ l) behind.1
+          ∙ sym (append_assoc (entry_bytes i.entry first) (cells None is) behind.0),
+    )
+
+pub chunks-behind : (n : ℕ) (first : Option Header) (is : List Item) (more : List ℕ) → length is ≤ n → Fit is → AreStored is → (rest : List ℕ) × (chunks_in n (inlined first is ++ more) ≡ chunks_of_items is ++ rest)
+chunks-behind n first [] more few fits stored = (chunks_in n more, refl)
+chunks-behind zero first (i ∷ is) more few fits stored = absurd (omega (arith, few))
+chunks-behind (suc n) first (i ∷ is) more few fits stored =
+    let behind = chunks-behind n None is more (omega (arith, few)) fits.1 stored.1 in (
+      behind.0,
+      ap (chunks_in (suc n)) (append_assoc (entry_bytes i.entry first ++ i.chunk) (inlined None is) more)
+          ∙ chunks-item i.entry first i.chunk (inlined None is ++ more) fits.0 stored.0 n
+          ∙ ap (λ l. i.chunk ++ l) behind.1
+          ∙ sym (append_assoc i.chunk (chunks_of_items is) behind.0),
+    )
+
+-- the header of an entry is changed in front of what follows
+cleared-front : (g : Bool) (i : Item) (is : List Item) (rest : List ℕ) → without_inline (cells (Some (inline_header g)) (i ∷ is) ++ rest) ≡ without_inline (cells (Some (inline_header g)) (i ∷ is)) ++ rest
+cleared-front true i is rest = refl
+cleared-front false i is rest = refl
+
+-- The same where more stands behind the bytes that hold revisions: what they are taken apart into is in front.
+pub apart-front : (front more data_bytes : List ℕ) (r : Revision) (revisions : List Revision) → is_inline (front ++ more) ≡ true → Holds true front data_bytes (r ∷ revisions)
+    → ((rest : List ℕ) × (index_apart (front ++ more) ≡ index_apart front ++ rest)) × ((rest : List ℕ) × (chunks_apart (front ++ more) ≡ chunks_apart front ++ rest))
+apart-front front more data_bytes r revisions inline h = by h.stored h.these h.fits (h.index_is ∙ ap (λ k. index_bytes k (items h.stored)) (header-is true h.header h.form) ∙ index-inline h.header.generaldelta (items h.stored))
+  where
+    g : Bool
+    g = h.header.generaldelta
+
+    first : Option Header
+    first = Some (inline_header g)
+
+    n : ℕ
+    n = length (front ++ more)
+
+    by : (stored : List Stored) → map (λ s. s.revision) stored ≡ r ∷ revisions → Fit (items stored) → front ≡ inlined first (items stored)
+        → ((rest : List ℕ) × (index_apart (front ++ more) ≡ index_apart front ++ rest)) × ((rest : List ℕ) × (chunks_apart (front ++ more) ≡ chunks_apart front ++ rest))
+    by [] these fits is = cc
+    by (s ∷ stored) these fits is =
+        let all : List Item = items (s ∷ stored) in
+        let few : length all ≤ n = (let k = few-items first all fits in omega (arith, k, ap length is, length-append front more)) in
+        let kept = items-stored 0 [] (s ∷ stored) in
+        let entries = entries-behind n first all more few fits kept in
+        let chunks = chunks-behind n first all more few fits kept in (
+          (
+            entries.0,
+            ap (λ b. cond b (without_inline (entries_in n (front ++ more))) (front ++ more)) inline
+                ∙ ap (λ l. without_inline (entries_in n (l ++ more))) is ∙ ap without_inline entries.1
+                ∙ cleared-front g (record { entry = entry_after 0 [] s; chunk = s.chunk }) (items_from (0 + length s.chunk) (node_after [] s.revision ∷ []) stored) entries.0
+                ∙ ap (λ l. l ++ entries.0) (plain-cells g all ∙ sym (apart-inlined g all fits kept) ∙ ap index_apart (sym is)),
+          ),
+          (
+            chunks.0,
+            ap (λ l. chunks_in n (l ++ more)) is ∙ chunks.1
+                ∙ ap (λ l. l ++ chunks.0) (sym (chunks-inlined (length (inlined first all)) first all (few-items first all fits) fits kept) ∙ ap chunks_apart (sym is)),
+          ),
+        )
 
 -- ---- back
 
