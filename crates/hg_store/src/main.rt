@@ -61,7 +61,11 @@ fn make_store(rt: &HostRuntime, words: &[String]) {
         Err(error) => error.kind() == ErrorKind::NotFound,
         Ok(_) => false,
     };
-    if is_new && matches!(asked_by(words), Ok(Asked::Order(Order::Init))) {
+    let makes = matches!(
+        asked_by(words),
+        Ok(Asked::Order(Order::Init) | Asked::Generate { .. })
+    );
+    if is_new && makes {
         let _ = fs::create_dir_all(rt, ".hg/store");
     }
 }

@@ -1,5 +1,5 @@
 -- Why a command ends with a status, and which statuses there are.
-use Rattle.std.proofs.Common.{◌≡◌, ◌⊎◌, inl, inr, ℕ, zero, suc, List, [], ◌∷◌, refl, sym, ◌∙◌, subst, arith}
+use Rattle.std.proofs.Common.{◌≡◌, ◌⊎◌, inl, inr, ℕ, zero, suc, List, [], ◌∷◌, ◌++◌, refl, sym, ◌∙◌, subst, arith}
 use Rattle.hgs_answers.specs.Answer.{status_of as answer_status}
 use Rattle.hgs_answers.specs.declared.outcome.Outcome.{Outcome}
 use Rattle.hgs_answers.specs.declared.outcome.Outcome.TheVariants as outcomes
@@ -12,7 +12,7 @@ use Rattle.hgs_top.specs.declared.ended.Ended.TheVariants.{Made, Exists, NotMade
 use Rattle.hgs_recover.specs.Answer.{status_of as recover_status}
 use Rattle.hgs_recover.specs.declared.answer.RecoverAnswer.{RecoverAnswer}
 use Rattle.hgs_recover.specs.declared.answer.RecoverAnswer.TheVariants as recoveries
-use Rattle.hgs_top.specs.Orders.{AnswerHasCause, RecoveredHasCause, HasCause, ended_status}
+use Rattle.hgs_top.specs.Orders.{AnswerHasCause, RecoveredHasCause, HasCause, IsNotMade, ended_status}
 use Rattle.hgs_top.specs.Run.{IsOneOf}
 
 module _ (f0 f1 d0 d1 : ℕ) where
@@ -231,3 +231,22 @@ says_status status ended (inl s) = let P : ℕ → Type 0 = λ n. IsOneOf status
 says_status status ended (inr (inl s)) = let P : ℕ → Type 0 = λ n. IsOneOf statuses n in subst P (sym s) (is_one 20 statuses 30 refl)
 says_status status ended (inr (inr (inl s))) = let P : ℕ → Type 0 = λ n. IsOneOf statuses n in subst P (sym s) (ended_among ended)
 says_status status ended (inr (inr (inr none))) = absurd none
+
+-- one more status among them
+among-more : (xs ys : List ℕ) (x n : ℕ) → IsOneOf (xs ++ ys) n → IsOneOf (xs ++ x ∷ ys) n
+among-more [] ys x n h = inr h
+among-more (y ∷ xs) ys x n (inl h) = inl h
+among-more (y ∷ xs) ys x n (inr h) = inr (among-more xs ys x n h)
+
+pub with_findings : (n : ℕ) → IsOneOf statuses n → IsOneOf (0 ∷ 1 ∷ 10 ∷ 11 ∷ 12 ∷ 13 ∷ 14 ∷ 15 ∷ 16 ∷ 17 ∷ 18 ∷ 19 ∷ 20 ∷ 21 ∷ 22 ∷ 23 ∷ 24 ∷ 25 ∷ 26 ∷ 27 ∷ 29 ∷ 30 ∷ 34 ∷ []) n
+with_findings n h = among-more (0 ∷ 1 ∷ 10 ∷ 11 ∷ 12 ∷ 13 ∷ 14 ∷ 15 ∷ 16 ∷ 17 ∷ 18 ∷ 19 ∷ 20 ∷ 21 ∷ 22 ∷ 23 ∷ 24 ∷ 25 ∷ 26 ∷ 27 ∷ []) (30 ∷ 34 ∷ []) 29 n h
+
+pub not-made : (ended : Ended) → (ended ≡ Made → ⊥) → IsNotMade ended
+not-made Made h = h refl
+not-made Exists h = tt
+not-made (NotMade fault) h = tt
+not-made NoInput h = tt
+not-made (NoRecord fault) h = tt
+not-made (Refused refusal) h = tt
+not-made (Answered command answer) h = tt
+not-made (Recovered r) h = tt

@@ -6,7 +6,7 @@ use Rattle.hgs_index.specs.MarkName.{is_mark_name}
 use Rattle.hgs_top.specs.declared.operands.Operand.{Operand}
 use Rattle.hgs_top.specs.declared.operands.Operand.TheVariants as operand_kinds
 use Rattle.hgs_top.specs.declared.pages.Page.{Page}
-use Rattle.hgs_top.specs.Words.{Job, do_init, do_commit, do_recover, do_move, do_mark, do_unmark, Request, to_answer, to_do, to_play, to_verify, operands, operand, with_operand, asked_with, alone_named, alone_else, about_named, bookmark_with, phase_with, phase_or_move, moved_with, behind_word, request_named, request_of_words, page_named, page_else}
+use Rattle.hgs_top.specs.Words.{Job, do_init, do_commit, do_recover, do_move, do_mark, do_unmark, Request, to_answer, to_do, to_play, to_verify, to_generate, seed_of, count_of, operands, operand, with_operand, asked_with, alone_named, alone_else, about_named, bookmark_with, phase_with, phase_or_move, moved_with, behind_word, request_named, request_of_words, page_named, page_else}
 
 abbrev pub IsFitJob : Job → Type 0
 IsFitJob do_init = ⊤
@@ -21,6 +21,7 @@ IsFitRequest (to_answer question) = ⊤
 IsFitRequest (to_do job) = IsFitJob job
 IsFitRequest to_play = ⊤
 IsFitRequest to_verify = ⊤
+IsFitRequest (to_generate seed count) = ⊤
 
 either : (b : Bool) (x y : Result Request ℕ) → IfOk x IsFitRequest → IfOk y IsFitRequest → IfOk (if b then x else y) IsFitRequest
 either true x y hx hy = hx
@@ -67,7 +68,8 @@ about-fits name words =
     either (same name (codes "files")) _ _ (with-operands _ (operands false (operand_kinds.Any ∷ []) 1 words) (λ found h. tt))
     (either (same name (codes "cat")) _ _ (with-operands _ (operands false (operand_kinds.Any ∷ operand_kinds.Any ∷ []) 1 words) (λ found h. tt))
     (either (same name (codes "phase")) _ _ (phase-fits (behind_word (codes "--force") words) words)
-    (either (same name (codes "bookmark")) _ _ (bookmark-fits (behind_word (codes "--delete") words) words) tt)))
+    (either (same name (codes "bookmark")) _ _ (bookmark-fits (behind_word (codes "--delete") words) words)
+    (either (same name (codes "gen")) _ _ (with-operands _ (operands false (operand_kinds.Seed ∷ operand_kinds.Count ∷ []) 1 words) (λ found h. tt)) tt))))
 
 abbrev IsFitOption : Option Request → Type 0
 IsFitOption None = ⊤

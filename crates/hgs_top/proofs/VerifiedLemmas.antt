@@ -13,12 +13,19 @@ use Rattle.hgs_load.specs.Requirements.{requires_answer}
 use Rattle.hgs_verify.specs.declared.report.Report.{Report}
 use Rattle.hgs_verify.specs.Report.{IsReportOf}
 use Rattle.hgs_top.specs.Run.{EndsLine, OfTree, TellsReport, Verifies}
-use Rattle.hgs_top.specs.Verified.{report_status, report_text}
+use Rattle.hgs_index.specs.declared.node.Node.{Node}
+use Rattle.hgs_top.specs.Orders.{TellsSummary}
+use Rattle.hgs_top.specs.Verified.{report_status, report_text, summary_text}
 
 pub tells : (log : Option (List Op)) (start : Tree) (report : Report) (status : ℕ) (old new : Option (List ℕ)) → OfTree log start (λ t. requires_answer (t requires_path) ≡ Ok tt) → OfTree log start (IsReportOf report)
     → EndsLine (report_text (findings_in report.findings.items) report.changesets report.filelogs) (report_status (findings_in report.findings.items)) status old new → OfTree log start (TellsReport status old new)
 tells None start report status old new required is line = tt
 tells (Some l) start report status old new required is line = (required, findings_in report.findings.items, report.changesets, report.filelogs, is, line)
+
+pub tells-summary : (log : Option (List Op)) (start : Tree) (report : Report) (tip : Node) (status : ℕ) (old new : Option (List ℕ)) → OfTree log start (λ t. requires_answer (t requires_path) ≡ Ok tt) → OfTree log start (IsReportOf report)
+    → EndsLine (summary_text (findings_in report.findings.items) report.changesets report.filelogs tip) (report_status (findings_in report.findings.items)) status old new → OfTree log start (TellsSummary tip status old new)
+tells-summary None start report tip status old new required is line = tt
+tells-summary (Some l) start report tip status old new required is line = (required, findings_in report.findings.items, report.changesets, report.filelogs, is, line)
 
 -- ---- a run that ends as a report does
 

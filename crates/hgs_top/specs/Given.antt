@@ -10,7 +10,7 @@ use Rattle.hgs_load.specs.View.{View}
 use Rattle.hgs_reader.specs.Line.{line_asks}
 use Rattle.hgs_reader.specs.Names.{named}
 use Rattle.hgs_top.specs.Outcome.{Subject, its_files, its_file, its_phase, contents_asks}
-use Rattle.hgs_top.specs.Words.{Question, ask_page, ask_log, ask_heads, ask_bookmarks, ask_parents, ask_files, ask_cat, ask_phase, Request, to_answer, to_do, to_play, to_verify}
+use Rattle.hgs_top.specs.Words.{Question, ask_page, ask_log, ask_heads, ask_bookmarks, ask_parents, ask_files, ask_cat, ask_phase, Request, to_answer, to_do, to_play, to_verify, to_generate}
 
 -- the lines of so many changesets, newest first
 abbrev pub lines_reads : View → ℕ → Asks (Result Unit ReadAnswer)
@@ -51,4 +51,5 @@ ReadsAsked (Ok (to_answer question)) given_old given_new before start after = Re
 ReadsAsked (Ok (to_do job)) given_old given_new before start after = ⊤
 ReadsAsked (Ok to_play) given_old given_new before start after = given_new ≡ given_old
 ReadsAsked (Ok to_verify) given_old given_new before start after = ⊤
+ReadsAsked (Ok (to_generate seed count)) given_old given_new before start after = ⊤
 ReadsAsked (Err place) given_old given_new before start after = given_new ≡ given_old

@@ -1,5 +1,5 @@
 -- What a command that changes files comes to, and what it leaves.
-use Rattle.std.specs.Prelude.{◌≡◌, ◌⊎◌, ℕ, List, [], ◌∷◌, ◌++◌, Option, None, Result, Ok, Err, IfSome, IsSome, codes, decimal, ⊤, true}
+use Rattle.std.specs.Prelude.{◌≡◌, ◌≤◌, ◌⊎◌, ℕ, List, [], ◌∷◌, ◌++◌, Option, None, Result, Ok, Err, IfSome, IsSome, codes, decimal, ⊤, true}
 use Rattle.hgs_answers.specs.Answer.{answer_text, status_of as answer_status}
 use Rattle.hgs_answers.specs.declared.answer.Answer.{Answer}
 use Rattle.hgs_answers.specs.declared.outcome.Outcome.{Outcome}
@@ -40,8 +40,15 @@ use Rattle.hgs_top.specs.declared.words.Asked.{Asked}
 use Rattle.hgs_top.specs.declared.words.Asked.TheVariants as asked
 use Rattle.hgs_top.specs.declared.orders.Order.{Order}
 use Rattle.hgs_top.specs.declared.orders.Order.TheVariants as orders
-use Rattle.hgs_top.specs.Run.{EndsLine, OfTree}
-use Rattle.hgs_top.specs.Words.{Job, do_init, do_commit, do_recover, do_move, do_mark, do_unmark, Request, to_answer, to_do, to_play, to_verify}
+use Rattle.hgs_grown.specs.declared.commits.Stop.{Stop}
+use Rattle.hgs_grown.specs.declared.commits.Stop.TheVariants as stops
+use Rattle.hgs_grown.specs.Grown.{GrowsTo}
+use Rattle.hgs_findings.specs.Findings.{Finding, IsReport}
+use Rattle.hgs_index.specs.declared.node.Node.{Node}
+use Rattle.hgs_load.specs.Requirements.{requires_answer}
+use Rattle.hgs_top.specs.Run.{EndsLine, OfTree, RefusesReport, memory_line}
+use Rattle.hgs_top.specs.Verified.{report_status, summary_text}
+use Rattle.hgs_top.specs.Words.{Job, do_init, do_commit, do_recover, do_move, do_mark, do_unmark, Request, to_answer, to_do, to_play, to_verify, to_generate}
 
 -- a bookmark's name is one that a bookmark can have
 abbrev pub IsFit : Order → Type 0
@@ -57,6 +64,7 @@ IsFitting (asked.Question command) = ⊤
 IsFitting (asked.Order order) = IsFit order
 IsFitting asked.Play = ⊤
 IsFitting asked.Verify = ⊤
+IsFitting (asked.Generate seed count) = (1 ≤ count) × (count ≤ 5000)
 
 -- ---- what is said
 
@@ -181,12 +189,45 @@ abbrev pub Does : Job → Option (List ℕ) → Option (List Op) → Option (Lis
 Does job left old new start status written_old written_new =
     (ended : Ended) × ComesTo job left old new start ended × EndsLine (ended_text ended) (ended_status ended) status written_old written_new
 
+-- ---- a generated repository
+
+-- The report of the grown repository was made, and its counts are told behind the last node; or there is none.
+abbrev pub TellsSummary : Node → ℕ → Option (List ℕ) → Option (List ℕ) → Tree → Type 0
+TellsSummary tip status written_old written_new t =
+    (requires_answer (t requires_path) ≡ Ok tt)
+    × (findings : List Finding) × (changesets : ℕ) × (filelogs : ℕ) × IsReport t findings changesets filelogs × EndsLine (summary_text findings changesets filelogs tip) (report_status findings) status written_old written_new
+
+abbrev pub Summarizes : Node → Option (List Op) → Tree → ℕ → Option (List ℕ) → Option (List ℕ) → Type 0
+Summarizes tip log start status written_old written_new = OfTree log start (TellsSummary tip status written_old written_new) ⊎ RefusesReport ⊤ status written_old written_new
+
+-- what is said of the commits: where all are done, what they came to; else the answer of the one that is not
+abbrev pub TellsGrown : Result Node Stop → Option (List Op) → Tree → ℕ → Option (List ℕ) → Option (List ℕ) → Type 0
+TellsGrown (Ok tip) log start status written_old written_new = Summarizes tip log start status written_old written_new
+TellsGrown (Err stops.Memory) log start status written_old written_new = EndsLine memory_line 30 status written_old written_new
+TellsGrown (Err (stops.Answered command answer)) log start status written_old written_new = EndsLine (answer_text command answer) (answer_status answer.outcome) status written_old written_new
+
+-- the commits are made one after another, and then all is verified
+abbrev pub Grows : ℕ → ℕ → Option (List Op) → Option (List Op) → Tree → ℕ → Option (List ℕ) → Option (List ℕ) → Type 0
+Grows seed count old new start status written_old written_new =
+    (grown : Result Node Stop) × GoesOn old new (GrowsTo lock_text seed count grown (tree_now old start)) × TellsGrown grown new start status written_old written_new
+
+abbrev pub IsNotMade : Ended → Type 0
+IsNotMade Made = ⊥
+IsNotMade ended = ⊤
+
+-- A repository is made as by `init`, and where it is, it grows.
+abbrev pub Generates : ℕ → ℕ → Option (List Op) → Option (List Op) → Tree → ℕ → Option (List ℕ) → Option (List ℕ) → Type 0
+Generates seed count old new start status written_old written_new =
+    ((ended : Ended) × ComesTo do_init None old new start ended × IsNotMade ended × EndsLine (ended_text ended) (ended_status ended) status written_old written_new)
+    ⊎ ((made : Option (List Op)) × ComesTo do_init None old made start Made × Grows seed count made new start status written_old written_new)
+
 -- A run that has something to do does it; a question, and words that don't fit, change no file.
 abbrev pub Obeys : Result Request ℕ → Option (List ℕ) → Option (List Op) → Option (List Op) → Tree → ℕ → Option (List ℕ) → Option (List ℕ) → Type 0
 Obeys (Ok (to_do job)) left old new start status written_old written_new = Does job left old new start status written_old written_new
 Obeys (Ok (to_answer question)) left old new start status written_old written_new = new ≡ old
 Obeys (Ok to_play) left old new start status written_old written_new = new ≡ old
 Obeys (Ok to_verify) left old new start status written_old written_new = new ≡ old
+Obeys (Ok (to_generate seed count)) left old new start status written_old written_new = Generates seed count old new start status written_old written_new
 Obeys (Err place) left old new start status written_old written_new = new ≡ old
 
 -- only a commit reads the input
@@ -199,4 +240,5 @@ KeepsInput (Ok (to_do job)) old new faults_old faults_new = LeavesInput job old 
 KeepsInput (Ok (to_answer question)) old new faults_old faults_new = (new ≡ old) × (faults_new ≡ faults_old)
 KeepsInput (Ok to_play) old new faults_old faults_new = ⊤
 KeepsInput (Ok to_verify) old new faults_old faults_new = (new ≡ old) × (faults_new ≡ faults_old)
+KeepsInput (Ok (to_generate seed count)) old new faults_old faults_new = (new ≡ old) × (faults_new ≡ faults_old)
 KeepsInput (Err place) old new faults_old faults_new = (new ≡ old) × (faults_new ≡ faults_old)

@@ -25,6 +25,7 @@ page_lines Help =
     codes "  bookmark NAME REV          sets a bookmark" ∷
     codes "  bookmark --delete NAME     deletes one" ∷
     codes "  verify                     says what is wrong with the repository, and changes nothing" ∷
+    codes "  gen SEED COUNT             makes a repository of changesets that a number gives, and verifies it" ∷
     codes "  recover                    undoes a transaction that was left unfinished" ∷
     codes "  play                       plays the schedule on standard input, in memory" ∷
     codes "  --help                     this page" ∷

@@ -16,7 +16,7 @@ use Rattle.hgs_top.specs.declared.stopped.Said.TheVariants.{Whole, UnknownRevisi
 use Rattle.hgs_top.specs.Outcome.{Outcome, Reply, told, unknown_revision, its_files, its_file, its_phase, log_outcome, listing_outcome, contents_reply}
 use Rattle.hgs_top.specs.declared.listing.Listing.TheVariants.{Heads, Bookmarks, Parents}
 use Rattle.hgs_top.specs.Pages.{page_outcome}
-use Rattle.hgs_top.specs.Words.{Question, ask_page, ask_log, ask_heads, ask_bookmarks, ask_parents, ask_files, ask_cat, ask_phase, Request, to_answer, to_do, to_play, to_verify}
+use Rattle.hgs_top.specs.Words.{Question, ask_page, ask_log, ask_heads, ask_bookmarks, ask_parents, ask_files, ask_cat, ask_phase, Request, to_answer, to_do, to_play, to_verify, to_generate}
 use Rattle.hgs_findings.specs.Findings.{Finding, IsReport}
 use Rattle.hgs_load.specs.Open.{requires_path}
 use Rattle.hgs_load.specs.Requirements.{requires_answer}
@@ -179,6 +179,7 @@ Says Faulted (Ok (to_answer question)) log start status old new = OfReply questi
 Says Faulted (Ok (to_do job)) log start status old new = ⊤
 Says Faulted (Ok to_play) log start status old new = ⊤
 Says Faulted (Ok to_verify) log start status old new = Verifies Faulted log start status old new
+Says Faulted (Ok (to_generate seed count)) log start status old new = ⊤
 Says Faulted (Err place) log start status old new = SaysBadWord place status old new
 
 -- one of these

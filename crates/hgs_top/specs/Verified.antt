@@ -1,6 +1,8 @@
 -- What `verify` writes.
 use Rattle.std.specs.Prelude.{ℕ, List, [], ◌∷◌, ◌++◌, Option, Some, None, codes, decimal, flat_map, length}
 use Rattle.hgs_findings.specs.Findings.{Finding}
+use Rattle.hgs_index.specs.Hex.{hex}
+use Rattle.hgs_index.specs.declared.node.Node.{Node}
 
 -- the number of a revision or of a line, where there is one
 abbrev pub rev_text : Option ℕ → List ℕ
@@ -21,6 +23,10 @@ counts_line changesets filelogs count = codes "checked " ++ decimal changesets +
 -- a line for each finding, and the counts behind them
 abbrev pub report_text : List Finding → ℕ → ℕ → List ℕ
 report_text findings changesets filelogs = finding_lines findings ++ counts_line changesets filelogs (length findings)
+
+-- what a generated repository came to: how many changesets and files were checked, the last node, and how much was found
+abbrev pub summary_text : List Finding → ℕ → ℕ → Node → List ℕ
+summary_text findings changesets filelogs tip = codes "changesets " ++ decimal changesets ++ 10 ∷ (codes "files " ++ decimal filelogs ++ 10 ∷ (codes "tip " ++ hex tip.0 ++ 10 ∷ (codes "findings " ++ decimal (length findings) ++ 10 ∷ [])))
 
 abbrev pub report_status : List Finding → ℕ
 report_status [] = 0

@@ -1,8 +1,9 @@
 -- Which words fit, and what they ask for.
-use Rattle.std.specs.Prelude.{ℕ, ◌+◌, Bool, true, false, ◌&&◌, not, List, [], ◌∷◌, Option, Some, None, Result, Ok, Err, codes, map, slice_index_or, if◌then◌else◌, is_some, unwrap_or}
+use Rattle.std.specs.Prelude.{ℕ, ◌+◌, Bool, true, false, ◌&&◌, not, nat_le, nat_lt, List, [], ◌∷◌, Option, Some, None, Result, Ok, Err, codes, map, slice_index_or, if◌then◌else◌, is_some, unwrap_or}
 use Rattle.std.specs.String.{string_bytes}
 use Rattle.hgs_bytes.specs.Bytes.{same, begins_with}
 use Rattle.hgs_index.specs.MarkName.{is_mark_name}
+use Rattle.hgs_input.specs.Read.{number_up_to}
 use Rattle.hgs_model.specs.Phase.{phase_named}
 use Rattle.hgs_model.specs.declared.phase.Phase.{Phase}
 use Rattle.hgs_model.specs.declared.phase.Phase.TheVariants.{Draft}
@@ -22,11 +23,27 @@ abbrev pub with_operand : List ℕ → Result (List (List ℕ)) ℕ → Result (
 with_operand word (Ok words) = Ok (word ∷ words)
 with_operand word (Err place) = Err place
 
+abbrev pub kept_where : (ℕ → Bool) → Option ℕ → Option ℕ
+kept_where fit None = None
+kept_where fit (Some n) = if fit n then Some n else None
+
+-- the number below 2^64 that a word spells
+abbrev pub seed_of : List ℕ → Option ℕ
+seed_of word =
+    if same word (codes "18446744073709551615") then Some 18446744073709551615
+    else kept_where (λ n. nat_lt n 18446744073709551615) (number_up_to 18446744073709551614 word)
+
+-- how many changesets a word asks for: from 1 to 5,000
+abbrev pub count_of : List ℕ → Option ℕ
+count_of word = kept_where (λ n. nat_le 1 n && nat_le n 5000) (number_up_to 5000 word)
+
 -- whether a word is what an operand has to be
 abbrev pub fits : Operand → List ℕ → Bool
 fits operand_kinds.Any word = true
 fits operand_kinds.MarkName word = is_mark_name word
 fits operand_kinds.PhaseName word = is_some (phase_named word)
+fits operand_kinds.Seed word = is_some (seed_of word)
+fits operand_kinds.Count word = is_some (count_of word)
 
 abbrev pub none_left : List Operand → Bool
 none_left [] = true
@@ -76,6 +93,7 @@ pub data Request : Type 0 where
   to_do : Job → Request
   to_play : Request
   to_verify : Request
+  to_generate : ℕ → ℕ → Request
 
 abbrev pub question_of : Command → Question
 question_of (Shown page) = ask_page page
@@ -100,6 +118,7 @@ request_of (asked.Question command) = to_answer (question_of command)
 request_of (asked.Order order) = to_do (job_of order)
 request_of asked.Play = to_play
 request_of asked.Verify = to_verify
+request_of (asked.Generate seed count) = to_generate seed count
 
 -- the request with these operands
 abbrev pub asked_with : (List (List ℕ) → Request) → Result (List (List ℕ)) ℕ → Result Request ℕ
@@ -145,6 +164,10 @@ abbrev pub bookmark_with : Option (List (List ℕ)) → List (List ℕ) → Resu
 bookmark_with (Some behind) words = asked_with (λ w. to_do (do_unmark (operand w 0))) (operands false (operand_kinds.MarkName ∷ []) 2 behind)
 bookmark_with None words = asked_with (λ w. to_do (do_mark (operand w 0) (operand w 1))) (operands false (operand_kinds.MarkName ∷ operand_kinds.Any ∷ []) 1 words)
 
+-- a number and how many changesets it gives
+abbrev pub generate_with : List (List ℕ) → Result Request ℕ
+generate_with words = asked_with (λ w. to_generate (unwrap_or (seed_of (operand w 0)) 0) (unwrap_or (count_of (operand w 1)) 1)) (operands false (operand_kinds.Seed ∷ operand_kinds.Count ∷ []) 1 words)
+
 -- those with operands
 abbrev pub about_named : List ℕ → List (List ℕ) → Result Request ℕ
 about_named name words =
@@ -152,6 +175,7 @@ about_named name words =
     else if same name (codes "cat") then asked_with (λ w. to_answer (ask_cat (operand w 0) (operand w 1))) (operands false (operand_kinds.Any ∷ operand_kinds.Any ∷ []) 1 words)
     else if same name (codes "phase") then phase_with (behind_word (codes "--force") words) words
     else if same name (codes "bookmark") then bookmark_with (behind_word (codes "--delete") words) words
+    else if same name (codes "gen") then generate_with words
     else Err 0
 
 abbrev pub alone_else : Option Request → Result Request ℕ → List (List ℕ) → Result Request ℕ

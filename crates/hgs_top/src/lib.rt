@@ -4,6 +4,7 @@
 pub mod command;
 pub mod contents;
 pub mod ended;
+pub mod generate;
 pub mod init;
 pub mod input;
 pub mod laws;

@@ -27,7 +27,7 @@ use hgs_writer::write::write;
 use std::alloc::{AllocError, Global};
 
 /// What stands in the locks of a writer.
-const WHO: &[u8; 8] = b"hg-store";
+pub(crate) const WHO: &[u8; 8] = b"hg-store";
 
 // The commit whose record stands on the input.
 fn commit_from<S: Source>(alloc: Global, input: &mut S) -> Result<Command, Ended>

@@ -1,15 +1,19 @@
 //! The operands of a command on the command line.
-ghost use Rattle.std.specs.Prelude.{◌≡◌, ◌<◌, ◌+◌, ◌^◌, ◌∷◌, [], List, Ok, Err, true, false, codes, map, length, OnOk, IfOk, IfErr};
+ghost use Rattle.std.specs.Prelude.{◌≡◌, ◌<◌, ◌+◌, ◌^◌, ◌∷◌, [], List, Ok, Err, true, false, codes, map, length, OnOk, IfOk, IfErr, IfSome, ◌≤◌};
 ghost use Rattle.std.specs.Option.{option_map};
 ghost use Rattle.std.specs.Result.{result_map_both};
 ghost use Rattle.std.specs.String.{string_bytes};
 ghost use Rattle.hgs_bytes.specs.Bytes.{same, begins_with};
-ghost use Rattle.hgs_top.specs.Words.{with_operand, operands_in, ends_here, fits, behind_word};
+ghost use Rattle.hgs_top.specs.Words.{with_operand, operands_in, ends_here, fits, behind_word, count_of, seed_of};
 ghost use Rattle.hgs_top.specs.declared.operands.Operand.{Operand};
 
 use hgs_bytes::parts::{equal, starts};
+use hgs_input::number::number_up_to;
 use hgs_marks::name::is_mark_name;
 use hgs_model::phase::Phase;
+
+/// The most changesets that are generated.
+const MOST_GENERATED: u64 = 5000;
 
 /// What an operand has to be.
 #[derive(Clone, Copy, Debug, PartialEq, Eq)]
@@ -19,6 +23,10 @@ pub(crate) enum Operand {
     MarkName,
     /// `public`, `draft` or `secret`.
     PhaseName,
+    /// A number below 2^64.
+    Seed,
+    /// A number from 1 to 5,000.
+    Count,
 }
 
 /// The words that are not read yet.
@@ -58,6 +66,30 @@ fn is_option(word: &String) -> bool
     starts(word.as_bytes(), b"-")
 }
 
+/// The number below 2^64 that a word spells.
+pub(crate) fn seed_of(word: &[u8]) -> Option<u64>
+    ensures { result ≡ seed_of word.now }
+{
+    if equal(word, b"18446744073709551615") {
+        return Some(u64::MAX);
+    }
+    match number_up_to(word, u64::MAX - 1) {
+        Some(number) if number < u64::MAX => Some(number),
+        _ => None,
+    }
+}
+
+/// How many changesets a word asks for.
+pub(crate) fn count_of(word: &[u8]) -> Option<u32>
+    ensures count { result ≡ count_of word.now }
+    ensures within { IfSome result (λ count. (1 ≤ count) × (count ≤ 5000)) }
+{
+    match number_up_to(word, MOST_GENERATED) {
+        Some(number) if number >= 1 && number <= MOST_GENERATED => Some(number as u32),
+        _ => None,
+    }
+}
+
 // Whether the word is what the operand has to be.
 fn fits(kind: Operand, word: &[u8]) -> bool
     ensures { result ≡ fits kind word.now }
@@ -66,6 +98,8 @@ fn fits(kind: Operand, word: &[u8]) -> bool
         Operand::Any => true,
         Operand::MarkName => is_mark_name(word),
         Operand::PhaseName => Phase::named(word).is_some(),
+        Operand::Seed => seed_of(word).is_some(),
+        Operand::Count => count_of(word).is_some(),
     }
 }
 

@@ -12,6 +12,7 @@ ghost use Rattle.hgs_top.specs.Run.{Says, IsOneOf};
 ghost use Rattle.hgs_top.specs.Words.{request_of_words};
 
 use crate::command::{refuse_words, run_command};
+use crate::generate::run_generate;
 use crate::laws::{replies_of_repository, runs_make_histories};
 use crate::play::run_play;
 use crate::told::run_order;
@@ -57,6 +58,7 @@ fn run_words<F: Files, S: Source, K: Sink>(
         Ok(Asked::Order(order)) => run_order(alloc, order, files, input, out),
         Ok(Asked::Play) => run_play(alloc, input, out),
         Ok(Asked::Verify) => run_verify(alloc, files, out),
+        Ok(Asked::Generate { seed, count }) => run_generate(alloc, files, seed, count, out),
         Err(place) => refuse_words(alloc, place, out),
     }
 }

@@ -70,8 +70,8 @@ fn text_of(alloc: Global, report: &Report) -> Result<Vec<u8>, AllocError>
     Ok(text)
 }
 
-// 29 where there is a finding.
-fn status_of(report: &Report) -> u8
+/// 29 where there is a finding.
+pub(crate) fn status_of(report: &Report) -> u8
     ensures { result ≡ report_status (findings_in report.now.findings.items) }
 {
     if report.findings.is_empty() { 0 } else { 29 }

@@ -1,13 +1,15 @@
 //! The words of the command line.
-ghost use Rattle.std.specs.Prelude.{◌≡◌, ◌<◌, ◌+◌, ◌^◌, ◌∷◌, [], Ok, Err, codes, map, length, IfOk, IfSome};
+ghost use Rattle.std.specs.Prelude.{◌≡◌, ◌<◌, ◌+◌, ◌^◌, ◌∷◌, [], Ok, Err, codes, map, length, IfOk, IfSome, unwrap_or};
 ghost use Rattle.hgs_top.specs.Orders.{IsFitting};
 ghost use Rattle.std.specs.Option.{option_map};
 ghost use Rattle.std.specs.Result.{result_map_both};
 ghost use Rattle.std.specs.String.{string_bytes};
-ghost use Rattle.hgs_top.specs.Words.{operands_in, operand, operands, asked_with, ask_files, ask_cat, ask_phase, moved_with, phase_with, bookmark_with, behind_word, to_answer, to_do, do_mark, do_unmark, request_of, request_named, alone_named, about_named, page_named, request_of_words};
+ghost use Rattle.hgs_top.specs.Words.{operands_in, operand, operands, asked_with, ask_files, ask_cat, ask_phase, moved_with, phase_with, bookmark_with, behind_word, to_answer, to_do, do_mark, do_unmark, to_generate, seed_of, count_of, request_of, request_named, alone_named, about_named, page_named, request_of_words};
 ghost use Rattle.hgs_top.specs.declared.operands.Operand.TheVariants as operand_kinds;
 
-use crate::operands::{Operand, Rest, behind_word, no_operand, one_operand, two_operands};
+use crate::operands::{
+    Operand, Rest, behind_word, count_of, no_operand, one_operand, seed_of, two_operands,
+};
 use crate::orders::Order;
 use crate::pages::Page;
 use hgs_bytes::parts::equal;
@@ -35,6 +37,8 @@ pub enum Asked<'a> {
     Play,
     /// Says what is wrong with the repository.
     Verify,
+    /// Makes a repository of so many changesets that a number gives.
+    Generate { seed: u64, count: u32 },
 }
 
 // The command, where no operands stand behind its name.
@@ -141,6 +145,22 @@ fn bookmark_from(words: &[String]) -> Result<Asked<'_>, usize>
     }
 }
 
+// `gen` with its operands.
+fn generate_from(rest: Rest<'_>) -> Result<Asked<'_>, usize>
+    requires { rest.place + length rest.words.now < 2 ^ 64 }
+    ensures asked { result_map_both request_of (λ place. place) result ≡ asked_with (λ w. to_generate (unwrap_or (seed_of (operand w 0)) 0) (unwrap_or (count_of (operand w 1)) 1)) (operands_in rest.entry (operand_kinds.Seed ∷ operand_kinds.Count ∷ [])) }
+    ensures fitting { IfOk result IsFitting }
+{
+    match two_operands(rest, Operand::Seed, Operand::Count) {
+        Ok((seed, count)) => Ok(Asked::Generate {
+            // both operands are such numbers
+            seed: seed_of(seed).unwrap_or(0),
+            count: count_of(count).unwrap_or(1),
+        }),
+        Err(place) => Err(place),
+    }
+}
+
 // The command with this name that takes no operands.
 fn alone_named(name: &String) -> Option<Asked<'static>>
     ensures asked { option_map request_of result ≡ alone_named (string_bytes name.now) }
@@ -195,6 +215,9 @@ fn about_named<'a>(name: &String, words: &'a [String]) -> Result<Asked<'a>, usiz
     }
     if equal(name, b"bookmark") {
         return bookmark_from(words);
+    }
+    if equal(name, b"gen") {
+        return generate_from(Rest::at(1, words));
     }
     Err(0)
 }

@@ -1,0 +1,87 @@
+#!/usr/bin/env python3
+"""`gen`: the repository that a number gives is made anew here, from the rule alone (the numbers of Knuth's generator MMIX, one file of
+d0/f0 to d9/f19 written in each changeset), and its last node, its files and its bodies are compared with what the program made. Where
+Mercurial is there, it reads and verifies the repository too. The last line is 'N passed, M failed'.
+"""
+
+import hashlib
+import shutil
+import subprocess
+import sys
+import tempfile
+
+sys.dont_write_bytecode = True
+from checks import Checks, built_program
+
+NULL = bytes(20)
+
+
+def node_of(parent, text):
+    return hashlib.sha1(NULL + parent + text).digest()
+
+
+def generated(seed, count):
+    """The bodies by path, and the node of the last changeset."""
+    number, bodies, nodes, manifest, changeset = seed, {}, {}, NULL, NULL
+    for made in range(count):
+        number = (number * 6364136223846793005 + 1442695040888963407) % 2**64
+        path = b"d%d/f%d" % ((number >> 33) % 10, (number >> 40) % 20)
+        bodies[path] = b"%d %d\n" % (made, number)
+        nodes[path] = node_of(nodes.get(path, NULL), bodies[path])
+        manifest = node_of(manifest, b"".join(b"%s\0%s\n" % (name, nodes[name].hex().encode()) for name in sorted(nodes)))
+        changeset = node_of(changeset, b"%s\ngen\n%d 0\n%s\n\nc%d" % (manifest.hex().encode(), 60 * made, path, made))
+    return bodies, changeset.hex()
+
+
+def ask(program, folder, *words):
+    ended = subprocess.run([program, *words], stdin=subprocess.DEVNULL, stdout=subprocess.PIPE, stderr=subprocess.DEVNULL, cwd=folder, check=False)
+    return ended.stdout, ended.returncode
+
+
+def hg(folder, *words):
+    return subprocess.run(["hg", *words], stdout=subprocess.PIPE, stderr=subprocess.STDOUT, cwd=folder, check=False).stdout
+
+
+def makes(program, checks, seed, count):
+    bodies, tip = generated(seed, count)
+    with tempfile.TemporaryDirectory() as folder:
+        said = ask(program, folder, "gen", str(seed), str(count))
+        wanted = b"changesets %d\nfiles %d\ntip %s\nfindings 0\n" % (count, len(bodies), tip.encode())
+        checks.check(f"gen {seed} {count}: {said} ({wanted})", said == (wanted, 0))
+        said = ask(program, folder, "verify")
+        checks.check(f"verify of {seed} {count}: {said}", said == (b"checked %d changesets, %d filelogs, 0 findings\n" % (count, len(bodies)), 0))
+        for path, body in list(bodies.items())[:5]:
+            said = ask(program, folder, "cat", "tip", path.decode())
+            checks.check(f"{path} of {seed} {count}: {said}", said == (body, 0))
+        said = ask(program, folder, "gen", str(seed), str(count))
+        checks.check(f"gen where a repository stands: {said}", said == (b"abort: repository exists\n", 25))
+        if shutil.which("hg"):
+            checks.check(f"hg verify of {seed} {count}", hg(folder, "verify", "--quiet") == b"")
+            checks.check(f"hg log of {seed} {count}", hg(folder, "log", "-r", "tip", "-T", "{rev} {node}") == b"%d %s" % (count - 1, tip.encode()))
+
+
+# Words that do not fit, and the place of the first such.
+REFUSED = [
+    (["gen"], 1),
+    (["gen", "1"], 2),
+    (["gen", "01", "1"], 1),
+    (["gen", str(2**64), "1"], 1),
+    (["gen", "1", "0"], 2),
+    (["gen", "1", "5001"], 2),
+    (["gen", "1", "1", "1"], 3),
+]
+
+
+def main():
+    program, checks = built_program(), Checks()
+    for seed, count in [(1, 1), (2**64 - 1, 3), (7, 1000)]:
+        makes(program, checks, seed, count)
+    for words, place in REFUSED:
+        with tempfile.TemporaryDirectory() as folder:
+            said = ask(program, folder, *words)
+            checks.check(f"{words}: {said}", said == (b"abort: bad word %d\n" % place, 28))
+    print(f"{checks.passed} passed, {checks.failed} failed")
+    sys.exit(checks.failed > 0 or checks.passed == 0)
+
+
+main()
