@@ -21,3 +21,6 @@ pub returns-in-Ok-Question-clause-given : goal.returns-in-Ok-Question-clause-giv
 returns-in-Ok-Question-clause-given g c =
     let P : Result Request ℕ → Type 0 = λ q. ReadsAsked q (g.F.Reads.given c.args.files.now) (g.F.Reads.given c.run_command.new.files) (g.F.Reads.seen c.args.files.now) (g.F.Reads.start c.args.files.now) (g.F.Reads.seen c.run_command.new.files) in
     subst P (ap (λ asked. Ok (request_of asked)) (sym c.in-Ok-Question.field-0-is) ∙ c.in-Ok-Question.ensures.asked) c.run_command.ensures.given
+
+pub returns-in-Ok-Generate-clause-failed : goal.returns-in-Ok-Generate-clause-failed
+returns-in-Ok-Generate-clause-failed g c = c.run_generate.ensures.no_input _ _
