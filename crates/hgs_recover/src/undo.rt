@@ -1,5 +1,5 @@
 //! The operations that undo a transaction, done one after another.
-ghost use Rattle.std.specs.Prelude.{List};
+ghost use Rattle.std.specs.Prelude.{◌≡◌, List};
 ghost use Rattle.hgs_files.specs.declared.op.Op.{Op};
 ghost use Rattle.hgs_files.specs.Files.{GoesOn};
 ghost use Rattle.hgs_machine.specs.Locks.{CausesLeft, NeverFall};
