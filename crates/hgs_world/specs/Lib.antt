@@ -2,4 +2,7 @@ pub mod Texts
 pub mod Parts
 pub mod Working
 pub mod Questions
+pub mod Start
 pub mod World
+pub mod Plays
+pub mod Theorems

@@ -1,0 +1,19 @@
+-- Events that happen one after another.
+use Rattle.std.specs.Prelude.{◌≡◌, ◌≤◌, ℕ, List, [], ◌∷◌, ◌++◌, take, length}
+use Rattle.hgs_schedule.specs.declared.event.Event.{Event}
+use Rattle.hgs_schedule.specs.declared.event.Schedule.{Schedule}
+use Rattle.hgs_world.specs.World.{Scene, Happens, IsFirst}
+
+-- From the old scene on the events happen, one after another and each once, and what they write is this text, joined in their order.
+abbrev pub Plays : List Event → Scene → Scene → List ℕ → Type 0
+Plays [] old new text = (new ≡ old) × (text ≡ [])
+Plays (event ∷ events) old new text =
+    (between : Scene) × (first : List ℕ) × (rest : List ℕ) × Happens event old between first × Plays events between new rest × (text ≡ first ++ rest)
+
+-- what the first so many events of a schedule write, from a new repository on
+pub record PlaysTo (s : Schedule) (count : ℕ) (text : List ℕ) : Type 0 where
+  pub within : count ≤ length s.events
+  pub first : Scene
+  pub last : Scene
+  pub is_first : IsFirst s.readers first
+  pub plays : Plays (take count s.events) first last text
