@@ -4,5 +4,3 @@ pub mod Working
 pub mod Questions
 pub mod Start
 pub mod World
-pub mod Plays
-pub mod Theorems
