@@ -4,3 +4,4 @@ pub mod ReaderLemmas
 pub mod QuestionLemmas
 pub mod WorldLemmas
 pub mod SceneLemmas
+pub mod StartLemmas

@@ -19,6 +19,7 @@ use Rattle.hgs_writer.specs.declared.plan.Planned.{Planned}
 use Rattle.hgs_load.specs.View.{View}
 use Rattle.hgs_reader.specs.Shown.{marks_text}
 use Rattle.hgs_world.specs.Questions.{Sight, body_text, load_line, loaded_by, loading_line, log_text, no_sight, of_last, opened, phase_text, read_by, read_line, sight_of}
+use Rattle.hgs_world.specs.Start.{new_tree}
 use Rattle.hgs_world.specs.Texts.{begun_line, recovered_line, word_line}
 use Rattle.hgs_world.specs.Working.{Acts, RunsTo, StopsWithin, line_at, writer_left}
 use Rattle.hgs_world.specs.declared.seen.Seen.{Seen}
@@ -44,8 +45,9 @@ scene_of w = record { start = steady_start w.files; log = steady_log w.files; wr
 abbrev pub tree_of : Scene → Tree
 tree_of s = after_all s.log s.start
 
--- Nothing done yet, no writer, and so many readers that have loaded nothing.
+-- A new repository with nothing done yet, no writer, and so many readers that have loaded nothing.
 pub record IsFirst (readers : ℕ) (s : Scene) : Type 0 where
+  pub start : (path : List ℕ) → s.start path ≡ new_tree path
   pub log : s.log ≡ []
   pub writer : s.writer ≡ None
   pub readers_are : s.readers ≡ replicate readers no_sight

@@ -9,6 +9,7 @@ ghost use Rattle.hgs_schedule.specs.declared.event.Event.TheVariants.{Begin, Loa
 ghost use Rattle.hgs_schedule.specs.Schedule.{CanCome};
 ghost use Rattle.hgs_reader.specs.Shown.{marks_text};
 ghost use Rattle.hgs_world.specs.Questions.{body_text, no_sight, phase_text, sight_of};
+ghost use Rattle.hgs_world.specs.Start.{new_tree};
 ghost use Rattle.hgs_world.specs.Texts.{begun_line, recovered_line};
 ghost use Rattle.hgs_world.specs.Working.{HasBytes, CanGoOn, writer_left};
 ghost use Rattle.hgs_world.specs.World.{ActsIn, Answers, Happens, HasEnded, IsFirst, IsSeen, RecoversIn, RunsIn, StopsIn, forgotten, new_writer, scene_of, tree_of};
@@ -42,6 +43,7 @@ const REQUIRES: &[u8; 33] = b"dotencode\nfncache\nrevlogv1\nstore\n";
 // The files of an empty repository.
 fn empty_repository(alloc: Global) -> Result<SteadyFiles, NoMemory>
     ensures log { IfOk result (λ files. steady_log files ≡ []) }
+    ensures start { IfOk result (λ files. (path : List ℕ) → steady_start files path ≡ new_tree path) }
 {
     let path = path_of(alloc, b"requires")?;
     let mut files = SteadyFiles::new(alloc);
