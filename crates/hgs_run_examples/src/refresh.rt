@@ -2,10 +2,7 @@
 use crate::stores::{FIRST, FIRST_CHUNK, SECOND, SECOND_CHUNK, TURNED, both, store};
 use hgs_files::files::Files;
 use hgs_files::path::StorePath;
-use hgs_load::load::{LoadMachine, LoadNext};
-use hgs_load::step::feed_next;
 use hgs_mem::mem::MemFiles;
-use hgs_plan::print::push_number;
 use hgs_reader::session::Session;
 use std::alloc::Global;
 use std::test::Fail;
@@ -138,44 +135,5 @@ fn a_refused_refresh_changes_nothing(rt: HostRuntime) -> Result<(), Fail> {
         assert_eq!(rt; refusal.as_slice(), line);
         assert_eq!(rt; after.as_slice(), PLAIN_TOLD);
     }
-    Ok(())
-}
-
-/// Makes the reads of a load, and adds a line for each: the path and the first byte.
-fn push_reads(
-    alloc: Global,
-    files: &mut MemFiles,
-    machine: &mut LoadMachine,
-    into: &mut Vec<u8>,
-) -> Result<(), Fail> {
-    for _ in 0..8 {
-        match machine.next() {
-            LoadNext::Read {
-                path,
-                from,
-                most: _,
-            } => {
-                into.extend_from_slice(path.bytes())?;
-                into.push(b' ')?;
-                push_number(into, from)?;
-                into.push(b'\n')?;
-            }
-            LoadNext::End => return Ok(()),
-        }
-        feed_next(alloc, files, machine)?;
-    }
-    Ok(())
-}
-
-const READS: &[u8] = b"bookmarks 0\ndirstate 0\nstore/00changelog.i 64\nstore/phaseroots 0\n";
-
-#[test]
-fn a_refresh_reads_from_the_last_entry_on(rt: HostRuntime) -> Result<(), Fail> {
-    let alloc = rt.alloc();
-    let session = Session::open(alloc, &mut store_of(alloc, true)?)?;
-    let mut machine = LoadMachine::refresh(alloc, session.loaded())?;
-    let mut reads = Vec::new(alloc);
-    push_reads(alloc, &mut published(alloc)?, &mut machine, &mut reads)?;
-    assert_eq!(rt; reads.as_slice(), READS);
     Ok(())
 }
