@@ -19,6 +19,7 @@ _hg_store_words() {
         echo --delete
         "${COMP_WORDS[0]}" bookmarks 2>/dev/null | cut -f 1
         ;;
+    verify.2) echo --jobs ;;
     cat.3) "${COMP_WORDS[0]}" files "${COMP_WORDS[2]}" 2>/dev/null | cut -d ' ' -f 3- ;;
     esac
 }

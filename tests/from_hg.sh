@@ -44,6 +44,19 @@ for seed in 1 2 3; do
     rm -rf stock profile
 done
 
+# A store that Mercurial makes alone, of whole and uncompressed texts, in inline revlogs: it is read as it stands.
+alone=(--config format.use-share-safe=no --config format.sparse-revlog=no --config format.revlog-compression=zlib
+    --config format.maxchainlen=-1 --config storage.revlog.zlib.level=0)
+for seed in 4 5; do
+    hg "${alone[@]}" init alone && history alone "${alone[@]}" make-history "$seed" 40 2>"$work/made" || { cat "$work/made"; exit 1; }
+    check "the changelog of seed $seed is inline" cmp -n 4 alone/.hg/store/00changelog.i <(printf '\0\1\0\1')
+    check "and it has no other file" test ! -e alone/.hg/store/00changelog.d
+    history alone expect-history alone/.hg/expected
+    check "questions of a store of Mercurial's, seed $seed" "$here/mercurial.sh" alone/.hg
+    tail -n 1 "$work/said"
+    rm -rf alone
+done
+
 check "the sample that proofs compute with" "$(head -n 1 "$(command -v hg)" | sed 's/^#! *//; s/ .*//')" "$here/check_samples.py"
 
 hg init stock

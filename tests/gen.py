@@ -48,8 +48,9 @@ def makes(program, checks, seed, count):
         said = ask(program, folder, "gen", str(seed), str(count))
         wanted = b"changesets %d\nfiles %d\ntip %s\nfindings 0\n" % (count, len(bodies), tip.encode())
         checks.check(f"gen {seed} {count}: {said} ({wanted})", said == (wanted, 0))
-        said = ask(program, folder, "verify")
-        checks.check(f"verify of {seed} {count}: {said}", said == (b"checked %d changesets, %d filelogs, 0 findings\n" % (count, len(bodies)), 0))
+        for words in (["verify"], ["verify", "--jobs", "1"], ["verify", "--jobs", "8"]):
+            said = ask(program, folder, *words)
+            checks.check(f"{words} of {seed} {count}: {said}", said == (b"checked %d changesets, %d filelogs, 0 findings\n" % (count, len(bodies)), 0))
         for path, body in list(bodies.items())[:5]:
             said = ask(program, folder, "cat", "tip", path.decode())
             checks.check(f"{path} of {seed} {count}: {said}", said == (body, 0))

@@ -19,7 +19,8 @@ from plain_store import PHASES, Refused, Store
 
 NAMES = [b"a", b"b", b"README", b"Makefile", b".hgignore", b"x_y", b"long.name.txt"]
 FOLDERS = [b"", b"src/", b"src/lib.d/", b"Docs/", b"data.i/", b".conf/", b"src/deep/er/"]
-BODIES = [b"", b"a\n", b"b\n", b"\0zero", b"\x01\nmarked", b"\x01\n", b"u", b"x" * 300, b"line\n" * 5]
+# the last three are about the greatest length of the first text of an inline filelog
+BODIES = [b"", b"a\n", b"b\n", b"\0zero", b"\x01\nmarked", b"\x01\n", b"u", b"x" * 300, b"line\n" * 5, b"y" * 4096, b"z" * 4097, b"\x01\n" + b"m" * 4092]
 MARKS = ["main", "stable", "a b", "-dash", "feature/x", "\u00fcn\u00ef"]
 
 

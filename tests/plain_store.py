@@ -9,6 +9,9 @@ NULL = bytes(20)
 PHASES = ["public", "draft", "secret"]
 REQUIRES = b"dotencode\nfncache\nrevlogv1\nstore\n"
 
+# A new filelog whose first text has at most so many bytes is inline.
+MOST_INLINE = 4096
+
 
 class Refused(Exception):
     """A status, and the line that says why."""
@@ -51,15 +54,24 @@ class Revlog:
                 left += self.parents[rev]
         return found
 
-    def files(self):
-        index, data = b"", b""
+    def files(self, inline=False):
+        """The bytes of the index and of the data; those of an inline one are in its index, each chunk behind its entry."""
+        index, offset, data = b"", 0, b""
         for rev, text in enumerate(self.texts):
             chunk = text if not text or text[0] == 0 else b"u" + text
             p1, p2 = (-1 if parent is None else parent for parent in self.parents[rev])
-            entry = struct.pack(">QIIIIii20s12x", len(data) << 16, len(chunk), len(text), rev, self.links[rev], p1, p2, self.nodes[rev])
-            index += b"\0\0\0\x01" + entry[4:] if rev == 0 else entry
-            data += chunk
+            entry = struct.pack(">QIIIIii20s12x", offset << 16, len(chunk), len(text), rev, self.links[rev], p1, p2, self.nodes[rev])
+            header = b"\0\x01\0\x01" if inline else b"\0\0\0\x01"
+            index += header + entry[4:] if rev == 0 else entry
+            offset += len(chunk)
+            if inline:
+                index += chunk
+            else:
+                data += chunk
         return index, data
+
+    def is_inline(self):
+        return len(self.texts[0]) <= MOST_INLINE
 
 
 def listed_name(path, ext):
@@ -170,7 +182,8 @@ class Store:
         for path in sorted(added):
             if path not in self.filelogs:
                 self.filelogs[path] = Revlog()
-                self.list += b"".join(listed_name(path, ext) + b"\n" for ext in (b".i", b".d"))
+                extensions = (b".i",) if len(added[path][0]) <= MOST_INLINE else (b".i", b".d")
+                self.list += b"".join(listed_name(path, ext) + b"\n" for ext in extensions)
             rows[path] = (self.filelogs[path].add(*added[path], link), rows[path][1])
         self.manifests.append(self.manifest.add(text, above, link))
         self.changelog.add(change, parents, link)
@@ -228,7 +241,7 @@ class Store:
         for name, log in logs.items():
             files[f"{name}.i"], files[f"{name}.d"] = log.files()
         for path, log in self.filelogs.items():
-            files[store_name(path, b".i")], files[store_name(path, b".d")] = log.files()
+            files[store_name(path, b".i")], files[store_name(path, b".d")] = log.files(log.is_inline())
         files["bookmarks"] = b"".join(b"%s %s\n" % (self.changelog.nodes[rev].hex().encode(), name.encode()) for name, rev in sorted(self.marks.items()))
         if self.working is not None:
             entries = b"".join(struct.pack(">cIiiI", b"n", 0, -1, -1, len(path)) + path for path in self.tracked)

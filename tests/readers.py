@@ -26,8 +26,8 @@ QUESTIONS = ["log", "bookmarks", "phase", "files", "cat"]
 
 
 def record(number):
-    """The commit of this number: a file that it changes, one that grows, and one that stays."""
-    files = {b"changed": b"%d\n" % number, b"grows": b"line\n" * number, b"stays": b"s\n"}
+    """The commit of this number: a file that it changes, one that grows, one that stays, and one with a data file."""
+    files = {b"changed": b"%d\n" % number, b"grows": b"line\n" * number, b"stays": b"s\n", b"large": b"%d\n" % number + b"l" * 4096}
     bodies = b"".join(b"file - %d %s\n%s\n" % (len(body), path, body) for path, body in sorted(files.items()))
     parent = b"parent tip\n" if number else b""
     return b"commit\n" + parent + b"user u\ndate %d 0\ndesc 1\nc\n" % number + bodies + b"end\n"
@@ -129,7 +129,7 @@ def faults_of(reader, states, start):
             if bodies.get(answer[0]) != answer[1]:
                 faults.append((name, answer))
         elif name == "files":
-            if [line.split(b" ", 2)[2] for line in answer.splitlines()] != [b"changed", b"grows", b"stays"]:
+            if [line.split(b" ", 2)[2] for line in answer.splitlines()] != [b"changed", b"grows", b"large", b"stays"]:
                 faults.append((name, answer))
         else:
             later = next((n for n in range(seen, len(states)) if states[n][name] == answer), None)

@@ -34,8 +34,8 @@ def installed():
     return shutil.which("strace")
 
 
-def record(text, body):
-    files = {"a": body, "d/b": b"b\n"}
+def record(text, body, **more):
+    files = {"a": body, "d/b": b"b\n", **more}
     head = b"commit\nuser u\ndate 0 0\ndesc %d\n%s\n" % (len(text), text)
     return head + b"".join(b"file - %d %s\n%s\n" % (len(b), p.encode(), b) for p, b in sorted(files.items())) + b"end\n"
 
@@ -169,7 +169,8 @@ def main():
         base = world.save("base")
         before = digest(world.state())
         for words, given in [
-            (["commit"], record(b"second", b"two\n")),
+            # with a new inline filelog and a new separate one
+            (["commit"], record(b"second", b"two\n", e=b"", f=b"f" * 4097)),
             (["phase", "0", "public"], b""),
             (["bookmark", "other", "0"], b""),
             (["bookmark", "--delete", "main"], b""),

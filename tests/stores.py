@@ -88,6 +88,14 @@ TWO = store(FIRST, SECOND)
 WHOLE = store(FIRST, manifest=[MANIFEST], filelog=[BODY])
 INDEX, DATA, FILE = "store/00changelog.i", "store/00changelog.d", "store/data/a.i"
 INLINE = {**WHOLE, "store/00manifest.i": inline(MANIFEST), "store/00manifest.d": b"u", FILE: inline(BODY), "store/data/a.d": b"ub\n"}
+MOST_INLINE = 16_777_216
+LONG = changeset(NULL, 0, [], b"a\n" + 70_000 * b"b")  # more than a piece of an index
+LONG_LINE = f"0\t{node(LONG).hex()}\t-1\t-1\t0\t0\ttest\ta\n"
+
+
+def history_inline(index, **others):
+    """The store of one changeset with this inline changelog, and no data file beside it."""
+    return {**{name: data for name, data in WHOLE.items() if name != DATA}, INDEX: index, **others}
 
 
 def damage(what, path=INDEX):
@@ -160,6 +168,35 @@ ROWS = [
     (changed(INLINE, FILE, 8, 0x80), "cat 0 a", damage("revlog 1 0", FILE), 15),
     (changed(INLINE, FILE, 64, 0x78), "cat 0 a", damage("revlog 2 0", FILE), 15),
     (changed(INLINE, FILE, 65, ord("b")), "cat 0 a", damage("revlog 7 0", FILE), 15),
+    # an inline changelog, read whole; what stands beside it is not looked at
+    *(
+        row
+        for files in (history_inline(inline(FIRST)), history_inline(inline(FIRST), **{DATA: b"ub\n"}))
+        for row in (
+            (files, "log", ZERO_LINE, 0),
+            (files, "heads", f"0 {ZERO}\n", 0),
+            (files, "files tip", FILES, 0),
+            (files, f"cat {ZERO} a", "a\n", 0),
+            (files, "phase 0", "public\n", 0),
+            (files, "parents", "", 0),
+            (files, "cat 1 a", UNKNOWN, 12),
+        )
+    ),
+    (history_inline(inline(FIRST, SECOND)), "log", ONE_LINE + ZERO_LINE, 0),
+    (history_inline(inline(FIRST, SECOND), bookmarks=MARKS.encode()), "bookmarks", f"main\t0\t{ZERO}\nnew\t1\t{ONE}\n", 0),
+    (history_inline(inline(LONG)), "log", LONG_LINE, 0),
+    (history_inline(inline(LONG, b"no changeset")), "heads", f"1 {node(b'no changeset', node(LONG)).hex()}\n", 0),
+    # a chunk that is cut, an entry that is cut, and no whole entry at all
+    (history_inline(inline(FIRST, SECOND)[:-1]), "log", ZERO_LINE, 0),
+    (history_inline(inline(FIRST, SECOND)[: len(inline(FIRST)) + 63]), "log", ZERO_LINE, 0),
+    (history_inline(inline(FIRST)[:-1]), "log", "", 0),
+    (changed(history_inline(inline(FIRST)[:-1]), INDEX, 3, 2), "log", damage("revlog 1 0"), 15),
+    (changed(history_inline(inline(FIRST)), INDEX, 8, 0x80), "log", damage("revlog 1 0"), 15),
+    (changed(history_inline(inline(FIRST)), INDEX, 64, 0x78), "log", damage("revlog 2 0"), 15),
+    (changed(history_inline(inline(FIRST)), INDEX, len(inline(FIRST)) - 1, ord("b")), "log", damage("revlog 7 0"), 15),
+    # as long as one may be, behind a changeset an entry whose chunk is cut; and longer
+    (history_inline(inline(FIRST).ljust(MOST_INLINE, b"\x7f")), "log", ZERO_LINE, 0),
+    (history_inline(inline(FIRST).ljust(MOST_INLINE + 1, b"\x7f")), "log", "abort: limit 9\n", 20),
     # the words of `requires`
     (with_file("requires", "dotencode\nfncache\ntreemanifest\n"), "log", "abort: requirement treemanifest\n", 27),
     (with_file("requires", "fncache\nrevlogv1\nstore\n"), "heads", "abort: requirement dotencode\n", 27),

@@ -1,6 +1,7 @@
 #!/usr/bin/env python3
 """`verify` over small stores that are laid out byte by byte, with each kind of finding that such stores can have, and over the stores of
-real Mercurial: what is written, the status, and that no file is changed.
+real Mercurial: what is written, the status, and that no file is changed; and that the same is written for each number of jobs, also where
+no thread can be had.
 
 The findings of the small stores are written by hand from the table of kinds in docs/ANSWERS.md. Kind 11 needs two paths with one SHA-1,
 so it has no row. The last line is 'N passed, M failed'.
@@ -8,6 +9,7 @@ so it has no row. The last line is 'N passed, M failed'.
 
 import hashlib
 import os
+import resource
 import shutil
 import struct
 import subprocess
@@ -38,6 +40,13 @@ def revlog(*texts):
         index += struct.pack(">QIIIIii20s12x", len(data) << 16, len(text) + 1, len(text), rev, rev, rev - 1, -1, own)
         data += b"u" + text
     return (b"\0\0\0\x01" + index[4:] if index else b""), data
+
+
+def inline(*texts):
+    """The index of the same revlog with each chunk behind its entry."""
+    index, _ = revlog(*texts)
+    whole = b"".join(index[64 * rev : 64 * rev + 64] + b"u" + text for rev, text in enumerate(texts))
+    return b"\0\1" + whole[2:]
 
 
 def manifest(node):
@@ -71,6 +80,11 @@ DRAFTS = {
     "bookmarks": b"%s main\n" % ZERO.hex().encode(),
     "dirstate": ONE + NULL + struct.pack(">ciiii", b"n", 0o100644, 2, 0, 1) + b"a",
 }
+
+
+# The same with an inline manifest and filelog, and without their data files.
+INLINE = {name: data for name, data in DRAFTS.items() if name not in (MANIFEST_DATA, FILE_DATA)}
+INLINE |= {MANIFEST: inline(*MANIFESTS), FILE: inline(*BODIES), NAMES: b"data/a.i\n"}
 
 
 def at(name, place, data):
@@ -126,6 +140,28 @@ ROWS = [
     # bytes behind the last revision
     (behind(MANIFEST_DATA, b"x"), [f"{MANIFEST_DATA} 2 17"], 2, 1),
     (behind(FILE, b"x"), [f"{FILE} 2 17"], 2, 1),
+    # inline revlogs: whole, with files beside that are no part of them, and with a listed name of one that is not there
+    (INLINE, [], 2, 1),
+    ({**INLINE, MANIFEST_DATA: b"?", FILE_DATA: b"?"}, [], 2, 1),
+    ({**INLINE, NAMES: DRAFTS[NAMES]}, [], 2, 1),
+    ({**INLINE, NAMES: b""}, [f"{FILE} - 10"], 2, 1),
+    # the last chunk cut, a byte behind it, and a byte of the first text
+    ({**INLINE, FILE: INLINE[FILE][:-1]}, [f"{FILE} 1 5", f"{FILE} 1 17"], 2, 1),
+    ({**INLINE, MANIFEST: INLINE[MANIFEST] + b"x"}, [f"{MANIFEST} 2 17"], 2, 1),
+    ({**INLINE, FILE: INLINE[FILE][:65] + b"x" + INLINE[FILE][66:]}, [f"{FILE} 0 3", f"{FILE} 0 5", f"{FILE} 1 5"], 2, 1),
+    # the first chunk cut: no whole entry is left
+    ({**INLINE, FILE: INLINE[FILE][:66]}, [f"{FILE} 0 5", f"{FILE} 0 17", f"{FILE} 1 5"], 2, 1),
+    # a stored length with its sign set, a flag of the header that none has, and another version
+    ({**INLINE, FILE: INLINE[FILE][:8] + b"\x80" + INLINE[FILE][9:]}, [f"{FILE} 0 3", f"{FILE} 0 5", f"{FILE} 1 5"], 2, 1),
+    ({**INLINE, FILE: b"\0\5" + INLINE[FILE][2:]}, [f"{FILE} 0 3", f"{FILE} 0 5", f"{FILE} 1 5", f"{FILE_DATA} - 10"], 2, 1),
+    ({**INLINE, FILE: b"\0\1\0\2" + INLINE[FILE][4:]}, [f"{FILE} 0 3", f"{FILE} 0 5", f"{FILE} 1 5", f"{FILE_DATA} - 10"], 2, 1),
+    # an inline changelog is not read
+    (
+        {**DRAFTS, CHANGELOG: inline(*CHANGESETS)},
+        [f"{CHANGELOG} 0 3", f"{MANIFEST} 0 6", f"{MANIFEST} 1 6", f"{ROOTS} 1 13", "bookmarks 1 14", "dirstate - 15", f"{FILE} - 12", f"{FILE_DATA} - 12"],
+        0,
+        0,
+    ),
 ]
 
 # A store, the words, what is written, and the status.
@@ -133,8 +169,18 @@ REFUSALS = [
     ({}, ["verify"], b"abort: not a repository\n", 24),
     ({**DRAFTS, "requires": b"dotencode\nfncache\ntreemanifest\n"}, ["verify"], b"abort: requirement treemanifest\n", 27),
     (DRAFTS, ["verify", "x"], b"abort: bad word 1\n", 28),
-    (DRAFTS, ["verify", "--jobs", "2"], b"abort: bad word 1\n", 28),
+    (DRAFTS, ["verify", "--jobs=2"], b"abort: bad word 1\n", 28),
+    (DRAFTS, ["verify", "x", "--jobs", "2"], b"abort: bad word 1\n", 28),
+    (DRAFTS, ["verify", "--jobs"], b"abort: bad word 2\n", 28),
+    *((DRAFTS, ["verify", "--jobs", number], b"abort: bad word 2\n", 28) for number in ("", "0", "65", "04", "+4", "-1", "4x", "--", str(2**64 + 4))),
+    (DRAFTS, ["verify", "--", "--jobs", "2"], b"abort: bad word 2\n", 28),
+    (DRAFTS, ["verify", "--jobs", "2", "2"], b"abort: bad word 3\n", 28),
+    (DRAFTS, ["verify", "--jobs", "2", "--jobs", "2"], b"abort: bad word 3\n", 28),
+    (DRAFTS, ["verify", "--jobs", "2", "--", "x"], b"abort: bad word 4\n", 28),
 ]
+
+# The words by which a store is verified: each says the same.
+WORDS = [["verify"], ["verify", "--"], ["verify", "--jobs", "1"], ["verify", "--jobs", "3"], ["verify", "--jobs", "64", "--"]]
 
 
 def report(findings, changesets, filelogs):
@@ -154,7 +200,8 @@ def ask(program, folder, *words):
 
 
 def rows(program, checks):
-    wanted = [(files, ["verify"], *report(*found)) for files, *found in ROWS]
+    wanted = [(files, words, *report(*found)) for files, *found in ROWS for words in (WORDS[0], WORDS[3])]
+    wanted += [(DRAFTS, words, *report([], 2, 1)) for words in WORDS]
     for files, words, text, status in wanted + REFUSALS:
         with tempfile.TemporaryDirectory() as folder:
             lay(folder, files)
@@ -164,19 +211,71 @@ def rows(program, checks):
             checks.check(f"{words}: other files stand", bytes_of(folder) == before)
 
 
-# What is found in stores that Mercurial made. One has a merge under way, which tracks other paths than its first working parent. The eight
-# filelogs of another have their chunks in their indexes, and so no data files: these alone are its findings, besides the changesets that name a
-# revision of them.
+def wide(count):
+    """One changeset of so many files, every third of them inline; and what is found where some of them are damaged."""
+    paths = [b"f%03d" % number for number in range(count)]
+    bodies = [b"%s\n" % path for path in paths]
+    rows_of = b"".join(b"%s\0%s\n" % (path, nodes([body])[0].hex().encode()) for path, body in zip(paths, bodies))
+    files = {"requires": REQUIRES, NAMES: b""}
+    files[MANIFEST], files[MANIFEST_DATA] = revlog(rows_of)
+    files[CHANGELOG], files[CHANGELOG_DATA] = revlog(changeset(nodes([rows_of])[0], *paths))
+    for number, (path, body) in enumerate(zip(paths, bodies)):
+        name = f"store/data/{path.decode()}"
+        if number % 3 == 0:
+            files[name + ".i"] = inline(body)
+        else:
+            files[name + ".i"], files[name + ".d"] = revlog(body)
+        files[NAMES] += b"data/%s.i\n" % path + (b"data/%s.d\n" % path if number % 3 else b"")
+    findings = []
+    # the first and the last file, some between them, and one that the list of names lacks
+    for number in {0, 1, 63, 64, 65, 100, count - 1}:
+        name = f"store/data/{paths[number].decode()}"
+        if number % 3 == 0:
+            files[name + ".i"] = files[name + ".i"][:66] + b"?" + files[name + ".i"][67:]
+        else:
+            files[name + ".d"] = b"u?" + files[name + ".d"][2:]
+        findings += [f"{name}.i 0 3", f"{name}.i 0 5"]
+    for number in (2, 80):
+        name = f"store/data/{paths[number].decode()}"
+        files[NAMES] = files[NAMES].replace(b"data/%s.i\ndata/%s.d\n" % (paths[number], paths[number]), b"")
+        files[name + ".i"] += b"x"
+        findings += [f"{name}.i - 10", f"{name}.d - 10", f"{name}.i 1 17"]
+    return files, findings
+
+
+def without_threads():
+    """No thread can be had by the process that calls this."""
+    if os.getuid() == 0:
+        os.setgid(65534)
+        os.setuid(65534)
+    resource.setrlimit(resource.RLIMIT_NPROC, (0, 0))
+
+
+def jobs(program, checks):
+    count = 150
+    files, findings = wide(count)
+    wanted = report(findings, 1, count)
+    with tempfile.TemporaryDirectory() as folder:
+        lay(folder, files)
+        for number in (1, 2, 3, 8, 63, 64):
+            said = ask(program, folder, "verify", "--jobs", str(number))
+            checks.check(f"{count} files, {number} jobs: {said} ({wanted})", said == wanted)
+        for place, _, _ in os.walk(folder):
+            os.chmod(place, 0o755)
+        shutil.copy(program, os.path.join(folder, "program"))
+        words = [os.path.join(folder, "program"), "verify", "--jobs", "8"]
+        ended = subprocess.run(words, stdin=subprocess.DEVNULL, stdout=subprocess.PIPE, stderr=subprocess.DEVNULL, cwd=folder, preexec_fn=without_threads, check=False)
+        checks.check(f"no threads: {ended}", (ended.stdout, ended.returncode) == wanted)
+
+
+# What is found in stores that Mercurial made. One has a merge under way, which tracks other paths than its first working parent. Another, in
+# which all filelogs are inline, has two merges that keep a file's node of their first parent though the second parent has another one that is no
+# ancestor of it: the rules make a revision there, and list the file.
 STORES = {
     "odd": lambda findings: findings == ["dirstate - 16"],
-    "ordinary": lambda findings: sorted(kind_of(line) for line in findings if kind_of(line) != "5") == ["10"] * 8 + ["3"] * 8
-    and all(line.startswith("store/data/") for line in findings),
+    "ordinary": lambda findings: findings == [f"{CHANGELOG} 5 9", f"{CHANGELOG} 10 9", "store/data/src/d1/file1.txt.i 0 8", "store/data/src/d2/file2.txt.i 3 8"],
     "separate": lambda findings: findings == [],
 }
-
-
-def kind_of(line):
-    return line.rsplit(" ", 1)[1]
 
 
 def stores_of_mercurial(program, checks):
@@ -194,6 +293,7 @@ def stores_of_mercurial(program, checks):
 def main():
     program, checks = built_program(), Checks()
     rows(program, checks)
+    jobs(program, checks)
     stores_of_mercurial(program, checks)
     print(f"{checks.passed} passed, {checks.failed} failed")
     sys.exit(checks.failed > 0 or checks.passed == 0)

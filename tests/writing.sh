@@ -81,7 +81,9 @@ change_files() {
     echo "line of $1" >>src/main.c
     echo "$1" >"src/deep/of $(($1 % 3))"
     printf '\0%s' "$1" >"space here/Zero.i"
-    [ "$1" = 2 ] && ln -s main.c src/link
+    # one whose filelog is separate, beside those that are inline
+    [ "$1" = 2 ] && ln -s main.c src/link && head -c 4097 /dev/zero | tr '\0' z >src/large
+    [ "$1" = 4 ] && echo more >>src/large
     [ "$1" = 3 ] && { rm "src/deep/of 1"; chmod +x src/main.c; }
     [ "$1" = 4 ] && printf 'ü\n' >"$(printf 'long%.0s' {1..40}).txt"
     [ "$1" = 5 ] && printf '\1\nnot metadata' >src/marker && printf x >src/emptied
@@ -201,6 +203,37 @@ before=$(sum_of .hg)
 closed >/dev/null 2>&1
 check "an input that is closed changes nothing" [ "$before" = "$(sum_of .hg)" ]
 check "an input that is a folder" refused 18 "abort: input failed" "$program" commit <.
+cd ..
+
+# ---- in turn with Mercurial as it is, which keeps small filelogs inline and splits them as they grow
+
+cat >"$work/plainrc" <<END
+[format]
+usegeneraldelta = no
+sparse-revlog = no
+revlog-compression = zlib
+use-share-safe = no
+use-persistent-nodemap = no
+use-dirstate-v2 = no
+maxchainlen = -1
+[storage]
+revlog.zlib.level = 0
+END
+plain_theirs() { HGRCPATH=$work/plainrc commit_theirs "$1"; }
+no_findings() { "$program" verify >/dev/null; }
+mkdir turns && cd turns && "$program" init || exit 1
+for number in 1 2 3 4 5 6 7 8; do
+    change_files "$number"
+    # past the length up to which Mercurial keeps a filelog inline, by each of both in turn
+    head -c $((number * 30000)) /dev/zero | tr '\0' "$number" >growing
+    case $number in
+    1 | 4 | 5 | 8) check "the program commits turn $number" commit_ours "$number" ;;
+    *) check "Mercurial as it is commits turn $number" plain_theirs "$number" ;;
+    esac
+    check "nothing is wrong with turn $number" nothing_wrong
+    check "and nothing is found" no_findings
+done
+check "both say the same of all turns" same_answers
 cd ..
 
 # ---- sizes

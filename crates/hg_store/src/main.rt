@@ -28,6 +28,7 @@ use std::fs;
 use std::io::ErrorKind;
 use std::os::fd::AsFd;
 use std::process::ExitCode;
+use std::thread::Threads;
 
 // Refuses words of which the one behind these is not UTF-8: the first that does not fit is one of these, or that one.
 fn refuse_text<K: Sink>(rt: &HostRuntime, before: &[String], out: &mut K) -> u8 {
@@ -70,14 +71,18 @@ fn make_store(rt: &HostRuntime, words: &[String]) {
     }
 }
 
-// Does what the words ask for, and gives the status.
-fn answer<K: Sink>(rt: &HostRuntime, out: &mut K) -> Result<u8, AllocError> {
+// Does what the words ask for, with these threads where there are some to be had, and gives the status.
+fn answer<T: Threads + Sync, K: Sink>(
+    rt: &HostRuntime,
+    threads: &T,
+    out: &mut K,
+) -> Result<u8, AllocError> {
     match read_words(rt)? {
         Words::All(words) => {
             make_store(rt, &words);
             let yard = OsYard::new(OsFiles::new(*rt, ".hg")?);
             let mut input = OsSource::new(rt.stdin());
-            let ran = run(rt, rt.alloc(), &words, yard, &mut input, out);
+            let ran = run(threads, rt.alloc(), &words, yard, &mut input, out);
             if ran.status == 28 {
                 say_word(rt, &words);
             }
@@ -94,7 +99,7 @@ fn main(rt: HostRuntime) -> ExitCode {
         return ExitCode::from(19);
     }
     let mut out = OsSink::new(rt.stdout());
-    match answer(&rt, &mut out) {
+    match answer(&rt, &rt, &mut out) {
         Ok(status) => {
             say_hint(&rt, status);
             ExitCode::from(status)

@@ -64,6 +64,6 @@ pub filelogs-listed : (laws : NameLaws) (r : Repo) → IsRepo r → ListsFilelog
 filelogs-listed laws r is = record {
   names = both_names (used_paths r.changesets);
   text = names-read laws (used_paths r.changesets) [] [] (λ q a. used-tracked q no_history r.changesets is.changesets (sym (among-used q r.changesets) ∙ a)) refl;
-  listed = λ path ext used. name-there path ext (used_paths r.changesets) (among-used path r.changesets ∙ used);
+  listed = λ path ext used has. name-there path ext (used_paths r.changesets) (among-used path r.changesets ∙ used);
   used = all-names (IsUsedName (tree_of r) r.changesets) (used_paths r.changesets) (λ q ext a. inr (q, ext, sym (among-used q r.changesets) ∙ a, refl));
 }

@@ -18,6 +18,7 @@ use Rattle.hgs_index.specs.Node.{null_node}
 use Rattle.hgs_index.specs.Revision.{Parents}
 use Rattle.hgs_marks.specs.Bookmarks.{Mark, bookmarks_text, mark_lines}
 use Rattle.hgs_marks.specs.Dirstate.{read_dirstate}
+use Rattle.hgs_index.specs.Theorems.EitherLemmas.{separate-holds}
 use Rattle.hgs_model.specs.declared.phase.Phase.TheVariants.{Draft, Secret}
 use Rattle.hgs_model.specs.History.{History, history, manifest_number, manifest_with, no_history, node_at, uses, with_changeset}
 use Rattle.hgs_model.specs.IsRepo.{IsNextChangeset, IsPhase, IsRepo}
@@ -29,7 +30,7 @@ use Rattle.hgs_path.specs.StoreName.{listed_name, store_name}
 use Rattle.hgs_phases.specs.declared.roots.Root.{Root}
 use Rattle.hgs_phases.specs.Roots.{IsTextOf, read_roots, roots_text}
 use Rattle.hgs_stands.specs.Places.{bookmarks_path, changelog_data, changelog_index, dirstate_path, manifest_data, manifest_index, roots_path}
-use Rattle.hgs_stands.specs.Stands.{HoldsAt, IsClean, ListsFilelogs, Stands}
+use Rattle.hgs_stands.specs.Stands.{HoldsApart, HoldsAt, IsClean, ListsFilelogs, Stands}
 use Rattle.hgs_built.specs.CanBeStored.{HasRoom}
 use Rattle.hgs_built.specs.Samples.{beside, first, long_path, merge, merged, merged_files, renaming}
 use Rattle.hgs_built.proofs.Basics.{never, none-some, some-same, and-both, and-left, and-right, same-eq}
@@ -233,25 +234,25 @@ long-room : HasRoom ((history merged.changesets).filelog long_path)
 unfolding encode_with sha1 first_words schedule rounds compress hash_after digest_bytes digits
 long-room = record { different = refl; not_null = refl; room = (fit _ refl refl refl refl refl refl refl refl refl, tt) }
 
-changelog-held : (laws : RevisionLaws) → HoldsAt merged_files changelog_index changelog_data (history merged.changesets).changelog
+changelog-held : (laws : RevisionLaws) → HoldsApart merged_files changelog_index changelog_data (history merged.changesets).changelog
 unfolding encode_with sha1 first_words schedule rounds compress hash_after digest_bytes digits
 changelog-held laws = holds laws (history merged.changesets).changelog changelog-room (laws.changelog_before merged (merged-repo laws))
 
 manifest-held : (laws : RevisionLaws) → HoldsAt merged_files manifest_index manifest_data (history merged.changesets).manifest
 unfolding encode_with sha1 first_words schedule rounds compress hash_after digest_bytes digits
-manifest-held laws = holds laws (history merged.changesets).manifest manifest-room (laws.manifest_before merged (merged-repo laws))
+manifest-held laws = separate-holds _ _ (history merged.changesets).manifest (holds laws (history merged.changesets).manifest manifest-room (laws.manifest_before merged (merged-repo laws)))
 
 a-held : (laws : RevisionLaws) → HoldsAt merged_files (store_name (codes "a") I) (store_name (codes "a") D) ((history merged.changesets).filelog (codes "a"))
 unfolding encode_with sha1 first_words schedule rounds compress hash_after digest_bytes digits
-a-held laws = holds laws ((history merged.changesets).filelog (codes "a")) a-room (laws.filelogs_before merged (codes "a") (merged-repo laws))
+a-held laws = separate-holds _ _ ((history merged.changesets).filelog (codes "a")) (holds laws ((history merged.changesets).filelog (codes "a")) a-room (laws.filelogs_before merged (codes "a") (merged-repo laws)))
 
 c-held : (laws : RevisionLaws) → HoldsAt merged_files (store_name (codes "c") I) (store_name (codes "c") D) ((history merged.changesets).filelog (codes "c"))
 unfolding encode_with sha1 first_words schedule rounds compress hash_after digest_bytes digits
-c-held laws = holds laws ((history merged.changesets).filelog (codes "c")) c-room (laws.filelogs_before merged (codes "c") (merged-repo laws))
+c-held laws = separate-holds _ _ ((history merged.changesets).filelog (codes "c")) (holds laws ((history merged.changesets).filelog (codes "c")) c-room (laws.filelogs_before merged (codes "c") (merged-repo laws)))
 
 long-held : (laws : RevisionLaws) → HoldsAt merged_files (store_name long_path I) (store_name long_path D) ((history merged.changesets).filelog long_path)
 unfolding encode_with sha1 first_words schedule rounds compress hash_after digest_bytes digits
-long-held laws = holds laws ((history merged.changesets).filelog long_path) long-room (laws.filelogs_before merged long_path (merged-repo laws))
+long-held laws = separate-holds _ _ ((history merged.changesets).filelog long_path) (holds laws ((history merged.changesets).filelog long_path) long-room (laws.filelogs_before merged long_path (merged-repo laws)))
 
 -- the used paths
 abbrev Three : List ℕ → Type 0
@@ -305,7 +306,7 @@ files-listed : ListsFilelogs merged_files merged.changesets
 files-listed = record {
   names = names;
   text = refl;
-  listed = listed-in;
+  listed = λ path ext used has. listed-in path ext used;
   used = (inr (codes "a", I, refl, refl), (inr (codes "a", D, refl, refl), (inr (codes "c", I, refl, refl), (inr (codes "c", D, refl, refl), (inr (long_path, D, refl, refl), (inr (long_path, I, refl, refl), tt))))));
 }
 

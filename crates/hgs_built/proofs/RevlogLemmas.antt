@@ -6,7 +6,8 @@ use Rattle.std.specs.List.{AllByRecursion}
 use Rattle.hgs_files.specs.Tree.{bytes_at}
 use Rattle.hgs_index.specs.Entry.{Fits}
 use Rattle.hgs_index.specs.Revision.{ParentsBefore, Revision, node_after}
-use Rattle.hgs_index.specs.Revlog.{HoldsRevisions, Item, Stored, chunk_of, chunk_text, items_from}
+use Rattle.hgs_index.specs.Revlog.{Holds, HoldsRevisions, Item, Stored, chunk_of, chunk_text, items_from}
+use Rattle.hgs_index.specs.Theorems.EitherLemmas.{separate-holds}
 use Rattle.hgs_model.specs.History.{history, parents_in, uses}
 use Rattle.hgs_model.specs.IsRepo.{IsRepo}
 use Rattle.hgs_model.specs.Repo.{Repo}
@@ -48,9 +49,9 @@ holds laws revisions has before = record {
 -- ---- those of a repository
 
 filelog-holds : (laws : RevisionLaws) (names : NameLaws) (r : Repo) → IsRepo r → CanBeStored r → (p : List ℕ) → uses r.changesets p ≡ true → HoldsAt (tree_of r) (store_name p I) (store_name p D) ((history r.changesets).filelog p)
-filelog-holds laws names r is can p used =
-    subst (λ x. HoldsRevisions x (bytes_at (tree_of r) (store_name p D)) ((history r.changesets).filelog p)) (sym index)
-    (subst (λ x. HoldsRevisions (index_of ((history r.changesets).filelog p)) x ((history r.changesets).filelog p)) (sym chunks) (holds laws ((history r.changesets).filelog p) (can.filelogs p used) (laws.filelogs_before r p is)))
+filelog-holds laws names r is can p used = separate-holds _ _ ((history r.changesets).filelog p)
+    (subst (λ x. HoldsRevisions x (bytes_at (tree_of r) (store_name p D)) ((history r.changesets).filelog p)) (sym index)
+    (subst (λ x. HoldsRevisions (index_of ((history r.changesets).filelog p)) x ((history r.changesets).filelog p)) (sym chunks) (holds laws ((history r.changesets).filelog p) (can.filelogs p used) (laws.filelogs_before r p is))))
   where
     there : among p (used_paths r.changesets) ≡ true
     there = among-used p r.changesets ∙ used
@@ -67,7 +68,7 @@ filelog-holds laws names r is can p used =
 pub changesets-held : (laws : RevisionLaws) (names : NameLaws) (r : Repo) → IsRepo r → CanBeStored r → HoldsChangesets (tree_of r) r.changesets
 changesets-held laws names r is can = record {
   changelog = holds laws (history r.changesets).changelog can.changelog (laws.changelog_before r is);
-  manifest = holds laws (history r.changesets).manifest can.manifest (laws.manifest_before r is);
+  manifest = separate-holds _ _ (history r.changesets).manifest (holds laws (history r.changesets).manifest can.manifest (laws.manifest_before r is));
   filelogs = filelog-holds laws names r is can;
   names = can.names;
 }
@@ -117,8 +118,8 @@ room-from (s ∷ stored) offset other known le texts fits =
     below : (a b n : ℕ) → a ≤ b → b < n → a < n
     below a b n x y = omega (arith, x, y)
 
-pub held-room : (index data_bytes : List ℕ) (revisions : List Revision) → HoldsRevisions index data_bytes revisions → HasRoom revisions
-held-room index data_bytes revisions h = record {
+pub held-room : (inline : Bool) (index data_bytes : List ℕ) (revisions : List Revision) → Holds inline index data_bytes revisions → HasRoom revisions
+held-room inline index data_bytes revisions h = record {
   different = h.different;
   not_null = h.not_null;
   room = subst (λ l. AllByRecursion (λ (i : Item). Fits i.entry None) (items_from 0 [] (stored_whole l))) h.these (room-from h.stored 0 0 [] (omega arith) h.texts h.fits);

@@ -41,9 +41,9 @@ built-clean laws names small r is can = record {
 
 pub stands-stored : (small : SmallLaws) (t : Tree) (r : Repo) → Stands t r → CanBeStored r
 stands-stored small t r s = record {
-  changelog = held-room _ _ (history r.changesets).changelog s.revlogs.changelog;
-  manifest = held-room _ _ (history r.changesets).manifest s.revlogs.manifest;
-  filelogs = λ path used. held-room _ _ ((history r.changesets).filelog path) (s.revlogs.filelogs path used);
+  changelog = held-room _ _ _ (history r.changesets).changelog s.revlogs.changelog;
+  manifest = held-room _ _ _ (history r.changesets).manifest s.revlogs.manifest;
+  filelogs = λ path used. held-room _ _ _ ((history r.changesets).filelog path) (s.revlogs.filelogs path used);
   names = s.revlogs.names;
   marks = names-had small t r s.bookmarks;
 }

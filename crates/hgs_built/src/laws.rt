@@ -1,11 +1,11 @@
 //! What the definitions of this crate imply. Each function is one law; none does anything but to call laws that it rests on.
-ghost use Rattle.std.specs.Prelude.{◌≡◌, true, ℕ, List, None};
+ghost use Rattle.std.specs.Prelude.{◌≡◌, true, Bool, ℕ, List, None};
 ghost use Rattle.std.specs.List.{AllByRecursion};
 ghost use Rattle.hgs_files.specs.Tree.{Tree};
 ghost use Rattle.hgs_index.specs.Entry.{Fits};
 ghost use Rattle.hgs_index.specs.MarkName.{is_mark_name};
 ghost use Rattle.hgs_index.specs.Revision.{ParentsBefore, Revision};
-ghost use Rattle.hgs_index.specs.Revlog.{HoldsRevisions, Item, all_different, items};
+ghost use Rattle.hgs_index.specs.Revlog.{Holds, HoldsRevisions, Item, all_different, items};
 ghost use Rattle.hgs_model.specs.History.{changeset_nodes, history, parents_in, uses};
 ghost use Rattle.hgs_model.specs.IsRepo.{IsRepo};
 ghost use Rattle.hgs_model.specs.Repo.{Bookmark, Repo};
@@ -25,10 +25,11 @@ use hgs_path::laws::{added_lines_are_read, tracked_without_fault};
 use hgs_phases::laws::written_then_read;
 use hgs_stands::laws::{entries_of_changesets, filelogs_stand_apart, stands_for_one};
 
-/// Revisions that have room are held by the index and the data bytes that are built of them, and what bytes hold has room.
+/// Revisions that have room are held by the index and the data bytes that are built of them, and what bytes hold has room,
+/// in either form.
 pub fn revlogs_are_held()
     ensures built { (revisions : List Revision) → HasRoom revisions → ParentsBefore 0 (parents_in revisions) → HoldsRevisions (index_of revisions) (data_of revisions) revisions }
-    ensures room { (index data_bytes : List ℕ) (revisions : List Revision) → HoldsRevisions index data_bytes revisions → HasRoom revisions }
+    ensures room { (inline : Bool) (index data_bytes : List ℕ) (revisions : List Revision) → Holds inline index data_bytes revisions → HasRoom revisions }
 {
     chunk_then_text();
     nodes_are_counted();

@@ -11,6 +11,7 @@ use Rattle.hgs_index.specs.FileText.{body_of, unpacked}
 use Rattle.hgs_load.specs.Answer.{IsRefusal, is_of_outside}
 use Rattle.hgs_load.specs.View.{revlog_refusal}
 use Rattle.hgs_load.specs.declared.answer.ReadAnswer.{ReadAnswer}
+pub use Rattle.hgs_loading.specs.Theorems.FoundLemmas.{alone-both, alone-one}
 use Rattle.hgs_revlog.specs.Fault.{is_memory}
 use Rattle.hgs_revlog.specs.declared.fault.RevFault.{RevFault}
 use Rattle.hgs_revlog.specs.declared.fault.RevFault.TheVariants.{Entry, Compressed, Delta, Flagged, Short, Length, Hash, Parent, Collision, Limit, Memory, Offset, Twice, Tail, Missing}
@@ -63,20 +64,3 @@ body-is text meta body fits is =
 pub alone-free : (alone : Bool) (seen : Option (List Op)) (start : Tree) (S : Tree → Type 0) → ((t : Tree) → S t) → alone ≡ true → IfSome seen (λ log. S (after_all log start))
 alone-free alone None start S f h = tt
 alone-free alone (Some log) start S f h = f (after_all log start)
-
--- one call after another
-pub alone-both : (alone : Bool) (seen next : Option (List Op)) (start start_next : Tree) (P Q S : Tree → Type 0) → (alone ≡ true → next ≡ seen) → start_next ≡ start → ((t : Tree) → P t → Q t → S t) →
-    (alone ≡ true → IfSome seen (λ log. P (after_all log start))) → (alone ≡ true → IfSome next (λ log. Q (after_all log start_next))) → alone ≡ true → IfSome next (λ log. S (after_all log start_next))
-alone-both alone seen next start start_next P Q S still same f p q h =
-    let N : Option (List Op) → Type 0 = λ s. IfSome s (λ log. P (after_all log start)) in
-    let T : Tree → Type 0 = λ t. IfSome next (λ log. P (after_all log t)) in
-    by next (subst T (sym same) (subst N (sym (still h)) (p h))) (q h)
-  where
-    by : (s : Option (List Op)) → IfSome s (λ log. P (after_all log start_next)) → IfSome s (λ log. Q (after_all log start_next)) → IfSome s (λ log. S (after_all log start_next))
-    by None p q = tt
-    by (Some log) p q = f (after_all log start_next) p q
-
--- what follows of one call
-pub alone-one : (alone : Bool) (seen : Option (List Op)) (start : Tree) (P S : Tree → Type 0) → ((t : Tree) → P t → S t) → (alone ≡ true → IfSome seen (λ log. P (after_all log start))) → alone ≡ true → IfSome seen (λ log. S (after_all log start))
-alone-one alone None start P S f p h = tt
-alone-one alone (Some log) start P S f p h = f (after_all log start) (p h)

@@ -29,9 +29,9 @@ pub growth-with : (tree : OfTree) (xs : List OfFile) → (with_files tree xs).gr
 growth-with tree [] = sym (nil tree.growth)
 growth-with tree (x ∷ xs) = growth-with (with_file tree x) xs ∙ append_assoc tree.growth (changes_of x.growth) (flat_map (λ x. changes_of x.growth) xs)
 
-pub lines-with : (tree : OfTree) (xs : List OfFile) → (with_files tree xs).lines ≡ tree.lines ++ flat_map (λ x. new_lines x.new x.row.path) xs
+pub lines-with : (tree : OfTree) (xs : List OfFile) → (with_files tree xs).lines ≡ tree.lines ++ flat_map (λ x. new_lines x.new x.inline x.row.path) xs
 lines-with tree [] = sym (nil tree.lines)
-lines-with tree (x ∷ xs) = lines-with (with_file tree x) xs ∙ append_assoc tree.lines (new_lines x.new x.row.path) (flat_map (λ x. new_lines x.new x.row.path) xs)
+lines-with tree (x ∷ xs) = lines-with (with_file tree x) xs ∙ append_assoc tree.lines (new_lines x.new x.inline x.row.path) (flat_map (λ x. new_lines x.new x.inline x.row.path) xs)
 
 -- the changed paths in the order in which they are met
 abbrev pub met_paths : List OfFile → List Row → List Row → List (List ℕ)

@@ -13,7 +13,7 @@ use Rattle.hgs_model.specs.declared.files.NewFile.{NewFile}
 use Rattle.hgs_path.specs.declared.name.Ext.{Ext}
 use Rattle.hgs_load.specs.Answer.{is_of_outside}
 use Rattle.hgs_load.specs.declared.answer.ReadAnswer.{ReadAnswer}
-use Rattle.hgs_commit.specs.Files.{OfFile, changed_in, file_in, file_on, file_with, filelog_in, kept_file, kept_in, parents_by, place_in, row_with}
+use Rattle.hgs_commit.specs.Files.{OfFile, changed_in, file_in, file_on, file_with, formed, filelog_in, kept_file, kept_in, parents_by, place_in, row_with}
 use Rattle.hgs_commit.specs.Obstacles.{Met, Obstacle, noted, noting}
 use Rattle.hgs_commit.specs.Texts.{OfGrowth, OfLog, OfText, growth_with, new_text_in, new_text_of, obstacles_with, revised_in, standing_of}
 use Rattle.hgs_commit.specs.Walk.{Told}
@@ -49,7 +49,7 @@ module _ (f : OfLog) (file : NewFile) (parents : Parents) (link : ℕ) (text : L
   revision x = record { text = x; parents = parents; link = link }
 
   abbrev with_text : OfText × List Obstacle → List Obstacle → OfFile × List Obstacle
-  with_text x obstacles = (record { row = row_with file x.0.node; changed = true; growth = x.0.growth; new = length f.log.entries == 0 }, obstacles ++ x.1)
+  with_text x obstacles = (record { row = row_with file x.0.node; changed = true; growth = x.0.growth; new = length f.log.entries == 0; inline = f.log.inline }, obstacles ++ x.1)
 
   abbrev from : Result Revised ReadAnswer → Result (OfFile × List Obstacle) ReadAnswer
   from r = and_then (and_then r (λ became. Ok (new_text_of f became))) (λ x. and_then (place_in f t) (λ obstacles. Ok (with_text x obstacles)))
@@ -58,13 +58,13 @@ module _ (f : OfLog) (file : NewFile) (parents : Parents) (link : ℕ) (text : L
   changed-from r e = ap (λ x. from (revised_in f (revision x) t)) (sym packed) ∙ ap from e
 
   pub changed-ok : (v : Revised) (m between new : Met) (growth : Option OfGrowth) → growth ≡ growth_with f v.node v.became → new ≡ noted between (obstacles_with f v.node v.became) → revised_in f (revision text) t ≡ Ok v → and_then (place_in f t) (λ obstacles. Ok (noted m obstacles)) ≡ Ok between →
-      noting m (changed_in f file parents link t) ≡ Ok (record { row = row_with file v.node.0; changed = true; growth = growth; new = length f.log.entries == 0 }, new)
+      noting m (changed_in f file parents link t) ≡ Ok (record { row = row_with file v.node.0; changed = true; growth = growth; new = length f.log.entries == 0; inline = f.log.inline }, new)
   changed-ok v m between new growth g n e p =
       let o = placed-ok m between (place_in f t) p in
       ap (noting m) (changed-from (Ok v) e)
       ∙ ap (λ q. noting m (and_then q (λ obstacles. Ok (with_text (new_text_of f v) obstacles)))) o.1
       ∙ ap (λ x. Ok ((with_text (new_text_of f v) o.0).0, x)) (noted-append m o.0 (obstacles_with f v.node v.became) ∙ ap (λ k. noted k (obstacles_with f v.node v.became)) o.2 ∙ sym n)
-      ∙ ap (λ x. Ok (record { row = row_with file v.node.0; changed = true; growth = x; new = length f.log.entries == 0 }, new)) (sym g)
+      ∙ ap (λ x. Ok (record { row = row_with file v.node.0; changed = true; growth = x; new = length f.log.entries == 0; inline = f.log.inline }, new)) (sym g)
 
   pub changed-unread : (m : Met) (e : ReadAnswer) → MatchBool (is_of_outside e) ⊤ (revised_in f (revision text) t ≡ Err e) → MatchBool (is_of_outside e) ⊤ (noting m (changed_in f file parents link t) ≡ Err e)
   changed-unread m e h = either (is_of_outside e) (revised_in f (revision text) t ≡ Err e) (noting m (changed_in f file parents link t) ≡ Err e) (λ k. ap (noting m) (changed-from (Err e) k)) h
@@ -87,7 +87,7 @@ module _ (f : OfLog) (file : NewFile) (old : Option Told) (parents : Parents) (l
   pub on-same : (m : Met) (rev : ℕ) (x : OfFile) → x ≡ kept_file f file old rev → kept_in f parents.0 parents.1 file.body t ≡ Ok (Some rev) → noting m (file_on f file old parents link t) ≡ Ok (x, m)
   on-same m rev x is e = ap (noting m) (on-kept (Ok (Some rev)) e) ∙ ap (λ y. Ok (y, m)) (sym is)
 
-  pub on-changed : {V : Type 0} (view : V → OfFile × Met) (m : Met) (result : Result V ReadAnswer) → kept_in f parents.0 parents.1 file.body t ≡ Ok None → Gives is_of_outside view result (noting m (changed_in f file parents link t)) → Gives is_of_outside view result (noting m (file_on f file old parents link t))
+  pub on-changed : {V : Type 0} (view : V → OfFile × Met) (m : Met) (result : Result V ReadAnswer) → kept_in f parents.0 parents.1 file.body t ≡ Ok None → Gives is_of_outside view result (noting m (changed_in (formed f (plain_prefix file.body ++ file.body)) file parents link t)) → Gives is_of_outside view result (noting m (file_on f file old parents link t))
   on-changed view m result e h = let P : Result (OfFile × List Obstacle) ReadAnswer → Type 0 = λ r. Gives is_of_outside view result (noting m r) in subst P (sym (on-kept (Ok None) e)) h
 
 module _ (lists : List ℕ → Ext → Bool) (link : ℕ) (file : NewFile) (first second : Option Told) (t : Tree) where

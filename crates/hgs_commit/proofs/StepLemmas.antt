@@ -1,6 +1,6 @@
 -- The step of a commit, of what each of its calls found.
 use Rattle.std.proofs.Common.{◌≡◌, ℕ, List, ◌++◌, Bool, true, false, length, Option, None, Result, Ok, Err, refl, sym, ◌∙◌, ap, subst}
-use Rattle.std.specs.Prelude.{⊤}
+use Rattle.std.specs.Prelude.{⊤, ◌||◌}
 use Rattle.std.specs.Bool.{MatchBool}
 use Rattle.hgs_files.specs.Tree.{Tree}
 use Rattle.hgs_index.specs.Revision.{Parents}
@@ -19,7 +19,10 @@ use Rattle.hgs_commit.specs.Commit.{ClashBy, ClashOn, GivesWith, OfTexts, StepsO
 use Rattle.hgs_commit.specs.declared.fault.CommitFault.{CommitFault}
 use Rattle.hgs_commit.specs.declared.fault.CommitFault.TheVariants.{Unread, Refused}
 use Rattle.hgs_commit.specs.declared.hindrance.Hindrances.{Hindrances}
-use Rattle.hgs_commit.specs.Hindered.{refusal_of}
+use Rattle.hgs_commit.specs.Hindered.{is_met, refusal_of}
+use Rattle.hgs_commit.specs.Pushed.{IsNewText}
+use Rattle.hgs_commit.specs.declared.new_text.NewText.{NewText}
+use Rattle.hgs_revlog.specs.Log.{Log}
 use Rattle.hgs_commit.specs.Obstacles.{Met, Obstacle, met_of, noted, nothing_met, noting}
 use Rattle.hgs_commit.specs.Texts.{OfText}
 use Rattle.hgs_commit.specs.Trees.{OfGrown}
@@ -114,3 +117,21 @@ pub steps-unnamed : (l : Loaded) (c : NewChange) (t : Tree) (f : PlanFault) → 
 steps-unnamed l c t f e =
     let P : Result Parents PlanFault → Type 0 = λ r. GivesWith (ClashBy l c t r) (λ clash. or_refused r (λ p. step_on clash l c p t)) (Err (Refused f)) in
     subst P e (free-any (is_memory f) _ (None, tt, refl))
+
+-- ---- logs that may be inline
+
+-- where nothing was met that an inline log is, both logs are separate
+pub separate-logs : (a b met : Bool) → ((a || b) ≡ true → met ≡ true) → met ≡ false → (a ≡ false) × (b ≡ false)
+separate-logs true b met some free = absurd (no (sym (some refl) ∙ free))
+  where
+    no : true ≡ false → ⊥
+    no e = cc
+separate-logs false true met some free = absurd (no (sym (some refl) ∙ free))
+  where
+    no : true ≡ false → ⊥
+    no e = cc
+separate-logs false false met some free = (refl, refl)
+
+-- what was met stays met
+pub met-more : (log : Log) (met more : Hindrances) (text : NewText) → (is_met met ≡ true → is_met more ≡ true) → IsNewText log met text → IsNewText log more text
+met-more log met more text some is = record { pushes = is.pushes; index = is.index; lacking = λ a b. some (is.lacking a b) }

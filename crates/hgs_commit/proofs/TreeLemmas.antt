@@ -37,7 +37,7 @@ noting-err m e (Err f) h = cc
 
 -- a tree with one file more
 pub grown-is : (old between new : OfTree) (x : OfFile) (path : List ℕ) → path ≡ x.row.path → between.first ≡ rest_at path old.first → between.second ≡ rest_at path old.second → between.rows ≡ old.rows → between.changed ≡ old.changed ++ passed_at path old.first old.second → between.growth ≡ old.growth → between.lines ≡ old.lines →
-    new.first ≡ between.first → new.second ≡ between.second → new.rows ≡ between.rows ++ x.row ∷ [] → new.changed ≡ between.changed ++ new_path x.changed x.row.path → new.growth ≡ between.growth ++ changes_of x.growth → new.lines ≡ between.lines ++ new_lines x.new x.row.path → new ≡ with_file old x
+    new.first ≡ between.first → new.second ≡ between.second → new.rows ≡ between.rows ++ x.row ∷ [] → new.changed ≡ between.changed ++ new_path x.changed x.row.path → new.growth ≡ between.growth ++ changes_of x.growth → new.lines ≡ between.lines ++ new_lines x.new x.inline x.row.path → new ≡ with_file old x
 grown-is old between new x path at bf bs br bc bg bl nf ns nr nc ng nl =
     let first : new.first ≡ rest_at x.row.path old.first = nf ∙ bf ∙ ap (λ p. rest_at p old.first) at in
     let second : new.second ≡ rest_at x.row.path old.second = ns ∙ bs ∙ ap (λ p. rest_at p old.second) at in
@@ -45,7 +45,7 @@ grown-is old between new x path at bf bs br bc bg bl nf ns nr nc ng nl =
     let changed : new.changed ≡ old.changed ++ (passed_at x.row.path old.first old.second ++ new_path x.changed x.row.path) =
     nc ∙ ap (λ l. l ++ new_path x.changed x.row.path) (bc ∙ ap (λ p. old.changed ++ passed_at p old.first old.second) at) ∙ append_assoc old.changed (passed_at x.row.path old.first old.second) (new_path x.changed x.row.path) in
     let growth : new.growth ≡ old.growth ++ changes_of x.growth = ng ∙ ap (λ l. l ++ changes_of x.growth) bg in
-    let lines : new.lines ≡ old.lines ++ new_lines x.new x.row.path = nl ∙ ap (λ l. l ++ new_lines x.new x.row.path) bl in
+    let lines : new.lines ≡ old.lines ++ new_lines x.new x.inline x.row.path = nl ∙ ap (λ l. l ++ new_lines x.new x.inline x.row.path) bl in
     λ i. record { first = first i; second = second i; rows = rows i; changed = changed i; growth = growth i; lines = lines i }
 
 abbrev pub given : (List ℕ → Ext → Bool) → ℕ → OfTree → Met → List NewFile → Tree → Result (OfTree × Met) ReadAnswer

@@ -7,12 +7,11 @@ use Rattle.hgs_bytes.specs.Text.{ascends}
 use Rattle.hgs_files.specs.Tree.{Tree}
 use Rattle.hgs_index.specs.Manifest.{Row, AreRows, AscendFrom, manifest_text, read_manifest}
 use Rattle.hgs_index.specs.Node.{null_node}
-use Rattle.hgs_index.specs.declared.entry.Entry.{Entry}
 use Rattle.hgs_index.specs.declared.kinds.Which.TheVariants as limits
 use Rattle.hgs_index.specs.declared.texts.ManifestFault.{ManifestFault}
 use Rattle.hgs_index.specs.Revision.{Parents}
 use Rattle.hgs_loading.specs.Found.{and_then}
-use Rattle.hgs_loading.specs.Logs.{text_in}
+use Rattle.hgs_loading.specs.Logs.{text_in_form}
 use Rattle.hgs_loading.specs.Parent.{Files, change_in, rows_at, rows_in, rows_of_text}
 use Rattle.hgs_manifest.specs.Held.{found_in, is_row_path}
 use Rattle.hgs_model.specs.Theorems.ListLemmas.{below-trans}
@@ -25,10 +24,10 @@ use Rattle.hgs_path.specs.declared.name.Ext.{Ext}
 use Rattle.hgs_reader.specs.Contents.{manifest_data, manifest_index, most_files, rows_answer}
 use Rattle.hgs_load.specs.View.{changelog_data}
 use Rattle.hgs_load.specs.declared.answer.ReadAnswer.{ReadAnswer}
-use Rattle.hgs_revlog.specs.Log.{place_of}
+use Rattle.hgs_revlog.specs.Log.{Log, place_of}
 use Rattle.hgs_steps.specs.declared.loaded.Loaded.{Loaded}
 use Rattle.hgs_commit.specs.Commit.{ClashOn, OfTrees, grown_in, manifests_of, parent_files, trees_in}
-use Rattle.hgs_commit.specs.Files.{OfFile, can_follow, changed_in, file_in, file_on, file_with, filelog_in, kept_file, kept_in, place_in, parents_by, row_with}
+use Rattle.hgs_commit.specs.Files.{OfFile, can_follow, changed_in, file_in, file_on, file_with, formed, filelog_in, kept_file, kept_in, place_in, parents_by, row_with}
 use Rattle.hgs_commit.specs.Obstacles.{Met, Obstacle, noted, noting}
 use Rattle.hgs_commit.specs.Texts.{OfLog, OfText, new_text_in}
 use Rattle.hgs_commit.specs.Tree.{ClashIn, OfFiles, OfTree, adding, files_in, paths_of, rest_at, row_at, tree_on, with_files, with_first}
@@ -52,7 +51,7 @@ ok-is d x y e = ap (λ r. elim r [ Ok z ↦ z | Err f ↦ d ]) e
 -- ---- a file stands at its path
 
 abbrev with_text : OfLog → NewFile → OfText × List Obstacle → List Obstacle → OfFile × List Obstacle
-with_text f file text obstacles = (record { row = row_with file text.0.node; changed = true; growth = text.0.growth; new = length f.log.entries == 0 }, obstacles ++ text.1)
+with_text f file text obstacles = (record { row = row_with file text.0.node; changed = true; growth = text.0.growth; new = length f.log.entries == 0; inline = f.log.inline }, obstacles ++ text.1)
 
 abbrev with_place : OfLog → NewFile → Tree → OfText × List Obstacle → Result (OfFile × List Obstacle) ReadAnswer
 with_place f file t text = and_then (place_in f t) (λ obstacles. Ok (with_text f file text obstacles))
@@ -64,7 +63,7 @@ file-path-changed f file parents link t x obstacles h =
     sym (ap (λ (p : OfFile × List Obstacle). p.0.row.path) (ok-is (x, obstacles) (with_text f file a.0 b.0) (x, obstacles) b.2))
 
 file-path-with : (f : OfLog) (file : NewFile) (old : Option Told) (parents : Parents) (link : ℕ) (rev : Option ℕ) (t : Tree) (x : OfFile) (obstacles : List Obstacle) → file_with f file old parents link rev t ≡ Ok (x, obstacles) → x.row.path ≡ file.path
-file-path-with f file old parents link None t x obstacles h = file-path-changed f file parents link t x obstacles h
+file-path-with f file old parents link None t x obstacles h = file-path-changed (formed f (plain_prefix file.body ++ file.body)) file parents link t x obstacles h
 file-path-with f file old parents link (Some rev) t x obstacles h = sym (ap (λ (p : OfFile × List Obstacle). p.0.row.path) (ok-is (x, obstacles) (kept_file f file old rev, []) (x, obstacles) h))
 
 pub file-path : (lists : List ℕ → Ext → Bool) (link : ℕ) (file : NewFile) (first second : Option Told) (t : Tree) (x : OfFile) (obstacles : List Obstacle) → file_in lists link file first second t ≡ Ok (x, obstacles) → x.row.path ≡ file.path
@@ -128,24 +127,24 @@ ascend-text law rev text x h =
     let P : Files → Type 0 = λ y. AreRows y.1 in
     subst P (ok-is x (Some rev, a.0) x a.2) (ascend-answer law text a.0 a.1)
 
-ascend-at : IsReadLaw → (chunks : List ℕ) (entries : List Entry) (t : Tree) (rev : Option ℕ) (x : Files) → rows_at chunks entries t rev ≡ Ok x → AreRows x.1
-ascend-at law chunks entries t None x h = cc
-ascend-at law chunks entries t (Some rev) x h =
-    let a = comes (text_in manifest_index chunks entries rev t) (rows_of_text rev) x h in
+ascend-at : IsReadLaw → (chunks : List ℕ) (manifest : Log) (t : Tree) (rev : Option ℕ) (x : Files) → rows_at chunks manifest t rev ≡ Ok x → AreRows x.1
+ascend-at law chunks manifest t None x h = cc
+ascend-at law chunks manifest t (Some rev) x h =
+    let a = comes (text_in_form manifest_index chunks manifest rev t) (rows_of_text rev) x h in
     ascend-text law rev a.0 x a.2
 
-ascend-rows : IsReadLaw → (chunks : List ℕ) (entries : List Entry) (node : List ℕ) (t : Tree) (x : Files) → rows_in chunks entries node t ≡ Ok x → AreRows x.1
-ascend-rows law chunks entries node t x h = by (same node null_node) h
+ascend-rows : IsReadLaw → (chunks : List ℕ) (manifest : Log) (node : List ℕ) (t : Tree) (x : Files) → rows_in chunks manifest node t ≡ Ok x → AreRows x.1
+ascend-rows law chunks manifest node t x h = by (same node null_node) h
   where
-    by : (b : Bool) → (let r : Result Files ReadAnswer = cond b (Ok (None, [])) (rows_at chunks entries t (place_of entries node)) in r) ≡ Ok x → AreRows x.1
+    by : (b : Bool) → (let r : Result Files ReadAnswer = cond b (Ok (None, [])) (rows_at chunks manifest t (place_of manifest.entries node)) in r) ≡ Ok x → AreRows x.1
     by true k = let P : Files → Type 0 = λ y. AreRows y.1 in subst P (ok-is x (None, []) x k) tt
-    by false k = ascend-at law chunks entries t (place_of entries node) x k
+    by false k = ascend-at law chunks manifest t (place_of manifest.entries node) x k
 
 pub parent-ascends : IsReadLaw → (l : Loaded) (rev : Option ℕ) (t : Tree) (x : Files) → parent_files l rev t ≡ Ok x → AreRows x.1
 parent-ascends law l None t x h = let P : Files → Type 0 = λ y. AreRows y.1 in subst P (ok-is x (None, []) x h) tt
 parent-ascends law l (Some rev) t x h =
-    let a = comes (change_in changelog_data l.changelog.entries rev t) (λ c. rows_in manifest_data l.manifest.entries c.manifest t) x h in
-    ascend-rows law manifest_data l.manifest.entries a.0.manifest t x a.2
+    let a = comes (change_in changelog_data l.changelog rev t) (λ c. rows_in manifest_data l.manifest c.manifest t) x h in
+    ascend-rows law manifest_data l.manifest a.0.manifest t x a.2
 
 -- ---- the whole tree
 

@@ -27,6 +27,7 @@ use Rattle.hgs_load.specs.declared.answer.ReadAnswer.{ReadAnswer}
 use Rattle.hgs_revlog.specs.Load.{entry_behind}
 use Rattle.hgs_revlog.specs.declared.fault.RevFault.{RevFault}
 use Rattle.hgs_steps.specs.Fault.{is_memory}
+use Rattle.hgs_steps.specs.Loaded.{has_inline}
 use Rattle.hgs_steps.specs.Parents.{named_all, parents_answer}
 use Rattle.hgs_steps.specs.Steps.{dirstate_replacing, marked, marks_replacing, phases_text, roots_replaced, within}
 use Rattle.hgs_steps.specs.declared.fault.PlanFault.{PlanFault}
@@ -55,7 +56,7 @@ use Rattle.hgs_commit.specs.declared.written.Written.{Written}
 -- the files of a parent and the revision of its manifest, none where there is no parent
 abbrev pub parent_files : Loaded → Option ℕ → Tree → Result Files ReadAnswer
 parent_files l None t = Ok (None, [])
-parent_files l (Some rev) t = parent_in changelog_data l.changelog.entries manifest_data l.manifest.entries rev t
+parent_files l (Some rev) t = parent_in changelog_data l.changelog manifest_data l.manifest rev t
 
 -- the files of the two parents, and those of the commit
 pub record OfTrees : Type 0 where
@@ -201,9 +202,13 @@ or_refused (Err e) more = Err (Refused e)
 abbrev pub accepted : Step → Result Step CommitFault
 accepted step = Ok step
 
+-- the limit that is passed where the changelog or the manifest is inline
+abbrev pub inline_logs : Loaded → List Obstacle
+inline_logs l = if has_inline l then passes limits.Inline ∷ [] else []
+
 -- the step of these texts, or why there is none
 abbrev pub planned : Loaded → NewChange → Parents → OfTexts → Met → Option (List ℕ) → Result Step PlanFault
-planned l c parents x m clash = and_plan (written_of x m clash) (λ w. step_of l c parents w)
+planned l c parents x m clash = and_plan (written_of x (noted m (inline_logs l)) clash) (λ w. step_of l c parents w)
 
 -- the step of a commit on these parents, where this is told of names that clash
 abbrev pub step_on : Option (List ℕ) → Loaded → NewChange → Parents → Tree → Result Step CommitFault

@@ -1,5 +1,5 @@
 -- A file of a commit: its filelog, the revision that is kept, and what else its text becomes.
-use Rattle.std.specs.Prelude.{ℕ, ◌==◌, nat_lt, List, [], ◌∷◌, ◌++◌, Bool, true, false, ◌&&◌, not, Option, Some, None, Result, Ok, Err, slice_get, length, if◌then◌else◌}
+use Rattle.std.specs.Prelude.{ℕ, ◌==◌, nat_le, nat_lt, List, [], ◌∷◌, ◌++◌, Bool, true, false, ◌&&◌, not, Option, Some, None, Result, Ok, Err, slice_get, length, if◌then◌else◌}
 use Rattle.std.specs.Option.{option_map}
 use Rattle.hgs_bytes.specs.Bytes.{same, is_below}
 use Rattle.hgs_files.specs.Tree.{Tree, bytes_at}
@@ -9,7 +9,7 @@ use Rattle.hgs_index.specs.FileText.{body_of, plain_prefix}
 use Rattle.hgs_index.specs.Manifest.{Row}
 use Rattle.hgs_index.specs.Revision.{Parents, parent_node}
 use Rattle.hgs_loading.specs.Found.{and_then}
-use Rattle.hgs_loading.specs.Logs.{data_in, log_in, text_in}
+use Rattle.hgs_loading.specs.Logs.{chunk_in_form, either_data_in, either_log_in}
 use Rattle.hgs_manifest.specs.Held.{is_row_path}
 use Rattle.hgs_model.specs.History.{file_parents_of, first_of, same_flag}
 use Rattle.hgs_model.specs.declared.files.NewFile.{NewFile}
@@ -18,7 +18,9 @@ use Rattle.hgs_path.specs.declared.name.Ext.TheVariants.{I, D}
 use Rattle.hgs_path.specs.StoreName.{store_name}
 use Rattle.hgs_load.specs.declared.answer.ReadAnswer.{ReadAnswer}
 use Rattle.hgs_load.specs.View.{revlog_refusal}
+use Rattle.hgs_revlog.specs.declared.fault.RevFault.{RevFault}
 use Rattle.hgs_revlog.specs.declared.fault.RevFault.TheVariants as faults
+use Rattle.hgs_revlog.specs.Text.{text_of}
 use Rattle.hgs_revlog.specs.Loaded.{parents_in}
 use Rattle.hgs_revlog.specs.Log.{Log, nodes_of, place_of}
 use Rattle.hgs_commit.specs.declared.filelog.Filelog.{Filelog}
@@ -39,7 +41,7 @@ filelog_with path log = record { index = store_name path I; chunks = store_name 
 -- the filelog of a path, which has no revisions where its index is not listed
 abbrev pub filelog_in : (List ℕ → Ext → Bool) → List ℕ → Tree → Result OfLog ReadAnswer
 filelog_in lists path t =
-    if lists path I then and_then (log_in (store_name path I) t) (λ log. Ok (filelog_with path log))
+    if lists path I then and_then (either_log_in (store_name path I) t) (λ log. Ok (filelog_with path log))
     else Ok (filelog_with path empty_log)
 
 -- the revision of a node that a manifest names
@@ -58,10 +60,14 @@ abbrev pub is_shorter : Option Entry → List ℕ → Bool
 is_shorter None body = true
 is_shorter (Some e) body = nat_lt e.size (length body)
 
+abbrev pub kept_by : OfLog → ℕ → List ℕ → Result (List ℕ) RevFault → Result (Option ℕ) ReadAnswer
+kept_by f rev body (Ok text) = Ok (if same (body_of text) body then Some rev else None)
+kept_by f rev body (Err fault) = Err (revlog_refusal f.index fault)
+
 abbrev pub kept_at : OfLog → ℕ → List ℕ → Tree → Result (Option ℕ) ReadAnswer
 kept_at f rev body t =
     if is_shorter (slice_get f.log.entries rev) body then Ok None
-    else and_then (text_in f.index f.chunks f.log.entries rev t) (λ text. Ok (if same (body_of text) body then Some rev else None))
+    else kept_by f rev body (text_of f.log.entries rev (chunk_in_form f.index f.chunks f.log rev t))
 
 -- where one parent is left and has the same body, that one
 abbrev pub kept_in : OfLog → Option ℕ → Option ℕ → List ℕ → Tree → Result (Option ℕ) ReadAnswer
@@ -79,17 +85,18 @@ standing_at path t = if length (bytes_at t path) == 0 then [] else stands path �
 abbrev pub place_in : OfLog → Tree → Result (List Obstacle) ReadAnswer
 place_in f t =
     if length f.log.entries == 0 then Ok (standing_at f.index t ++ standing_at f.chunks t)
-    else and_then (data_in f.index f.chunks f.log t) (λ x. Ok [])
+    else and_then (either_data_in f.index f.chunks f.log t) (λ x. Ok [])
 
--- its row, whether the changeset lists it, what is appended to its filelog, and whether that is a new one
+-- its row, whether the changeset lists it, what is appended to its filelog, and whether that is a new one and inline
 pub record OfFile : Type 0 where
   pub row : Row
   pub changed : Bool
   pub growth : Option OfGrowth
   pub new : Bool
+  pub inline : Bool
 
 abbrev pub view_file : TreeFile → OfFile
-view_file f = record { row = record { path = f.path; node = f.node.0; flag = f.flag }; changed = f.changed; growth = option_map view_growth f.growth; new = f.listed }
+view_file f = record { row = record { path = f.path; node = f.node.0; flag = f.flag }; changed = f.changed; growth = option_map view_growth f.growth; new = f.listed; inline = f.inline }
 
 -- the path of a file whose filelog is new
 abbrev pub new_path : Bool → List ℕ → List (List ℕ)
@@ -102,7 +109,19 @@ abbrev pub changed_in : OfLog → NewFile → Parents → ℕ → Tree → Resul
 changed_in f file parents link t =
     and_then (new_text_in f (record { text = plain_prefix file.body ++ file.body; parents = parents; link = link }) t) (λ text.
     and_then (place_in f t) (λ obstacles.
-    Ok (record { row = row_with file text.0.node; changed = true; growth = text.0.growth; new = length f.log.entries == 0 }, obstacles ++ text.1)))
+    Ok (record { row = row_with file text.0.node; changed = true; growth = text.0.growth; new = length f.log.entries == 0; inline = f.log.inline }, obstacles ++ text.1)))
+
+-- the greatest length of the first text of a filelog that begins as an inline one
+abbrev pub most_inline : ℕ
+most_inline = 4096
+
+-- a filelog to which this text is added: where it is the first one, it says the form
+abbrev pub formed : OfLog → List ℕ → OfLog
+formed f text = record {
+  index = f.index;
+  chunks = f.chunks;
+  log = record { inline = if length f.log.entries == 0 then nat_le (length text) most_inline else f.log.inline; entries = f.log.entries };
+}
 
 -- its flag differs from that in the first parent that has it
 abbrev pub has_other_flag : Flag → Option Told → Bool
@@ -110,10 +129,10 @@ has_other_flag flag None = false
 has_other_flag flag (Some old) = not (same_flag flag old.1)
 
 abbrev pub kept_file : OfLog → NewFile → Option Told → ℕ → OfFile
-kept_file f file old rev = record { row = row_with file (parent_node (nodes_of f.log.entries) (Some rev)); changed = has_other_flag file.flag old; growth = None; new = false }
+kept_file f file old rev = record { row = row_with file (parent_node (nodes_of f.log.entries) (Some rev)); changed = has_other_flag file.flag old; growth = None; new = false; inline = f.log.inline }
 
 abbrev pub file_with : OfLog → NewFile → Option Told → Parents → ℕ → Option ℕ → Tree → Result (OfFile × List Obstacle) ReadAnswer
-file_with f file old parents link None t = changed_in f file parents link t
+file_with f file old parents link None t = changed_in (formed f (plain_prefix file.body ++ file.body)) file parents link t
 file_with f file old parents link (Some rev) t = Ok (kept_file f file old rev, [])
 
 -- the file on these revisions of its filelog

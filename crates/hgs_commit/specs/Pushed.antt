@@ -18,8 +18,9 @@ abbrev pub AppendsTo : List ℕ → Log → Option Growth → Type 0
 AppendsTo index log None = Unit {0}
 AppendsTo index log (Some g) = g.entry ≡ record { path = index; before = 64 * length log.entries; bytes = g.new_entry }
 
--- what the text of a changeset became: where it neither stands nor is appended, something was met
+-- what the text of a changeset became in a changelog, of which one that is inline is not appended to: where it neither stands
+-- nor is appended, something was met
 pub record IsNewText (log : Log) (met : Hindrances) (text : NewText) : Type 0 where
-  pub pushes : Pushes log text.growth
-  pub index : AppendsTo changelog_index log text.growth
+  pub pushes : log.inline ≡ false → Pushes log text.growth
+  pub index : log.inline ≡ false → AppendsTo changelog_index log text.growth
   pub lacking : is_some text.growth ≡ false → is_some text.standing ≡ false → is_met met ≡ true

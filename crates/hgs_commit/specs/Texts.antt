@@ -1,5 +1,5 @@
 -- What the text of a new revision becomes in a revlog, as its files are at rest, and what is appended of it.
-use Rattle.std.specs.Prelude.{◌*◌, ℕ, List, [], ◌∷◌, ◌++◌, length, Option, Some, None, Result, Ok, Err, if◌then◌else◌}
+use Rattle.std.specs.Prelude.{◌+◌, ◌*◌, ℕ, Bool, true, false, List, [], ◌∷◌, ◌++◌, length, Option, Some, None, Result, Ok, Err, if◌then◌else◌}
 use Rattle.std.specs.Option.{option_map}
 use Rattle.hgs_bytes.specs.Bytes.{same}
 use Rattle.hgs_files.specs.Tree.{Tree}
@@ -7,7 +7,7 @@ use Rattle.hgs_index.specs.declared.node.Node.{Node}
 use Rattle.hgs_index.specs.Node.{null_node}
 use Rattle.hgs_index.specs.Revision.{Revision}
 use Rattle.hgs_loading.specs.Found.{and_then}
-use Rattle.hgs_loading.specs.Logs.{chunk_of_rev}
+use Rattle.hgs_loading.specs.Logs.{chunk_in_form}
 use Rattle.hgs_load.specs.declared.answer.ReadAnswer.{ReadAnswer}
 use Rattle.hgs_reader.specs.declared.find.RevlogPaths.{RevlogPaths}
 use Rattle.hgs_load.specs.View.{revlog_refusal}
@@ -38,16 +38,23 @@ log_at paths log = record { index = paths.index; chunks = paths.chunks; log = lo
 
 -- ---- what is appended
 
--- its chunk to the data file, if it has bytes, and its entry to the index
+-- its chunk to the data file, if it has bytes, and its entry to the index, where that is inline with the chunk behind it
 pub record OfGrowth : Type 0 where
   pub chunk : List Change
   pub entry : Appending
 
-abbrev pub growth_of : OfLog → List ℕ → List ℕ → OfGrowth
-growth_of f entry chunk = record {
+abbrev pub growth_as : Bool → OfLog → List ℕ → List ℕ → OfGrowth
+growth_as true f entry chunk = record {
+  chunk = [];
+  entry = record { path = f.index; before = 64 * length f.log.entries + stored_sum f.log.entries; bytes = entry ++ chunk };
+}
+growth_as false f entry chunk = record {
   chunk = append_some f.chunks (stored_sum f.log.entries) chunk;
   entry = record { path = f.index; before = 64 * length f.log.entries; bytes = entry };
 }
+
+abbrev pub growth_of : OfLog → List ℕ → List ℕ → OfGrowth
+growth_of f entry chunk = growth_as f.log.inline f entry chunk
 
 abbrev pub view_growth : Growth → OfGrowth
 view_growth g = record { chunk = optional_append g.chunk; entry = g.entry }
@@ -65,7 +72,7 @@ revlog_answer index (Err fault) = Err (revlog_refusal index fault)
 -- where a revision has its node, that one's chunk decides whether it is that revision
 abbrev pub revised_in : OfLog → Revision → Tree → Result Revised ReadAnswer
 revised_in f r t =
-    revlog_answer f.index (revised f.log r (added f.log r (option_map (λ rev. chunk_of_rev f.chunks f.log.entries rev t) (place_of f.log.entries (next_entry f.log.entries r).node.0))))
+    revlog_answer f.index (revised f.log r (added f.log r (option_map (λ rev. chunk_in_form f.index f.chunks f.log rev t) (place_of f.log.entries (next_entry f.log.entries r).node.0))))
 
 -- a text in a revlog: its node, the revision that it is already, and what is appended of a new one
 pub record OfText : Type 0 where

@@ -31,8 +31,8 @@ abbrev pub passed_at : List ℕ → List Row → List Row → List (List ℕ)
 passed_at path first second = paths_of (before path first) ++ paths_of (before path second)
 
 -- the lines of a new filelog's two files
-abbrev pub new_lines : Bool → List ℕ → List ℕ
-new_lines new path = if new then lines (listed_name path I ∷ listed_name path D ∷ []) else []
+abbrev pub new_lines : Bool → Bool → List ℕ → List ℕ
+new_lines new inline path = if new then lines (listed_name path I ∷ (if inline then [] else listed_name path D ∷ [])) else []
 
 -- a tree up to some path: the parents' rows that are left, its rows, the changed paths, the appends to filelogs, and the lines of new ones
 pub record OfTree : Type 0 where
@@ -53,7 +53,7 @@ with_file tree x = record {
   rows = tree.rows ++ x.row ∷ [];
   changed = tree.changed ++ (passed_at x.row.path tree.first tree.second ++ new_path x.changed x.row.path);
   growth = tree.growth ++ changes_of x.growth;
-  lines = tree.lines ++ new_lines x.new x.row.path;
+  lines = tree.lines ++ new_lines x.new x.inline x.row.path;
 }
 
 abbrev pub with_files : OfTree → List OfFile → OfTree

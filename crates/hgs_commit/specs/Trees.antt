@@ -40,5 +40,5 @@ grown_of first second xs = record {
   rows = map (λ x. x.row) xs;
   changed = in_order (file_paths (filter (λ x. x.changed) xs) ++ removed_paths xs first second);
   growth = flat_map (λ x. changes_of x.growth) xs;
-  lines = flat_map (λ x. new_lines x.new x.row.path) xs;
+  lines = flat_map (λ x. new_lines x.new x.inline x.row.path) xs;
 }

@@ -5,7 +5,8 @@ ghost use Rattle.hgs_commit.specs.Appended.{is_beside, optional_append};
 
 use hgs_transaction::parts::Appending;
 
-/// What is appended of a new revision: its chunk to the data file, if it has bytes, and then its entry to the index.
+/// What is appended of a new revision: its chunk to the data file, if it has bytes, and then its entry to the index, where
+/// that is inline with the chunk behind it.
 #[derive(Debug, Drop)]
 pub struct Growth {
     pub chunk: Option<Appending>,

@@ -1,5 +1,5 @@
 //! The appends of a new revision, and the list of changes that they are added to.
-ghost use Rattle.std.specs.Prelude.{◌≡◌, ◌++◌, ◌+◌, ◌*◌, ◌≤◌, ◌∷◌, [], true, length, Some, IfOk, OnOk};
+ghost use Rattle.std.specs.Prelude.{◌≡◌, ◌++◌, ◌+◌, ◌*◌, ◌≤◌, ◌∷◌, [], true, false, length, Some, IfOk, OnOk};
 ghost use Rattle.std.specs.List.{list_all};
 ghost use Rattle.hgs_revlog.specs.Loaded.{AreEntries};
 ghost use Rattle.hgs_transaction.specs.declared.parts.Change.TheVariants.{Append};
@@ -27,9 +27,23 @@ impl Growth {
         requires chunks { is_beside_path paths.chunks ≡ true }
         ensures growth { IfOk result (λ g. view_growth g ≡ growth_of (log_at paths log.now) new_entry chunk) }
         ensures entry { IfOk result (λ g. g.new_entry ≡ new_entry) }
-        ensures index { IfOk result (λ g. g.entry ≡ record { path = paths.index; before = 64 * length log.now.entries; bytes = new_entry }) }
+        ensures index { log.now.inline ≡ false → IfOk result (λ g. g.entry ≡ record { path = paths.index; before = 64 * length log.now.entries; bytes = new_entry }) }
+        ensures path { IfOk result (λ g. g.entry.path ≡ paths.index) }
     {
         let RevlogPaths { index, chunks } = paths;
+        if log.is_inline() {
+            let mut bytes = Vec::from_slice(alloc, &new_entry)?;
+            bytes.extend_from_slice(chunk.as_slice())?;
+            return Ok(Growth {
+                chunk: None,
+                entry: Appending {
+                    path: index,
+                    before: 64 * log.len() as u64 + end_of(log),
+                    bytes: Bytes::from_vec(bytes),
+                },
+                new_entry,
+            });
+        }
         let chunk = if chunk.is_empty() {
             None
         } else {

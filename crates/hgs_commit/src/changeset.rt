@@ -39,13 +39,12 @@ pub fn new_manifest<R: Reads>(
     met: &mut Hindrances,
 ) -> Result<NewText, ReadAnswer>
     requires entries { AreEntries manifest.now.entries }
-    requires separate { manifest.now.inline ≡ false }
     requires first { IfSome parents.0 (λ rev. rev < length manifest.now.entries) }
     requires second { IfSome parents.1 (λ rev. rev < length manifest.now.entries) }
     requires link { link < 2 ^ 31 }
     ensures found { Finds (λ x. (view_text x, met_of met.new)) R.alone (R.seen files.new) (R.start files.new) (λ t. noting (met_of met.old) (manifest_in manifest.now rows.now parents link t)) result }
     ensures clash { met.new.clash ≡ met.old.clash }
-    ensures index { IfOk result (λ text. AppendsTo manifest_index manifest.now text.growth) }
+    ensures index { manifest.now.inline ≡ false → IfOk result (λ text. AppendsTo manifest_index manifest.now text.growth) }
     ensures same_start { R.start files.new ≡ R.start files.old }
     ensures still { R.alone ≡ true → R.seen files.new ≡ R.seen files.old }
     ensures cause { HasFaultCause (R.faults files.old) (R.faults files.new) (R.denied files.old) (R.denied files.new) result }
@@ -91,13 +90,12 @@ pub fn new_changeset<R: Reads>(
     met: &mut Hindrances,
 ) -> Result<NewText, ReadAnswer>
     requires entries { AreEntries changelog.now.entries }
-    requires separate { changelog.now.inline ≡ false }
     requires first { IfSome parents.0 (λ rev. rev < length changelog.now.entries) }
     requires second { IfSome parents.1 (λ rev. rev < length changelog.now.entries) }
     ensures found { Finds (λ x. (view_text x, met_of met.new)) R.alone (R.seen files.new) (R.start files.new) (λ t. noting (met_of met.old) (changeset_in changelog.now change.now parents manifest.0 changed t)) result }
     ensures clash { met.new.clash ≡ met.old.clash }
-    ensures pushes { IfOk result (λ text. Pushes changelog.now text.growth) }
-    ensures index { IfOk result (λ text. AppendsTo changelog_index changelog.now text.growth) }
+    ensures pushes { changelog.now.inline ≡ false → IfOk result (λ text. Pushes changelog.now text.growth) }
+    ensures index { changelog.now.inline ≡ false → IfOk result (λ text. AppendsTo changelog_index changelog.now text.growth) }
     ensures lacking { IfOk result (λ text. is_some text.growth ≡ false → is_some text.standing ≡ false → is_met met.new ≡ true) }
     ensures same_start { R.start files.new ≡ R.start files.old }
     ensures still { R.alone ≡ true → R.seen files.new ≡ R.seen files.old }

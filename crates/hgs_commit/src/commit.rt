@@ -14,7 +14,9 @@ ghost use Rattle.hgs_loading.specs.Found.{Finds};
 ghost use Rattle.hgs_loading.specs.Parent.{view_parent};
 ghost use Rattle.hgs_load.specs.Marks.{most_bookmarks};
 ghost use Rattle.hgs_steps.specs.Fault.{is_memory};
-ghost use Rattle.hgs_commit.specs.Commit.{AtRest, ClashOn, Steps, StepsOn, grown_in, is_new_mark, mark_count, parent_files, planned, tested, texts_in, too_many_marks, trees_in, view_grown, view_texts, view_written, written_of};
+ghost use Rattle.hgs_steps.specs.Loaded.{has_inline};
+ghost use Rattle.hgs_commit.specs.Commit.{AtRest, ClashOn, Steps, StepsOn, grown_in, inline_logs, is_new_mark, mark_count, parent_files, planned, tested, texts_in, too_many_marks, trees_in, view_grown, view_texts, view_written, written_of};
+ghost use Rattle.hgs_commit.specs.Hindered.{is_met};
 ghost use Rattle.hgs_commit.specs.Obstacles.{met_of, noted, noting};
 ghost use Rattle.hgs_commit.specs.Pushed.{AppendsTo, IsNewText, Pushes};
 ghost use Rattle.hgs_commit.specs.OfCommit.{ArePartsOfCommit};
@@ -125,6 +127,18 @@ fn meet_bookmarks(loaded: &Loaded, change: &NewChange, met: &mut Hindrances)
     }
 }
 
+// Notes that the changelog or the manifest is inline.
+fn meet_inline(loaded: &Loaded, met: &mut Hindrances)
+    ensures met { met_of met.new ≡ noted (met_of met.old) (inline_logs loaded.now) }
+    ensures clash { met.new.clash ≡ met.old.clash }
+    ensures some { is_met met.old ≡ true → is_met met.new ≡ true }
+    ensures inline { has_inline loaded.now ≡ true → is_met met.new ≡ true }
+{
+    if loaded.has_inline() {
+        met.meet_limit(Which::Inline);
+    }
+}
+
 // The tree of the commit, and its manifests' parents.
 fn grown_tree<R: Reads>(
     alloc: Global,
@@ -189,8 +203,8 @@ fn texts_of<R: Reads>(
     manifests: (Option<u32>, Option<u32>),
     met: &mut Hindrances,
 ) -> Result<Texts, ReadAnswer>
-    requires changelog { AreEntries loaded.now.changelog.entries × (loaded.now.changelog.inline ≡ false) }
-    requires manifest { AreEntries loaded.now.manifest.entries × (loaded.now.manifest.inline ≡ false) }
+    requires changelog { AreEntries loaded.now.changelog.entries }
+    requires manifest { AreEntries loaded.now.manifest.entries }
     requires first { IfSome parents.0 (λ r. r < length loaded.now.changelog.entries) }
     requires second { IfSome parents.1 (λ r. r < length loaded.now.changelog.entries) }
     requires first_manifest { IfSome manifests.0 (λ r. r < length loaded.now.manifest.entries) }
@@ -198,7 +212,7 @@ fn texts_of<R: Reads>(
     ensures found { Finds (λ x. (view_texts x, met_of met.new)) R.alone (R.seen files.new) (R.start files.new) (λ t. noting (met_of met.old) (texts_in loaded.now change.now parents (view_grown grown) manifests t)) result }
     ensures clash { met.new.clash ≡ met.old.clash }
     ensures filelogs { IfOk result (λ texts. texts.filelogs ≡ grown.growth) }
-    ensures manifest { IfOk result (λ texts. AppendsTo manifest_index loaded.now.manifest texts.manifest) }
+    ensures manifest { loaded.now.manifest.inline ≡ false → IfOk result (λ texts. AppendsTo manifest_index loaded.now.manifest texts.manifest) }
     ensures changeset { IfOk result (λ texts. IsNewText loaded.now.changelog met.new texts.changeset) }
     ensures same_start { R.start files.new ≡ R.start files.old }
     ensures still { R.alone ≡ true → R.seen files.new ≡ R.seen files.old }
@@ -239,8 +253,9 @@ fn written_of(texts: Texts, met: Hindrances, log: &Revlog) -> Result<Written, Pl
     ensures written { Gives is_memory view_written result (written_of (view_texts texts) (met_of met) met.clash) }
     ensures filelogs { IfOk result (λ written. written.filelogs ≡ texts.filelogs) }
     ensures manifest { IfOk result (λ written. written.manifest ≡ texts.manifest) }
-    ensures pushes { IfOk result (λ written. Pushes log.now (Some written.changeset)) }
-    ensures index { IfOk result (λ written. AppendsTo changelog_index log.now (Some written.changeset)) }
+    ensures pushes { log.now.inline ≡ false → IfOk result (λ written. Pushes log.now (Some written.changeset)) }
+    ensures index { log.now.inline ≡ false → IfOk result (λ written. AppendsTo changelog_index log.now (Some written.changeset)) }
+    ensures free { OnOk result (is_met met ≡ false) }
 {
     let Texts {
         filelogs,
@@ -285,13 +300,16 @@ fn planned_step(
     requires first { IfSome parents.0 (λ r. r < length loaded.now.changelog.entries) }
     requires second { IfSome parents.1 (λ r. r < length loaded.now.changelog.entries) }
     requires changeset { IsNewText loaded.now.changelog met texts.changeset }
-    requires manifest { AppendsTo manifest_index loaded.now.manifest texts.manifest }
+    requires manifest { loaded.now.manifest.inline ≡ false → AppendsTo manifest_index loaded.now.manifest texts.manifest }
     requires few { length texts.filelogs.items ≤ 40000 }
     requires beside { list_all is_beside texts.filelogs.items ≡ true }
     ensures step { Gives is_memory (λ step. step) result (planned loaded.now change.now parents (view_texts texts) (met_of met) met.clash) }
     ensures ready { IfOk result (λ step. CanBeAssembled step.parts) }
     ensures parts { IfOk result (λ step. ArePartsOfCommit loaded.now.changelog step.parts) }
+    ensures separate { OnOk result (loaded.now.changelog.inline ≡ false) }
 {
+    let mut met = met;
+    meet_inline(loaded, &mut met);
     let written = match written_of(texts, met, &loaded.changelog) {
         Ok(written) => written,
         Err(fault) => return Err(fault),
@@ -310,8 +328,8 @@ fn step_on<R: Reads>(
     change: &NewChange,
     parents: (Option<u32>, Option<u32>),
 ) -> Result<Step, CommitFault>
-    requires changelog { AreEntries loaded.now.changelog.entries × (loaded.now.changelog.inline ≡ false) }
-    requires manifest { AreEntries loaded.now.manifest.entries × (loaded.now.manifest.inline ≡ false) }
+    requires changelog { AreEntries loaded.now.changelog.entries }
+    requires manifest { AreEntries loaded.now.manifest.entries }
     requires valid { IsNewChange change.now }
     requires order { can_follow [] change.now.files ≡ true }
     requires first { IfSome parents.0 (λ r. r < length loaded.now.changelog.entries) }
@@ -319,6 +337,7 @@ fn step_on<R: Reads>(
     ensures found { AtRest R.alone (R.seen files.new) (R.start files.new) (λ t. StepsOn loaded.now change.now parents t result) }
     ensures ready { IfOk result (λ step. CanBeAssembled step.parts) }
     ensures parts { IfOk result (λ step. ArePartsOfCommit loaded.now.changelog step.parts) }
+    ensures separate { OnOk result (loaded.now.changelog.inline ≡ false) }
     ensures same_start { R.start files.new ≡ R.start files.old }
     ensures still { R.alone ≡ true → R.seen files.new ≡ R.seen files.old }
     ensures later { R.faults files.old ≤ R.faults files.new }
@@ -357,12 +376,13 @@ pub fn commit<R: Reads>(
     loaded: Loaded,
     change: &NewChange,
 ) -> Result<Step, CommitFault>
-    requires changelog { AreEntries loaded.changelog.entries × (loaded.changelog.inline ≡ false) }
-    requires manifest { AreEntries loaded.manifest.entries × (loaded.manifest.inline ≡ false) }
+    requires changelog { AreEntries loaded.changelog.entries }
+    requires manifest { AreEntries loaded.manifest.entries }
     requires valid { IsNewChange change.now }
     ensures found { AtRest R.alone (R.seen files.new) (R.start files.new) (λ t. Steps loaded change.now t result) }
     ensures ready { IfOk result (λ step. CanBeAssembled step.parts) }
     ensures parts { IfOk result (λ step. ArePartsOfCommit loaded.changelog step.parts) }
+    ensures separate { OnOk result (loaded.changelog.inline ≡ false) }
     ensures same_start { R.start files.new ≡ R.start files.old }
     ensures still { R.alone ≡ true → R.seen files.new ≡ R.seen files.old }
     ensures later { R.faults files.old ≤ R.faults files.new }

@@ -1,5 +1,6 @@
 //! A file of a commit: its revision in the new tree.
 ghost use Rattle.std.specs.Prelude.{◌≡◌, ◌<◌, ◌^◌, ◌∷◌, ◌++◌, [], true, length, is_ok, IfOk, IfSome, OnOk, ◌≤◌, false, Ok};
+ghost use Rattle.hgs_index.specs.FileText.{plain_prefix};
 ghost use Rattle.hgs_index.specs.Manifest.{Row};
 ghost use Rattle.hgs_manifest.specs.Held.{with_last};
 ghost use Rattle.hgs_load.specs.Answer.{HasFaultCause};
@@ -11,7 +12,7 @@ ghost use Rattle.hgs_loading.specs.Found.{Finds, and_then};
 ghost use Rattle.hgs_model.specs.History.{first_of};
 ghost use Rattle.hgs_load.specs.Answer.{is_of_outside, NeverFaults};
 ghost use Rattle.hgs_path.specs.Fncache.{listing, IsClash};
-ghost use Rattle.hgs_commit.specs.Files.{can_follow, changed_in, file_in, file_on, kept_file, new_path, node_in, parents_by, place_in, standing_at, view_file, view_filelog};
+ghost use Rattle.hgs_commit.specs.Files.{can_follow, changed_in, file_in, file_on, formed, kept_file, new_path, node_in, parents_by, place_in, standing_at, view_file, view_filelog};
 ghost use Rattle.hgs_commit.specs.NewTree.{tree_of};
 ghost use Rattle.hgs_commit.specs.Tree.{ClashIn, adding, files_in};
 ghost use Rattle.hgs_files.specs.Tree.{after_all};
@@ -33,7 +34,7 @@ use hgs_files::path::StorePath;
 use hgs_index::kinds::Flag;
 use hgs_index::node::Node;
 use hgs_load::answer::ReadAnswer;
-use hgs_loading::logs::test_data;
+use hgs_loading::logs::test_either_data;
 use hgs_loading::whole::size_of;
 use hgs_model::files::NewFile;
 use hgs_path::fncache::Fncache;
@@ -76,7 +77,7 @@ fn test_place<R: Reads>(
     ensures cause { HasFaultCause (R.faults files.old) (R.faults files.new) (R.denied files.old) (R.denied files.new) result }
 {
     if filelog.log.len() > 0 {
-        return test_data(alloc, files, &filelog.paths, &filelog.log);
+        return test_either_data(alloc, files, &filelog.paths, &filelog.log);
     }
     meet_standing(alloc, files, &filelog.paths.index, met)?;
     meet_standing(alloc, files, &filelog.paths.chunks, met)
@@ -97,7 +98,7 @@ fn changed_file<R: Reads>(
     requires first { IfSome parents.0 (λ rev. rev < length filelog.log.entries) }
     requires second { IfSome parents.1 (λ rev. rev < length filelog.log.entries) }
     ensures path { IfOk result (λ f. f.path ≡ file.now.path) }
-    ensures found { Finds (λ f. (view_file f, met_of met.new)) R.alone (R.seen files.new) (R.start files.new) (λ t. noting (met_of met.old) (changed_in (view_filelog filelog) file.now parents link t)) result }
+    ensures found { Finds (λ f. (view_file f, met_of met.new)) R.alone (R.seen files.new) (R.start files.new) (λ t. noting (met_of met.old) (changed_in (formed (view_filelog filelog) (plain_prefix file.now.body ++ file.now.body)) file.now parents link t)) result }
     ensures clash { met.new.clash ≡ met.old.clash }
     ensures same_start { R.start files.new ≡ R.start files.old }
     ensures still { R.alone ≡ true → R.seen files.new ≡ R.seen files.old }
@@ -105,6 +106,7 @@ fn changed_file<R: Reads>(
 {
     let path = file.path.copy(alloc)?;
     let text = pack(alloc, None, file.body.as_slice())?;
+    let filelog = filelog.formed(alloc, &text);
     let (p1, p2) = parents;
     let revised = match revise_in(
         alloc,
@@ -124,6 +126,7 @@ fn changed_file<R: Reads>(
         Err(refusal) => return Err(refusal),
     }
     let listed = filelog.log.len() == 0;
+    let inline = filelog.log.is_inline();
     let node = revised.node;
     let Filelog { paths, log } = filelog;
     let growth = growth_in(alloc, paths, &log, revised, met)?;
@@ -134,6 +137,7 @@ fn changed_file<R: Reads>(
         changed: true,
         growth,
         listed,
+        inline,
     })
 }
 
@@ -184,6 +188,7 @@ fn kept_file(
         changed: rows.has_other_flag(file.flag),
         growth: None,
         listed: false,
+        inline: filelog.log.is_inline(),
     })
 }
 
@@ -233,7 +238,10 @@ fn file_of<R: Reads>(
     ensures still { R.alone ≡ true → R.seen files.new ≡ R.seen files.old }
     ensures cause { HasFaultCause (R.faults files.old) (R.faults files.new) (R.denied files.old) (R.denied files.new) result }
 {
-    let filelog = load_filelog(alloc, files, fncache, file.path.as_slice())?;
+    let filelog = match load_filelog(alloc, files, fncache, file.path.as_slice()) {
+        Ok(filelog) => filelog,
+        Err(refusal) => return Err(refusal),
+    };
     let parents = match parents_by(alloc, &filelog, rows) {
         Ok(parents) => parents,
         Err(refusal) => return Err(refusal),

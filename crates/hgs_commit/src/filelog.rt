@@ -1,5 +1,5 @@
 //! The filelog of a path.
-ghost use Rattle.std.specs.Prelude.{◌≡◌, true, false};
+ghost use Rattle.std.specs.Prelude.{◌≡◌, true};
 ghost use Rattle.hgs_commit.specs.Appended.{is_beside_path};
 
 use hgs_reader::find::RevlogPaths;
@@ -12,5 +12,4 @@ pub struct Filelog {
     pub log: Revlog,
     pub ghost index_beside: { is_beside_path paths.index ≡ true },
     pub ghost chunks_beside: { is_beside_path paths.chunks ≡ true },
-    pub ghost separate: { log.inline ≡ false },
 }

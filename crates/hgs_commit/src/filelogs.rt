@@ -1,5 +1,5 @@
 //! What is read of filelogs, and what a file's text becomes in one.
-ghost use Rattle.std.specs.Prelude.{◌≡◌, ◌<◌, ◌≤◌, ◌^◌, false, true, length, Result, Ok, IfOk, IfSome};
+ghost use Rattle.std.specs.Prelude.{◌≡◌, ◌<◌, ◌≤◌, ◌^◌, false, true, length, slice_get, Result, Ok, IfOk, IfSome};
 ghost use Rattle.std.specs.Option.{option_map};
 ghost use Rattle.hgs_bytes.specs.Answer.{Gives};
 ghost use Rattle.hgs_commit.specs.Appended.{is_beside_path};
@@ -15,7 +15,8 @@ ghost use Rattle.hgs_revlog.specs.Fault.{is_memory};
 ghost use Rattle.hgs_revlog.specs.declared.fault.RevFault.{RevFault};
 ghost use Rattle.hgs_commit.specs.Revised.{Fits};
 ghost use Rattle.hgs_commit.specs.declared.growth.Revised.{Revised};
-ghost use Rattle.hgs_commit.specs.Files.{filelog_in, kept_in, rev_of_node, view_filelog};
+ghost use Rattle.hgs_commit.specs.Files.{filelog_in, formed, kept_by, kept_in, rev_of_node, view_filelog};
+ghost use Rattle.hgs_revlog.specs.Text.{text_of};
 ghost use Rattle.hgs_commit.specs.Texts.{log_at, revised_in, revlog_answer};
 
 use crate::filelog::Filelog;
@@ -27,8 +28,8 @@ use hgs_files::files::Reads;
 use hgs_index::node::Node;
 use hgs_load::answer::ReadAnswer;
 use hgs_load::refusal::of_revlog;
-use hgs_loading::logs::load_log;
-use hgs_loading::texts::{read_chunk, read_text};
+use hgs_loading::logs::load_either_log;
+use hgs_loading::texts::read_chunk;
 use hgs_path::fncache::Fncache;
 use hgs_path::laws::filelogs_have_their_own_names;
 use hgs_path::name::{Ext, store_name};
@@ -36,6 +37,9 @@ use hgs_reader::find::RevlogPaths;
 use hgs_revlog::fault::RevFault;
 use hgs_revlog::revlog::Revlog;
 use std::alloc::{AllocError, Global};
+
+/// The greatest length of the first text of a filelog that begins as an inline one.
+const MOST_INLINE: usize = 4096;
 
 // The files of the filelog of a path.
 fn filelog_paths(alloc: Global, path: &[u8]) -> Result<RevlogPaths, AllocError>
@@ -71,7 +75,7 @@ pub fn load_filelog<R: Reads>(
             log: Revlog::empty(alloc, false),
         });
     }
-    match load_log(alloc, files, &paths) {
+    match load_either_log(alloc, files, &paths) {
         Ok(log) => Ok(Filelog { paths, log }),
         Err(refusal) => Err(refusal),
     }
@@ -100,6 +104,45 @@ impl Filelog {
         }
     }
 
+    // This revision, where the text in its chunk has this body.
+    fn kept_by(
+        &self,
+        alloc: Global,
+        rev: u32,
+        chunk: &[u8],
+        body: &[u8],
+    ) -> Result<Option<u32>, ReadAnswer>
+        requires stands { rev < length self.now.log.entries }
+        requires within { IfSome (slice_get self.now.log.entries rev) (λ e. length chunk.now ≤ e.stored) }
+        ensures kept { Gives is_of_outside (λ rev. rev) result (kept_by (view_filelog self.now) rev body.now (text_of self.now.log.entries rev chunk.now)) }
+        ensures below { IfOk result (λ rev. IfSome rev (λ r. r < length self.now.log.entries)) }
+        ensures inner { NeverFaults result }
+    {
+        match self.log.text(rev, chunk) {
+            Ok(text) => {
+                if has_body(text, body) {
+                    return Ok(Some(rev));
+                }
+                Ok(None)
+            }
+            Err(fault) => Err(of_revlog(alloc, &self.paths.index, fault)),
+        }
+    }
+
+    /// The filelog to which this text is added: where it is the first one, a short one makes it inline.
+    pub fn formed(self, alloc: Global, text: &[u8]) -> Filelog
+        ensures filelog { view_filelog result ≡ formed (view_filelog self) text.now }
+    {
+        if self.log.len() > 0 {
+            return self;
+        }
+        let Filelog { paths, log: _ } = self;
+        Filelog {
+            paths,
+            log: Revlog::empty(alloc, text.len() <= MOST_INLINE),
+        }
+    }
+
     /// The revision that is kept of a file with these parents and this body: where one parent is left, and has the same
     /// body. Its chunk is read only where the text is long enough.
     pub fn kept<R: Reads>(
@@ -122,11 +165,8 @@ impl Filelog {
         if (self.log.entry(rev).size as usize) < body.len() {
             return Ok(None);
         }
-        let text = read_text(alloc, files, &self.paths, &self.log, rev)?;
-        if has_body(text.as_slice(), body) {
-            return Ok(Some(rev));
-        }
-        Ok(None)
+        let chunk = read_chunk(alloc, files, &self.paths, &self.log, rev)?;
+        self.kept_by(alloc, rev, chunk.as_slice(), body)
     }
 }
 
@@ -158,12 +198,11 @@ pub fn revise_in<R: Reads>(
     p2: Option<u32>,
     link: u32,
 ) -> Result<Revised, ReadAnswer>
-    requires separate { log.now.inline ≡ false }
     requires first { IfSome p1 (λ rev. rev < length log.now.entries) }
     requires second { IfSome p2 (λ rev. rev < length log.now.entries) }
     requires link { link < 2 ^ 31 }
     ensures found { Finds (λ r. r) R.alone (R.seen files.new) (R.start files.new) (revised_in (log_at paths.now log.now) (record { text = text.now; parents = (p1, p2); link = link })) result }
-    ensures fits { IfOk result (λ r. Fits log.now r.node r.became) }
+    ensures fits { log.now.inline ≡ false → IfOk result (λ r. Fits log.now r.node r.became) }
     ensures same_start { R.start files.new ≡ R.start files.old }
     ensures still { R.alone ≡ true → R.seen files.new ≡ R.seen files.old }
     ensures cause { HasFaultCause (R.faults files.old) (R.faults files.new) (R.denied files.old) (R.denied files.new) result }

@@ -40,12 +40,13 @@ pub fn growth_in(
 ) -> Result<Option<Growth>, AllocError>
     requires entries { AreEntries log.now.entries }
     requires chunks { is_beside_path paths.chunks ≡ true }
-    requires fits { Fits log.now revised.node revised.became }
+    requires fits { log.now.inline ≡ false → Fits log.now revised.node revised.became }
     ensures growth { IfOk result (λ growth. option_map view_growth growth ≡ growth_with (log_at paths log.now) revised.node revised.became) }
     ensures met { IfOk result (λ growth. met_of met.new ≡ noted (met_of met.old) (obstacles_with (log_at paths log.now) revised.node revised.became)) }
     ensures clash { met.new.clash ≡ met.old.clash }
-    ensures index { IfOk result (λ growth. AppendsTo paths.index log.now growth) }
-    ensures pushes { IfOk result (λ growth. Pushes log.now growth) }
+    ensures index { log.now.inline ≡ false → IfOk result (λ growth. AppendsTo paths.index log.now growth) }
+    ensures path { IfOk result (λ growth. IfSome growth (λ g. g.entry.path ≡ paths.index)) }
+    ensures pushes { log.now.inline ≡ false → IfOk result (λ growth. Pushes log.now growth) }
     ensures lacking { IfOk result (λ growth. is_some growth ≡ false → is_standing revised.became ≡ false → is_met met.new ≡ true) }
 {
     let Revised { node, became } = revised;

@@ -63,12 +63,11 @@ pub fn revise(
     link: u32,
     standing: Option<&[u8]>,
 ) -> Result<Revised, RevFault>
-    requires separate { log.now.inline ≡ false }
     requires first { IfSome p1 (λ rev. rev < length log.now.entries) }
     requires second { IfSome p2 (λ rev. rev < length log.now.entries) }
     requires link { link < 2 ^ 31 }
     requires standing { IsChunkOf (entry_with log.now.entries (next_entry log.now.entries (record { text = text.now; parents = (p1, p2); link = link })).node.0) (option_copied standing) }
-    ensures fits { IfOk result (λ r. Fits log.now r.node r.became) }
+    ensures fits { log.now.inline ≡ false → IfOk result (λ r. Fits log.now r.node r.became) }
     ensures revised { Gives is_memory (λ revised. revised) result (revised log.now (record { text = text.now; parents = (p1, p2); link = link }) (added log.now (record { text = text.now; parents = (p1, p2); link = link }) (option_copied standing.entry))) }
 {
     new_revision();

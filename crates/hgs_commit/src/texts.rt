@@ -44,15 +44,14 @@ pub fn new_text<R: Reads>(
     met: &mut Hindrances,
 ) -> Result<NewText, ReadAnswer>
     requires entries { AreEntries log.now.entries }
-    requires separate { log.now.inline ≡ false }
     requires chunks { is_beside_path paths.chunks ≡ true }
     requires first { IfSome parents.0 (λ rev. rev < length log.now.entries) }
     requires second { IfSome parents.1 (λ rev. rev < length log.now.entries) }
     requires link { link < 2 ^ 31 }
     ensures found { Finds (λ x. (view_text x, met_of met.new)) R.alone (R.seen files.new) (R.start files.new) (λ t. noting (met_of met.old) (new_text_in (log_at paths log.now) (record { text = text.now; parents = parents; link = link }) t)) result }
     ensures clash { met.new.clash ≡ met.old.clash }
-    ensures pushes { IfOk result (λ x. Pushes log.now x.growth) }
-    ensures index { IfOk result (λ x. AppendsTo paths.index log.now x.growth) }
+    ensures pushes { log.now.inline ≡ false → IfOk result (λ x. Pushes log.now x.growth) }
+    ensures index { log.now.inline ≡ false → IfOk result (λ x. AppendsTo paths.index log.now x.growth) }
     ensures lacking { IfOk result (λ x. is_some x.growth ≡ false → is_some x.standing ≡ false → is_met met.new ≡ true) }
     ensures same_start { R.start files.new ≡ R.start files.old }
     ensures still { R.alone ≡ true → R.seen files.new ≡ R.seen files.old }

@@ -181,8 +181,8 @@ impl NewTree {
     }
 
     // Adds the lines of a filelog that is new.
-    fn push_lines(&mut self, new: bool, path: &[u8]) -> Result<(), AllocError>
-        ensures lines { OnOk result (self.new.lines.items ≡ self.old.lines.items ++ new_lines new path.now) }
+    fn push_lines(&mut self, new: bool, inline: bool, path: &[u8]) -> Result<(), AllocError>
+        ensures lines { OnOk result (self.new.lines.items ≡ self.old.lines.items ++ new_lines new inline path.now) }
         ensures rows { self.new.rows ≡ self.old.rows }
         ensures growth { self.new.growth ≡ self.old.growth }
         ensures first { self.new.first ≡ self.old.first }
@@ -193,6 +193,9 @@ impl NewTree {
             return Ok(());
         }
         Fncache::add_line(path, Ext::I, &mut self.lines)?;
+        if inline {
+            return Ok(());
+        }
         Fncache::add_line(path, Ext::D, &mut self.lines)
     }
 
@@ -218,7 +221,7 @@ impl NewTree {
         ensures rows { OnOk result (self.new.rows ≡ self.old.rows ++ (record { path = file.path; node = file.node.0; flag = file.flag }) ∷ []) }
         ensures changed { OnOk result (self.new.changed.items ≡ self.old.changed.items ++ new_path file.changed file.path) }
         ensures growth { OnOk result (self.new.growth.items ≡ self.old.growth.items ++ changes_of (option_map view_growth file.growth)) }
-        ensures lines { OnOk result (self.new.lines.items ≡ self.old.lines.items ++ new_lines file.listed file.path) }
+        ensures lines { OnOk result (self.new.lines.items ≡ self.old.lines.items ++ new_lines file.listed file.inline file.path) }
         ensures first { OnOk result (self.new.first ≡ self.old.first) }
         ensures second { OnOk result (self.new.second ≡ self.old.second) }
     {
@@ -229,10 +232,11 @@ impl NewTree {
             changed,
             growth,
             listed,
+            inline,
         } = file;
         self.push_row(path.as_slice(), node, flag)?;
         self.push_growth(growth)?;
-        self.push_lines(listed, path.as_slice())?;
+        self.push_lines(listed, inline, path.as_slice())?;
         self.push_changed(changed, path)
     }
 

@@ -17,7 +17,9 @@ pub struct TreeFile {
     pub flag: Flag,
     pub changed: bool,
     pub growth: Option<Growth>,
-    /// Whether its filelog is new, so that the list of filelogs gets its two names.
+    /// Whether its filelog is new, so that the list of filelogs gets the names of its files.
     pub listed: bool,
+    /// Whether its filelog is inline, and so has no data file.
+    pub inline: bool,
     pub ghost growth_beside: { ForSome growth (λ g. is_beside (Append g.entry) ≡ true) },
 }

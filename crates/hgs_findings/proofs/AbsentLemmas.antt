@@ -27,10 +27,11 @@ use Rattle.hgs_stands.specs.Theorems.ListedLemmas.{among-at}
 use Rattle.hgs_findings.specs.Namings.{FollowsRules}
 use Rattle.hgs_findings.specs.Sight.{Sight, Seen, value, place, row_paths, seen}
 use Rattle.hgs_findings.specs.Regular.{rows_of_seen, used_paths, is_used, has_file, IsRegular}
-use Rattle.hgs_findings.specs.Reading.{Log, the_changelog, the_manifest, the_filelog, index_path, data_path, sight_of, IsWholeReading}
+use Rattle.hgs_findings.specs.Reading.{Log, the_changelog, the_manifest, the_filelog, index_in, data_in, sight_of, IsWholeReading}
 use Rattle.hgs_findings.specs.Findings.{IsFinding, is_looked_at, revisions_in, namings_in, roots_in, mark_lines_in, names_in, dirstate_in, known, is_name_used, is_unknown_parent, paths_of_seen, paths_at_node, have_same, tracks_others, AreWithin}
 use Rattle.hgs_findings.specs.Findings as found
 use Rattle.hgs_findings.proofs.Basics.{same-eq, same-refl, bool, never, none-some, some-same, and-left, and-right}
+use Rattle.hgs_findings.proofs.EitherLemmas.{either-there}
 use Rattle.hgs_findings.proofs.LogLemmas.{IsLog, position-none}
 use Rattle.hgs_findings.proofs.SightLemmas.{IsRead}
 use Rattle.hgs_findings.proofs.HeldLemmas.{held-reading}
@@ -104,14 +105,14 @@ module _ (t : Tree) (r : Repo) (clean : IsClean t r) (within : AreWithin t r) wh
   abbrev st : Stands t r
   st = clean.stands
 
-  changelog-read : IsWholeReading (bytes_at t (index_path the_changelog)) (bytes_at t (data_path the_changelog)) H.changelog
+  changelog-read : IsWholeReading (index_in t the_changelog) (data_in t the_changelog) H.changelog
   changelog-read = held-reading _ _ H.changelog st.revlogs.changelog within.changelog
 
-  manifest-read : IsWholeReading (bytes_at t (index_path the_manifest)) (bytes_at t (data_path the_manifest)) H.manifest
-  manifest-read = held-reading _ _ H.manifest st.revlogs.manifest within.manifest
+  manifest-read : IsWholeReading (index_in t the_manifest) (data_in t the_manifest) H.manifest
+  manifest-read = held-reading _ _ H.manifest (either-there _ _ H.manifest st.revlogs.manifest) within.manifest
 
-  filelog-read : (path : List ℕ) → uses cs path ≡ true → IsWholeReading (bytes_at t (index_path (the_filelog path))) (bytes_at t (data_path (the_filelog path))) (H.filelog path)
-  filelog-read path u = held-reading _ _ (H.filelog path) (st.revlogs.filelogs path u) (within.filelogs path u)
+  filelog-read : (path : List ℕ) → uses cs path ≡ true → IsWholeReading (index_in t (the_filelog path)) (data_in t (the_filelog path)) (H.filelog path)
+  filelog-read path u = held-reading _ _ (H.filelog path) (either-there _ _ (H.filelog path) (st.revlogs.filelogs path u)) (within.filelogs path u)
 
   log-of : (index data_bytes : List ℕ) (log read : List Revision) → read ≡ log → HoldsRevisions index data_bytes log → IsLog read
   log-of index data_bytes log read e h = subst IsLog (sym e) (record { different = h.different; before = h.earlier })
@@ -122,8 +123,8 @@ module _ (t : Tree) (r : Repo) (clean : IsClean t r) (within : AreWithin t r) wh
     manifest = manifest-read.are;
     filelogs = λ path u. (filelog-read path u).are;
     changelog_log = log-of _ _ H.changelog s.changelog changelog-read.are st.revlogs.changelog;
-    manifest_log = log-of _ _ H.manifest s.manifest manifest-read.are st.revlogs.manifest;
-    filelog_logs = λ path u. log-of _ _ (H.filelog path) (s.filelog path) (filelog-read path u).are (st.revlogs.filelogs path u);
+    manifest_log = log-of _ _ H.manifest s.manifest manifest-read.are (either-there _ _ H.manifest st.revlogs.manifest);
+    filelog_logs = λ path u. log-of _ _ (H.filelog path) (s.filelog path) (filelog-read path u).are (either-there _ _ (H.filelog path) (st.revlogs.filelogs path u));
   }
 
   regular : IsRegular s
@@ -135,7 +136,7 @@ module _ (t : Tree) (r : Repo) (clean : IsClean t r) (within : AreWithin t r) wh
   uses-it : (path : List ℕ) → is_used s path ≡ true → uses cs path ≡ true
   uses-it path e = sym (used-same path) ∙ e
 
-  log-read : (log : Log) → is_looked_at s log ≡ true → (revisions : List Revision) × IsWholeReading (bytes_at t (index_path log)) (bytes_at t (data_path log)) revisions
+  log-read : (log : Log) → is_looked_at s log ≡ true → (revisions : List Revision) × IsWholeReading (index_in t log) (data_in t log) revisions
   log-read the_changelog looked = (H.changelog, changelog-read)
   log-read the_manifest looked = (H.manifest, manifest-read)
   log-read (the_filelog path) looked = (H.filelog path, filelog-read path (uses-it path looked))
@@ -229,9 +230,9 @@ module _ (t : Tree) (r : Repo) (clean : IsClean t r) (within : AreWithin t r) wh
   absent _ _ _ (found.misplaced log rev x looked at e) = no (sym e ∙ (rules log looked).placed rev x at)
   absent _ _ _ (found.wrongly_made log rev x looked at e) = no (sym e ∙ (rules log looked).made rev x at)
   absent _ _ _ (found.wrongly_listed rev c v path at g e) = no (sym e ∙ regular.listed rev c v path at g)
-  absent _ _ _ (found.not_listed path ext names u e l) =
+  absent _ _ _ (found.not_listed path ext names u has e l) =
       let same_names : names ≡ st.fncache.names = some-same names names st.fncache.names (sym (ap value e) ∙ ap value st.fncache.text) in
-      no (sym (st.fncache.listed path ext (uses-it path u)) ∙ ap (λ x. lists x path ext) (sym same_names) ∙ l)
+      no (sym (st.fncache.listed path ext (uses-it path u) has) ∙ ap (λ x. lists x path ext) (sym same_names) ∙ l)
   absent _ _ _ (found.one_name path other ext u v d e) = clash ext e
     where
       apart : (same (store_name other I) (store_name path I) || same (store_name other D) (store_name path D)) ≡ false

@@ -7,11 +7,13 @@ pub mod StepLemmas
 pub mod ChangesetLemmas
 pub mod RegularLemmas
 pub mod ReadingLemmas
+pub mod EitherLemmas
 pub mod PartLemmas
 pub mod CleanLemmas
 pub mod BuiltLemmas
 pub mod MadeLemmas
 pub mod BackLemmas
+pub mod RestLemmas
 pub mod HeldLemmas
 pub mod AbsentLemmas
 pub mod OnePathLemmas

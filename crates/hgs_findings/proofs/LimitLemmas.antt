@@ -4,7 +4,7 @@ use Rattle.std.specs.Prelude.{None, Result, Ok, Err, ◌&&◌, nat_lt, not}
 use Rattle.std.specs.List.{AllByRecursion}
 use Rattle.std.proofs.lemmas.Bool.Decides.{nat_tests}
 use Rattle.std.proofs.lemmas.List.{length_push}
-use Rattle.hgs_files.specs.Tree.{Tree, bytes_at}
+use Rattle.hgs_files.specs.Tree.{Tree}
 use Rattle.hgs_index.specs.declared.entry.Entry.{Entry}
 use Rattle.hgs_index.specs.Revision.{Revision}
 use Rattle.hgs_revlog.specs.declared.fault.RevFault.{RevFault}
@@ -15,7 +15,7 @@ use Rattle.hgs_revlog.specs.Held.{AreWithinLimits, chunk_in}
 use Rattle.hgs_revlog.specs.Theorems.LogLemmas.{sum_push}
 use Rattle.hgs_revlog.specs.Theorems.LoadLemmas.{IsFaultless, faultless, taken_entry}
 use Rattle.hgs_revlog.specs.Theorems.ReadLemmas.{sound, slice_get_seam}
-use Rattle.hgs_findings.specs.Reading.{Log, the_changelog, the_manifest, the_filelog, index_path, data_path, reading, sight_of, text_behind, on_text, on_entry, read_on, reading_of, has_data_rest}
+use Rattle.hgs_findings.specs.Reading.{Log, the_changelog, the_manifest, the_filelog, index_in, data_in, reading, sight_of, text_behind, on_text, on_entry, read_on, reading_of, has_data_rest}
 use Rattle.hgs_findings.specs.Findings.{fault, data_rest, is_looked_at, repo_of, AreWithin}
 use Rattle.hgs_findings.proofs.Basics.{never}
 use Rattle.hgs_findings.proofs.PartLemmas.{must-fail, FindsNothing, logs, regular, uses-are}
@@ -66,14 +66,14 @@ reading-within index data_bytes whole no_rest =
     at_most x y e = grind (arith, nat_tests)
 
 module _ (t : Tree) (n : FindsNothing t) where
-  log-within : (log : Log) → is_looked_at (sight_of t) log ≡ true → AreWithinLimits (reading t log).revisions (bytes_at t (data_path log))
+  log-within : (log : Log) → is_looked_at (sight_of t) log ≡ true → AreWithinLimits (reading t log).revisions (data_in t log)
   log-within log looked =
-      reading-within (bytes_at t (index_path log)) (bytes_at t (data_path log)) (must-fail (reading t log).broken (λ e. n.none _ _ _ (fault log looked e)))
-      (must-fail (has_data_rest (bytes_at t (index_path log)) (bytes_at t (data_path log))) (λ e. n.none _ _ _ (data_rest log looked e)))
+      reading-within (index_in t log) (data_in t log) (must-fail (reading t log).broken (λ e. n.none _ _ _ (fault log looked e)))
+      (must-fail (has_data_rest (index_in t log) (data_in t log)) (λ e. n.none _ _ _ (data_rest log looked e)))
 
   pub made-within : AreWithin t (repo_of t)
   made-within = record {
-    changelog = subst (λ l. AreWithinLimits l (bytes_at t (data_path the_changelog))) (sym (changelog-whole (sight_of t) (logs t n) (regular t n))) (log-within the_changelog refl);
-    manifest = subst (λ l. AreWithinLimits l (bytes_at t (data_path the_manifest))) (sym (manifest-whole (sight_of t) (logs t n) (regular t n))) (log-within the_manifest refl);
-    filelogs = λ path u. (let used = sym (uses-are (sight_of t) path) ∙ u in subst (λ l. AreWithinLimits l (bytes_at t (data_path (the_filelog path)))) (sym (filelog-whole (sight_of t) (logs t n) (regular t n) path used)) (log-within (the_filelog path) used));
+    changelog = subst (λ l. AreWithinLimits l (data_in t the_changelog)) (sym (changelog-whole (sight_of t) (logs t n) (regular t n))) (log-within the_changelog refl);
+    manifest = subst (λ l. AreWithinLimits l (data_in t the_manifest)) (sym (manifest-whole (sight_of t) (logs t n) (regular t n))) (log-within the_manifest refl);
+    filelogs = λ path u. (let used = sym (uses-are (sight_of t) path) ∙ u in subst (λ l. AreWithinLimits l (data_in t (the_filelog path))) (sym (filelog-whole (sight_of t) (logs t n) (regular t n) path used)) (log-within (the_filelog path) used));
   }

@@ -22,9 +22,10 @@ use Rattle.hgs_stands.specs.Stands.{HoldsChangesets, ListsFilelogs, IsUsedName, 
 use Rattle.hgs_findings.specs.Namings.{FollowsRules, is_unneeded, is_misplaced, is_wrongly_made}
 use Rattle.hgs_findings.specs.Sight.{Sight, Seen, value, row_paths, seen, seen_of, tree_file, changeset_of, changesets_of, is_wrongly_listed}
 use Rattle.hgs_findings.specs.Regular.{rows_of_seen, used_paths, is_used, is_manifest, is_change, has_file, IsRegular}
-use Rattle.hgs_findings.specs.Reading.{Log, the_changelog, the_manifest, the_filelog, index_path, data_path, reading, sight_of, has_index_rest, has_data_rest}
+use Rattle.hgs_findings.specs.Reading.{Log, the_changelog, the_manifest, the_filelog, index_in, data_in, reading, sight_of, has_index_rest, has_data_rest}
 use Rattle.hgs_findings.specs.Findings.{IsFinding, fault, bad_changeset, bad_manifest, bad_fncache, no_manifest, no_file, unneeded, other_link, misplaced, wrongly_made, wrongly_listed, not_listed, one_name, not_used, index_rest, data_rest, is_looked_at, revisions_in, namings_in, names_in, is_name_used}
 use Rattle.hgs_findings.proofs.Basics.{same-eq, same-refl, bool, never, none-some, some-same}
+use Rattle.hgs_findings.proofs.EitherLemmas.{either-back, read-bytes}
 use Rattle.hgs_findings.proofs.LogLemmas.{IsLog}
 use Rattle.hgs_findings.proofs.NamingLemmas.{eq-test}
 use Rattle.hgs_findings.proofs.OrderLemmas.{among-join, among-in_order}
@@ -84,12 +85,12 @@ pub record FindsNothing (t : Tree) : Type 0 where
 module _ (t : Tree) (n : FindsNothing t) where
   -- ---- the revlogs
 
-  pub holds : (log : Log) → is_looked_at (sight_of t) log ≡ true → HoldsRevisions (bytes_at t (index_path log)) (bytes_at t (data_path log)) (reading t log).revisions
+  pub holds : (log : Log) → is_looked_at (sight_of t) log ≡ true → HoldsRevisions (index_in t log) (data_in t log) (reading t log).revisions
   holds log looked =
-      reading-held (bytes_at t (index_path log)) (bytes_at t (data_path log)) (n.bytes (index_path log))
+      reading-held (index_in t log) (data_in t log) (read-bytes t log n.bytes)
       (must-fail (reading t log).broken (λ e. n.none _ _ _ (fault log looked e)))
-      (must-fail (has_index_rest (bytes_at t (index_path log)) (bytes_at t (data_path log))) (λ e. n.none _ _ _ (index_rest log looked e)))
-      (must-fail (has_data_rest (bytes_at t (index_path log)) (bytes_at t (data_path log))) (λ e. n.none _ _ _ (data_rest log looked e)))
+      (must-fail (has_index_rest (index_in t log) (data_in t log)) (λ e. n.none _ _ _ (index_rest log looked e)))
+      (must-fail (has_data_rest (index_in t log) (data_in t log)) (λ e. n.none _ _ _ (data_rest log looked e)))
 
   is-log : (log : Log) → is_looked_at (sight_of t) log ≡ true → IsLog (reading t log).revisions
   is-log log looked = let h = holds log looked in record { different = h.different; before = h.earlier }
@@ -127,9 +128,9 @@ module _ (t : Tree) (n : FindsNothing t) where
 
   pub revlogs : HoldsChangesets t (changesets_of (sight_of t))
   revlogs = record {
-    changelog = subst (HoldsRevisions (bytes_at t (index_path the_changelog)) (bytes_at t (data_path the_changelog))) (sym (changelog-whole (sight_of t) logs regular)) (holds the_changelog refl);
-    manifest = subst (HoldsRevisions (bytes_at t (index_path the_manifest)) (bytes_at t (data_path the_manifest))) (sym (manifest-whole (sight_of t) logs regular)) (holds the_manifest refl);
-    filelogs = λ path u. subst (HoldsRevisions (bytes_at t (index_path (the_filelog path))) (bytes_at t (data_path (the_filelog path)))) (sym (filelog-whole (sight_of t) logs regular path (used-is path u))) (holds (the_filelog path) (used-is path u));
+    changelog = subst (HoldsRevisions (index_in t the_changelog) (data_in t the_changelog)) (sym (changelog-whole (sight_of t) logs regular)) (holds the_changelog refl);
+    manifest = either-back _ _ _ (subst (HoldsRevisions (index_in t the_manifest) (data_in t the_manifest)) (sym (manifest-whole (sight_of t) logs regular)) (holds the_manifest refl));
+    filelogs = λ path u. either-back _ _ _ (subst (HoldsRevisions (index_in t (the_filelog path)) (data_in t (the_filelog path))) (sym (filelog-whole (sight_of t) logs regular path (used-is path u))) (holds (the_filelog path) (used-is path u)));
     names = λ path other u v. apart path other (used-is path u) (used-is other v);
   }
     where
@@ -151,7 +152,7 @@ module _ (t : Tree) (n : FindsNothing t) where
   listed names e = record {
     names = names;
     text = e;
-    listed = λ path ext u. must-hold (lists names path ext) (λ h. n.none _ _ _ (not_listed path ext names (used-is path u) e h));
+    listed = λ path ext u has. must-hold (lists names path ext) (λ h. n.none _ _ _ (not_listed path ext names (used-is path u) has e h));
     used = all_used names (λ name h. ap (λ o. among name (unwrap_or o [])) (ap value e) ∙ h);
   }
     where

@@ -12,12 +12,17 @@ use Rattle.hgs_bytes.specs.Bytes.{same}
 use Rattle.hgs_files.specs.Tree.{bytes_at}
 use Rattle.hgs_index.specs.ChangeText.{split_at_blank, header_lines, when_at, number_within}
 use Rattle.hgs_model.specs.History.{history, uses}
-use Rattle.hgs_path.specs.declared.name.Ext.TheVariants.{D}
+use Rattle.hgs_index.specs.Theorems.InlineLemmas.{apart-held}
+use Rattle.hgs_path.specs.declared.name.Ext.{Ext}
+use Rattle.hgs_path.specs.declared.name.Ext.TheVariants.{I, D}
+use Rattle.hgs_path.specs.Fncache.{lists}
 use Rattle.hgs_path.specs.StoreName.{store_name}
 use Rattle.hgs_revlog.specs.Held.{AreWithinLimits}
-use Rattle.hgs_stands.specs.Samples.{two_drafts, two_drafts_files}
-use Rattle.hgs_stands.specs.Stands.{IsClean}
+use Rattle.hgs_stands.specs.Samples.{sample_names, two_drafts, two_drafts_files}
+use Rattle.hgs_stands.specs.Stands.{HoldsAt, IsClean}
+use Rattle.hgs_findings.specs.Reading.{data_in, the_filelog}
 use Rattle.hgs_findings.specs.Findings.{AreWithin, IsReport}
+use Rattle.hgs_findings.specs.Samples.{inline_a, inline_drafts}
 use Rattle.hgs_findings.proofs.Basics.{same-eq, never, and-left, and-right}
 use Rattle.hgs_findings.proofs.AbsentLemmas.{absent}
 
@@ -65,11 +70,11 @@ used-path path e = by (same path (codes "a")) refl (same path (codes "b")) refl 
     by false x true y h = inr (same-eq path (codes "b") y)
     by false x false y h = never (sym h)
 
-a-within : AreWithinLimits ((history two_drafts.changesets).filelog (codes "a")) (bytes_at two_drafts_files (store_name (codes "a") D))
+a-within : AreWithinLimits ((history two_drafts.changesets).filelog (codes "a")) (data_in two_drafts_files (the_filelog (codes "a")))
 unfolding encode encode_with decode_pairs split_at_blank header_lines when_at number_within is_utf8 chars sha1 first_words schedule rounds compress hash_after digest_bytes digits
 a-within = record { few = most _ _ refl; texts = (most _ _ refl, tt); data_end = most _ _ refl }
 
-b-within : AreWithinLimits ((history two_drafts.changesets).filelog (codes "b")) (bytes_at two_drafts_files (store_name (codes "b") D))
+b-within : AreWithinLimits ((history two_drafts.changesets).filelog (codes "b")) (data_in two_drafts_files (the_filelog (codes "b")))
 unfolding encode encode_with decode_pairs split_at_blank header_lines when_at number_within is_utf8 chars sha1 first_words schedule rounds compress hash_after digest_bytes digits
 b-within = record { few = most _ _ refl; texts = (most _ _ refl, tt); data_end = most _ _ refl }
 
@@ -79,8 +84,8 @@ drafts-within = record {
   changelog = record { few = most _ _ refl; texts = (most _ _ refl, (most _ _ refl, tt)); data_end = most _ _ refl };
   manifest = record { few = most _ _ refl; texts = (most _ _ refl, (most _ _ refl, tt)); data_end = most _ _ refl };
   filelogs = λ path used. elim (used-path path used) [
-    | inl e ↦ subst (λ p. AreWithinLimits ((history two_drafts.changesets).filelog p) (bytes_at two_drafts_files (store_name p D))) (sym e) a-within
-    | inr e ↦ subst (λ p. AreWithinLimits ((history two_drafts.changesets).filelog p) (bytes_at two_drafts_files (store_name p D))) (sym e) b-within
+    | inl e ↦ subst (λ p. AreWithinLimits ((history two_drafts.changesets).filelog p) (data_in two_drafts_files (the_filelog p))) (sym e) a-within
+    | inr e ↦ subst (λ p. AreWithinLimits ((history two_drafts.changesets).filelog p) (data_in two_drafts_files (the_filelog p))) (sym e) b-within
   ];
 }
 
@@ -92,6 +97,79 @@ drafts-report clean = record {
   ordered = refl;
   found = tt;
   complete = λ path rev kind finding. absurd (absent two_drafts_files two_drafts clean drafts-within path rev kind finding);
+  changeset_count = refl;
+  filelog_count = refl;
+}
+
+-- ---- one filelog inline
+
+a-inline-held : IsClean two_drafts_files two_drafts → HoldsAt inline_drafts (store_name (codes "a") I) (store_name (codes "a") D) ((history two_drafts.changesets).filelog (codes "a"))
+unfolding encode encode_with decode_pairs split_at_blank header_lines when_at number_within is_utf8 chars sha1 first_words schedule rounds compress hash_after digest_bytes digits
+a-inline-held clean =
+    apart-held inline_a (bytes_at two_drafts_files (codes "store/data/a.d")) (bytes_at two_drafts_files (codes "store/data/a.d")) [] ((history two_drafts.changesets).filelog (codes "a")) refl (clean.stands.revlogs.filelogs (codes "a") refl) refl
+
+inline-clean : IsClean two_drafts_files two_drafts → IsClean inline_drafts two_drafts
+unfolding encode encode_with decode_pairs split_at_blank header_lines when_at number_within is_utf8 chars sha1 first_words schedule rounds compress hash_after digest_bytes digits
+inline-clean clean =
+    let s = clean.stands in
+    record {
+      stands = record {
+        repository = s.repository;
+        requires = record { text = s.requires.text; there = s.requires.there; known = s.requires.known; whole = s.requires.whole };
+        revlogs = record {
+          changelog = s.revlogs.changelog;
+          manifest = s.revlogs.manifest;
+          filelogs = λ path used. elim (used-path path used) [
+            | inl e ↦ subst (λ p. HoldsAt inline_drafts (store_name p I) (store_name p D) ((history two_drafts.changesets).filelog p)) (sym e) (a-inline-held clean)
+            | inr e ↦ subst (λ p. HoldsAt inline_drafts (store_name p I) (store_name p D) ((history two_drafts.changesets).filelog p)) (sym e) (s.revlogs.filelogs (codes "b") refl)
+          ];
+          names = s.revlogs.names;
+        };
+        fncache = record {
+          names = sample_names;
+          text = refl;
+          listed = λ path ext used has. listed path ext used;
+          used = (inr (codes "a", I, refl, refl), (inr (codes "a", D, refl, refl), (inr (codes "b", I, refl, refl), (inr (codes "b", D, refl, refl), tt))));
+        };
+        phases = record { roots = s.phases.roots; text = s.phases.text; known = s.phases.known; phases = s.phases.phases };
+        bookmarks = record { lines = s.bookmarks.lines; text = s.bookmarks.text; known = s.bookmarks.known; marks = s.bookmarks.marks };
+        dirstate = record { dirstate = s.dirstate.dirstate; text = s.dirstate.text; first = s.dirstate.first; second = s.dirstate.second; paths = s.dirstate.paths };
+        no_journal = s.no_journal;
+      };
+      no_locks = clean.no_locks;
+    }
+  where
+    listed : (path : List ℕ) (ext : Ext) → uses two_drafts.changesets path ≡ true → lists sample_names path ext ≡ true
+    listed path I used = elim (used-path path used) [
+      | inl e ↦ subst (λ p. lists sample_names p I ≡ true) (sym e) refl
+      | inr e ↦ subst (λ p. lists sample_names p I ≡ true) (sym e) refl
+    ]
+    listed path D used = elim (used-path path used) [
+      | inl e ↦ subst (λ p. lists sample_names p D ≡ true) (sym e) refl
+      | inr e ↦ subst (λ p. lists sample_names p D ≡ true) (sym e) refl
+    ]
+
+a-inline-within : AreWithinLimits ((history two_drafts.changesets).filelog (codes "a")) (data_in inline_drafts (the_filelog (codes "a")))
+unfolding encode encode_with decode_pairs split_at_blank header_lines when_at number_within is_utf8 chars sha1 first_words schedule rounds compress hash_after digest_bytes digits
+a-inline-within = record { few = most _ _ refl; texts = (most _ _ refl, tt); data_end = most _ _ refl }
+
+inline-within : AreWithin inline_drafts two_drafts
+unfolding encode encode_with decode_pairs split_at_blank header_lines when_at number_within is_utf8 chars sha1 first_words schedule rounds compress hash_after digest_bytes digits
+inline-within = record {
+  changelog = drafts-within.changelog;
+  manifest = drafts-within.manifest;
+  filelogs = λ path used. elim (used-path path used) [
+    | inl e ↦ subst (λ p. AreWithinLimits ((history two_drafts.changesets).filelog p) (data_in inline_drafts (the_filelog p))) (sym e) a-inline-within
+    | inr e ↦ subst (λ p. AreWithinLimits ((history two_drafts.changesets).filelog p) (data_in inline_drafts (the_filelog p))) (sym e) b-within
+  ];
+}
+
+pub inline-report : IsClean two_drafts_files two_drafts → IsReport inline_drafts [] 2 2
+unfolding encode encode_with decode_pairs split_at_blank header_lines when_at number_within is_utf8 chars sha1 first_words schedule rounds compress hash_after digest_bytes digits
+inline-report clean = record {
+  ordered = refl;
+  found = tt;
+  complete = λ path rev kind finding. absurd (absent inline_drafts two_drafts (inline-clean clean) inline-within path rev kind finding);
   changeset_count = refl;
   filelog_count = refl;
 }

@@ -51,6 +51,13 @@ drafts_behind path bytes = drafts_with path (bytes_at two_drafts_files path ++ b
 abbrev pub drafts_at : List ℕ → ℕ → List ℕ → Tree
 drafts_at path at bytes = drafts_with path (take at (bytes_at two_drafts_files path) ++ bytes ++ drop (at + length bytes) (bytes_at two_drafts_files path))
 
+-- the sample with the filelog of `a` inline, as Mercurial keeps it by default; its data file is left beside it
+abbrev pub inline_a : List ℕ
+inline_a = 0 ∷ 1 ∷ drop 2 (bytes_at two_drafts_files (codes "store/data/a.i")) ++ bytes_at two_drafts_files (codes "store/data/a.d")
+
+abbrev pub inline_drafts : Tree
+inline_drafts = drafts_with (codes "store/data/a.i") inline_a
+
 -- a node that no changeset has, and its digits
 abbrev pub strange_node : List ℕ
 strange_node = replicate 20 170

@@ -3,14 +3,14 @@
 ghost use Rattle.hgs_bytes.specs.Text.{line, lines};
 ghost use Rattle.hex.specs.Hex.{IsBytes};
 ghost use Rattle.hgs_files.specs.Tree.{bytes_at, with_file};
-ghost use Rattle.std.specs.Prelude.{◌≡◌, ◌++◌, ◌∷◌, ℕ, List, [], Bool, true, false, codes, map, None, Some};
+ghost use Rattle.std.specs.Prelude.{◌≡◌, ◌++◌, ◌∷◌, ℕ, List, [], Bool, true, false, codes, map, take, None, Some};
 ghost use Rattle.hgs_findings.specs.Built.{AreTold, IsBuilt};
 ghost use Rattle.hgs_findings.specs.Findings.{AreWithin, IsFinding, IsReport, repo_of, rise};
 ghost use Rattle.hgs_findings.specs.Namings.{first_use, is_misplaced, is_unneeded, is_wrongly_made};
 ghost use Rattle.hgs_findings.specs.OnePath.{lists_word_wrongly, words};
 ghost use Rattle.hgs_findings.specs.Reading.{reading, sight_of, the_changelog, the_filelog, the_manifest};
 ghost use Rattle.hgs_findings.specs.Regular.{used_paths};
-ghost use Rattle.hgs_findings.specs.Samples.{drafts_at, drafts_behind, drafts_with, strange_digits, strange_node, five_namings, finding, kept_as, listing_files, made, merged_sight, lost_files, needless_files, three_revisions, turned_files};
+ghost use Rattle.hgs_findings.specs.Samples.{drafts_at, drafts_behind, drafts_with, strange_digits, strange_node, five_namings, finding, inline_a, inline_drafts, kept_as, listing_files, made, merged_sight, lost_files, needless_files, three_revisions, turned_files};
 ghost use Rattle.hgs_findings.specs.Sight.{changesets_of, file_namings, manifest_namings};
 ghost use Rattle.hgs_journal.specs.Names.{journal_path};
 ghost use Rattle.hgs_model.specs.Samples.{merged};
@@ -48,6 +48,16 @@ pub fn findings()
     ensures fault { IsFinding (drafts_with (codes "store/data/b.d") (117 ∷ 88 ∷ 10 ∷ [])) (codes "store/data/b.i") (Some 0) 3 }
     ensures behind { IsFinding (drafts_behind (codes "store/00manifest.d") (codes "x")) (codes "store/00manifest.d") (Some 2) 17 }
 {}
+
+/// Nothing is found where one of the filelogs is inline; where the last byte of its chunk is cut, that is bytes behind no
+/// entry, and another byte in its text is a fault.
+pub fn inline_drafts()
+    ensures report { IsReport inline_drafts [] 2 2 }
+    ensures cut { IsFinding (drafts_with (codes "store/data/a.i") (take 66 inline_a)) (codes "store/data/a.i") (Some 0) 17 }
+    ensures fault { IsFinding (drafts_with (codes "store/data/a.i") (take 65 inline_a ++ 98 ∷ 10 ∷ [])) (codes "store/data/a.i") (Some 0) 3 }
+{
+    hgs_stands::examples::two_drafts_stand();
+}
 
 /// Findings of files that were changed: another link, a file that is not listed, one that is listed and not used, and
 /// a root, a bookmark, working parents and tracked paths that do not fit.

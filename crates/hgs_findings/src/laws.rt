@@ -1,8 +1,10 @@
 //! What the definitions of this crate imply. Each function is one law; none does anything but name the laws below that
 //! its proof takes.
-ghost use Rattle.std.specs.Prelude.{◌≡◌, ◌↔◌, ℕ, List, [], Option};
+ghost use Rattle.std.specs.Prelude.{◌≡◌, ◌↔◌, true, false, ℕ, List, [], Option};
 ghost use Rattle.hex.specs.Hex.{IsBytes};
 ghost use Rattle.hgs_files.specs.Tree.{Tree, bytes_at};
+ghost use Rattle.hgs_index.specs.Either.{HoldsEither, chunks_either};
+ghost use Rattle.hgs_index.specs.Inline.{chunks_apart, index_apart, is_inline};
 ghost use Rattle.hgs_index.specs.Revision.{Revision};
 ghost use Rattle.hgs_index.specs.Revlog.{HoldsRevisions};
 ghost use Rattle.hgs_model.specs.Repo.{Repo};
@@ -14,7 +16,7 @@ ghost use Rattle.hgs_findings.specs.Namings.{FollowsRules, Naming};
 ghost use Rattle.hgs_findings.specs.OnePath.{lists_word_wrongly, namings_of_words, word_of, words};
 ghost use Rattle.hgs_findings.specs.Sight.{Seen, Sight, file_namings, is_wrongly_listed, seen};
 ghost use Rattle.hgs_findings.specs.Findings.{AreWithin, Finding, IsFinding, IsReport, repo_of};
-ghost use Rattle.hgs_findings.specs.Reading.{IsWholeReading, reading_of};
+ghost use Rattle.hgs_findings.specs.Reading.{IsWholeReading, has_data_rest, reading_of};
 ghost use Rattle.hgs_stands.specs.Requires.{IsInProfile};
 ghost use Rattle.hgs_stands.specs.Stands.{IsClean};
 
@@ -40,10 +42,17 @@ pub fn made_of_files()
 }
 
 /// Without a fault and without bytes behind, the two files hold the revisions that are read; and files that hold some read
-/// as these.
+/// as these. So it is of a revlog in either form, as the bytes that it is read as.
 pub fn whole_readings()
     ensures holds { (index data_bytes : List ℕ) → IsBytes index → IsWholeReading index data_bytes (reading_of index data_bytes).revisions → HoldsRevisions index data_bytes (reading_of index data_bytes).revisions }
     ensures reads { (index data_bytes : List ℕ) (revisions : List Revision) → HoldsRevisions index data_bytes revisions → AreWithinLimits revisions data_bytes → IsWholeReading index data_bytes revisions }
+    ensures either_holds { (index data_bytes : List ℕ) (revisions : List Revision) → IsBytes index → IsWholeReading (index_apart index) (chunks_either index data_bytes) revisions → HoldsEither index data_bytes revisions }
+    ensures either_reads { (index data_bytes : List ℕ) (revisions : List Revision) → HoldsEither index data_bytes revisions → AreWithinLimits revisions (chunks_either index data_bytes) → IsWholeReading (index_apart index) (chunks_either index data_bytes) revisions }
+{}
+
+/// No data is found of an inline index: where there is no fault, its chunks are as long as its entries say.
+pub fn no_data_beside_inline_indexes()
+    ensures { (index : List ℕ) → is_inline index ≡ true → has_data_rest (index_apart index) (chunks_apart index) ≡ false }
 {}
 
 /// What is found of a path hangs on its filelog and on what each changeset says of this path.

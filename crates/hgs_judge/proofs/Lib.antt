@@ -1,3 +1,4 @@
+pub mod ApartLemmas
 pub mod AddedLemmas
 pub mod Basics
 pub mod ChangesetLemmas

@@ -1,11 +1,11 @@
 -- The findings of one path, by what was read of it alone.
 use Rattle.std.specs.Prelude.{◌≡◌, ℕ, List, true, length, Option, Some, slice_get}
-use Rattle.hgs_files.specs.Tree.{Tree, bytes_at}
+use Rattle.hgs_files.specs.Tree.{Tree}
 use Rattle.hgs_index.specs.Revision.{Revision}
 use Rattle.hgs_stands.specs.Places.{changelog_index}
 use Rattle.hgs_findings.specs.Namings.{is_unneeded, is_misplaced, is_wrongly_made}
 use Rattle.hgs_findings.specs.OnePath.{Word, namings_of_words, words}
-use Rattle.hgs_findings.specs.Reading.{reading_of, has_index_rest, has_data_rest, the_filelog, index_path, data_path, sight_of}
+use Rattle.hgs_findings.specs.Reading.{reading_of, has_index_rest, has_data_rest, the_filelog, index_path, data_path, index_in, data_in, sight_of}
 use Rattle.hgs_judge.specs.Words.{is_listed_wrongly, lacks_file}
 
 -- What is found of a path whose filelog has these two files, of their bytes and of what the changesets say of it.
@@ -21,4 +21,4 @@ pub data IsFoundAt (index_file data_file index data_bytes : List ℕ) (all : Lis
 
 -- what is found of a path of a tree
 abbrev pub IsFoundOf : Tree → List ℕ → List ℕ → Option ℕ → ℕ → Type 0
-IsFoundOf t path = IsFoundAt (index_path (the_filelog path)) (data_path (the_filelog path)) (bytes_at t (index_path (the_filelog path))) (bytes_at t (data_path (the_filelog path))) (words (sight_of t) path)
+IsFoundOf t path = IsFoundAt (index_path (the_filelog path)) (data_path (the_filelog path)) (index_in t (the_filelog path)) (data_in t (the_filelog path)) (words (sight_of t) path)

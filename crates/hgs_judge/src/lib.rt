@@ -1,6 +1,7 @@
 //! What `verify` finds of one revlog and of one path, from bytes and from what the changesets say.
 #![tactic(auto)]
 
+pub mod apart;
 pub mod changesets;
 pub mod kinds;
 pub mod laws;

@@ -1,5 +1,5 @@
 -- How many bytes a refresh is given over files at rest.
-use Rattle.std.proofs.Common.{◌≡◌, inl, inr, ℕ, suc, ◌+◌, ◌-◌, ◌*◌, ◌/◌, ◌<◌, ◌≤◌, min, Bool, true, false, cond, ◌&&◌, ◌||◌, List, [], ◌++◌, length, take, drop, Option, Some, None, Result, Ok, Err, refl, sym, ◌∙◌, ap, subst, arith, length-append}
+use Rattle.std.proofs.Common.{◌≡◌, inl, inr, ℕ, suc, ◌+◌, ◌-◌, ◌*◌, ◌/◌, ◌<◌, ◌≤◌, min, Bool, true, false, cond, ◌&&◌, List, [], ◌++◌, length, take, drop, Option, Some, None, Result, Ok, Err, refl, sym, ◌∙◌, ap, subst, arith, length-append}
 use Rattle.std.specs.Prelude.{IfOk, IfSome, ◌==◌, nat_le, unwrap_or, slice_get}
 use Rattle.std.proofs.lemmas.Bool.Decides.{nat_tests}
 use Rattle.std.proofs.lemmas.List.{take-append-drop, take_all, length-take, length-take-le, length-drop}
@@ -7,6 +7,7 @@ use Rattle.hgs_files.specs.declared.op.Op.{Op}
 use Rattle.hgs_files.specs.Reads.{Grows}
 use Rattle.hgs_files.specs.Tree.{Tree, bytes_at, after_all}
 use Rattle.hgs_index.specs.declared.entry.Entry.{Entry}
+use Rattle.hgs_index.specs.Inline.{is_inline}
 use Rattle.hgs_marks.specs.Bookmarks.{Mark}
 use Rattle.hgs_revlog.specs.declared.fault.Tail.TheVariants.{Ignore}
 use Rattle.hgs_revlog.specs.Load.{load_from, loaded, separate_at}
@@ -17,7 +18,7 @@ use Rattle.hgs_load.specs.Asks.{Asks, answer, read, part_of, at_rest, then_asks}
 use Rattle.hgs_load.specs.Given.{Gave, GoesTo, Takes, given_at_rest, size_of}
 use Rattle.hgs_load.specs.Marks.{Nodes, bookmarks_path, dirstate_path, roots_path, bookmarks_answer, dirstate_answer, roots_answer, working_answer}
 use Rattle.hgs_load.specs.Open.{open_asks, bookmarks_asks, dirstate_asks, roots_asks, log_of, view_of, most_bookmarks_text, most_dirstate, most_roots}
-use Rattle.hgs_load.specs.Refresh.{GivenFew, behind_asks, behind_last, first_changed, is_this, last_place, log_after, newer_log_asks, refresh_asks, refresh_bytes, unless_changed, whole_log_asks}
+use Rattle.hgs_load.specs.Refresh.{GivenFew, behind_asks, behind_last, behind_log_asks, first_changed, inline_whole_asks, is_this, last_place, log_after, newer_log_asks, refresh_asks, refresh_bytes, separate_whole_asks, unless_changed, whole_log_asks}
 use Rattle.hgs_load.specs.View.{View, changelog_index, pieces_from, most_pieces, piece_length}
 use Rattle.hgs_load.specs.Whole.{whole_asks}
 use Rattle.hgs_load.specs.Theorems.AskLemmas.{grows-trans}
@@ -27,7 +28,8 @@ use Rattle.hgs_load.specs.Theorems.PartLemmas.{part_is}
 use Rattle.hgs_load.specs.Theorems.TailLemmas.{tail-answers}
 use Rattle.hgs_load.proofs.HistoryLemmas.{front-of-new}
 use Rattle.hgs_load.proofs.WayLemmas.{not-answered, answer-is, no-read, no-ok, ok-is, after-ok, its-log, log-loads}
-use Rattle.hgs_load.proofs.WholeLemmas.{pieces_front, pieces_given, whole-place, whole-index, index-front}
+use Rattle.hgs_load.proofs.IndexLemmas.{apart-given, apart-rest, once-is, pieces-rest, said-form}
+use Rattle.hgs_load.proofs.WholeLemmas.{pieces_front, pieces_given, whole-place, whole-index}
 
 -- the first question was answered, and the next one asked
 given-then : {A B : Type 0} (t : Tree) (q : Asks (Result A ReadAnswer)) (more : A → Asks (Result B ReadAnswer)) (x : A) → at_rest t q ≡ Ok x → given_at_rest t (then_asks q more) ≡ given_at_rest t q + given_at_rest t (more x)
@@ -66,17 +68,24 @@ module _ (t : Tree) (old log : Log) where
   front = take (most_pieces * piece_length) index
 
   -- what the whole index answers is what its front loads as
-  whole-loads : at_rest t (whole_log_asks old.entries) ≡ Ok log → log_after old.entries (log_of front) ≡ Ok log
-  whole-loads h = sym (pieces_front t changelog_index 0 length whole-place most_pieces [] index (λ bytes. answer (log_after old.entries (log_of bytes))) refl) ∙ h
+  whole-loads : at_rest t (separate_whole_asks old.entries) ≡ Ok log → log_after old.entries (log_of front) ≡ Ok log
+  whole-loads h = sym (pieces-rest t (log_after old.entries)) ∙ h
 
-  whole-given : length old.entries ≡ 0 → at_rest t (whole_log_asks old.entries) ≡ Ok log → given_at_rest t (whole_log_asks old.entries) ≤ 64 * (length log.entries - length old.entries + 2)
+  whole-given : length old.entries ≡ 0 → at_rest t (separate_whole_asks old.entries) ≡ Ok log → given_at_rest t (separate_whole_asks old.entries) ≤ 64 * (length log.entries - length old.entries + 2)
   whole-given none h =
       let given = pieces_given t changelog_index 0 length whole-place most_pieces [] index (λ bytes. answer (log_after old.entries (log_of bytes))) refl in
       let count = (loaded-count front log (log-loads (loaded Ignore front) log (after-is old.entries (log_of front) log (whole-loads h)))).0 in
-      few (length front) (length log.entries) (length old.entries) (given_at_rest t (whole_log_asks old.entries)) given count none
+      few (length front) (length log.entries) (length old.entries) (given_at_rest t (separate_whole_asks old.entries)) given count none
     where
       few : (n entries before given : ℕ) → given ≡ n + 0 → entries ≡ n / 64 → before ≡ 0 → given ≤ 64 * (entries - before + 2)
       few n entries before given g e z = omega (arith, g, e, z)
+
+  -- a history that is separate is that of a separate index, which was read in pieces
+  plain : log.inline ≡ false → at_rest t (whole_log_asks old.entries) ≡ Ok log → is_inline index ≡ false
+  plain stays h = sym (said-form t (log_after old.entries) (after-is old.entries) log h) ∙ stays
+
+  whole-apart : log.inline ≡ false → at_rest t (whole_log_asks old.entries) ≡ Ok log → at_rest t (separate_whole_asks old.entries) ≡ Ok log
+  whole-apart stays h = sym (apart-rest t (log_after old.entries) (plain stays h)) ∙ h
 
   abbrev place : ℕ
   place = last_place old.entries
@@ -108,7 +117,7 @@ module _ (t : Tree) (old log : Log) where
       by true true e h = (same (drop 64 tail) behind h, long (length tail) e)
 
   -- where the index goes on from the old entries, the last of them stands at its place
-  last-stands : old.inline ≡ false → 0 < length old.entries → at_rest t (whole_log_asks old.entries) ≡ Ok log → behind_asks old (behind_last old.entries tail) ≡ answer (Ok log)
+  last-stands : old.inline ≡ false → 0 < length old.entries → at_rest t (separate_whole_asks old.entries) ≡ Ok log → behind_asks old (behind_last old.entries tail) ≡ answer (Ok log)
   last-stands separate some h =
       let loads = whole-loads h in
       let whole = whole-index t log (after-is old.entries (log_of front) log loads) in
@@ -122,64 +131,70 @@ module _ (t : Tree) (old log : Log) where
       ap (λ bytes. behind_asks old (behind_last old.entries bytes)) (take_all (most_pieces * piece_length) (drop place index) short)
       ∙ tail-answers (take place index) (drop place index) old log separate some size (ap (loaded Ignore) (sym joined) ∙ whole.1) begins
 
-  last-given : old.inline ≡ false → 0 < length old.entries → at_rest t (behind_asks old (behind_last old.entries tail)) ≡ Ok log → length tail + given_at_rest t (behind_asks old (behind_last old.entries tail)) ≤ 64 * (length log.entries - length old.entries + 2)
-  last-given separate some h = by (behind_last old.entries tail) refl h
+  last-given : old.inline ≡ false → log.inline ≡ false → 0 < length old.entries → at_rest t (behind_asks old (behind_last old.entries tail)) ≡ Ok log → length tail + given_at_rest t (behind_asks old (behind_last old.entries tail)) ≤ 64 * (length log.entries - length old.entries + 2)
+  last-given separate stays some h = by (behind_last old.entries tail) refl h
     where
       few : (n behind entries before : ℕ) → 64 ≤ n → behind ≡ n - 64 → entries ≡ before + behind / 64 → n + 0 ≤ 64 * (entries - before + 2)
       few n behind entries before l e c = omega (arith, l, e, c)
 
       by : (found : Option (List ℕ)) → behind_last old.entries tail ≡ found → at_rest t (behind_asks old found) ≡ Ok log → length tail + given_at_rest t (behind_asks old found) ≤ 64 * (length log.entries - length old.entries + 2)
-      by None is m = absurd (not-answered old.entries (Ok log) (ap (behind_asks old) (sym is) ∙ last-stands separate some m))
+      by None is m = absurd (not-answered old.entries (Ok log) (ap (behind_asks old) (sym is) ∙ last-stands separate some (whole-apart stays m)))
       by (Some behind) is m =
           let b = behind-is behind is in
           let size = ap length b.0 ∙ length-drop 64 tail in
           let count = (load-grows (length behind / 64) old log behind (log-loads (load_from Ignore (length behind / 64) old behind) log m)).count in
           few (length tail) (length behind) (length log.entries) (length old.entries) b.1 size count
 
-  pub newer-given : old.inline ≡ false → at_rest t (newer_log_asks old) ≡ Ok log → given_at_rest t (newer_log_asks old) ≤ 64 * (length log.entries - length old.entries + 2)
-  newer-given separate h = by (old.inline || length old.entries == 0) refl h
+  abbrev most : ℕ
+  most = 64 * (length log.entries - length old.entries + 2)
+
+  abbrev tail_asks : Asks (Result Log ReadAnswer)
+  tail_asks = pieces_from changelog_index place most_pieces [] (λ bytes. behind_asks old (behind_last old.entries bytes))
+
+  behind-given : old.inline ≡ false → log.inline ≡ false → at_rest t (behind_log_asks old) ≡ Ok log → given_at_rest t (behind_log_asks old) ≤ most
+  behind-given separate stays h = by (length old.entries == 0) refl h
     where
-      asked : Bool → Asks (Result Log ReadAnswer)
-      asked b = cond b (whole_log_asks old.entries) (pieces_from changelog_index place most_pieces [] (λ bytes. behind_asks old (behind_last old.entries bytes)))
+      none_old : (n : ℕ) → (n == 0) ≡ true → n ≡ 0
+      none_old n h = grind (arith, nat_tests, h)
 
-      no_entries : (a : Bool) (n : ℕ) → a ≡ false → (a || n == 0) ≡ true → n ≡ 0
-      no_entries true n s h = cc
-      no_entries false n s h = grind (arith, nat_tests, h)
+      some_old : (n : ℕ) → (n == 0) ≡ false → 0 < n
+      some_old n h = grind (arith, nat_tests, h)
 
-      some_entries : (a : Bool) (n : ℕ) → (a || n == 0) ≡ false → 0 < n
-      some_entries true n h = cc
-      some_entries false n h = grind (arith, nat_tests, h)
-
-      by : (b : Bool) → (old.inline || length old.entries == 0) ≡ b → at_rest t (asked b) ≡ Ok log → given_at_rest t (asked b) ≤ 64 * (length log.entries - length old.entries + 2)
-      by true e m = whole-given (no_entries old.inline (length old.entries) separate e) m
+      by : (b : Bool) → (length old.entries == 0) ≡ b → at_rest t (cond b (whole_log_asks old.entries) tail_asks) ≡ Ok log → given_at_rest t (cond b (whole_log_asks old.entries) tail_asks) ≤ most
+      by true e m =
+          subst (λ n. n ≤ most) (sym (apart-given t (log_after old.entries) (plain stays m))) (whole-given (none_old (length old.entries) e) (whole-apart stays m))
       by false e m =
-          let few = last-given separate (some_entries old.inline (length old.entries) e) (sym tail-rests ∙ m) in
-          subst (λ n. n ≤ 64 * (length log.entries - length old.entries + 2)) (sym tail-given) few
+          let few = last-given separate stays (some_old (length old.entries) e) (sym tail-rests ∙ m) in
+          subst (λ n. n ≤ most) (sym tail-given) few
 
-  -- a separate history stays separate
-  pub newer-separate : old.inline ≡ false → at_rest t (newer_log_asks old) ≡ Ok log → log.inline ≡ false
-  newer-separate separate h = by (old.inline || length old.entries == 0) h
+  pub newer-given : old.inline ≡ false → log.inline ≡ false → at_rest t (newer_log_asks old) ≡ Ok log → given_at_rest t (newer_log_asks old) ≤ most
+  newer-given separate stays h =
+      let P : Bool → Type 0 = λ b. at_rest t (cond b (inline_whole_asks old.entries) (behind_log_asks old)) ≡ Ok log → given_at_rest t (cond b (inline_whole_asks old.entries) (behind_log_asks old)) ≤ most in
+      subst P (sym separate) (behind-given separate stays) h
+
+  -- what is read of a separate index is separate
+  pub newer-separate : is_inline index ≡ false → at_rest t (newer_log_asks old) ≡ Ok log → log.inline ≡ false
+  newer-separate apart h = by old.inline (length old.entries == 0) refl h
     where
       whole : at_rest t (whole_log_asks old.entries) ≡ Ok log → log.inline ≡ false
-      whole m = (loaded-count front log (log-loads (loaded Ignore front) log (after-is old.entries (log_of front) log (whole-loads m)))).2
+      whole m = said-form t (log_after old.entries) (after-is old.entries) log m ∙ apart
 
-      behind : (found : Option (List ℕ)) → at_rest t (behind_asks old found) ≡ Ok log → log.inline ≡ false
-      behind None m = whole m
-      behind (Some rest) m = (load-grows (length rest / 64) old log rest (log-loads (load_from Ignore (length rest / 64) old rest) log m)).form ∙ separate
+      behind : old.inline ≡ false → (found : Option (List ℕ)) → at_rest t (behind_asks old found) ≡ Ok log → log.inline ≡ false
+      behind separate None m = whole m
+      behind separate (Some rest) m = (load-grows (length rest / 64) old log rest (log-loads (load_from Ignore (length rest / 64) old rest) log m)).form ∙ separate
 
-      by : (b : Bool) → at_rest t (cond b (whole_log_asks old.entries) (pieces_from changelog_index place most_pieces [] (λ bytes. behind_asks old (behind_last old.entries bytes)))) ≡ Ok log → log.inline ≡ false
-      by true m = whole m
-      by false m = behind (behind_last old.entries tail) (sym tail-rests ∙ m)
+      by : (a b : Bool) → old.inline ≡ a → at_rest t (cond a (inline_whole_asks old.entries) (cond b (whole_log_asks old.entries) tail_asks)) ≡ Ok log → log.inline ≡ false
+      by true b is m = whole (sym (once-is t (log_after old.entries)) ∙ m)
+      by false true is m = whole m
+      by false false is m = behind is (behind_last old.entries tail) (sym tail-rests ∙ m)
 
 -- ---- a refresh
 
--- what was opened is separate
-pub opened-separate : (t : Tree) (view : View) → at_rest t open_asks ≡ Ok view → view.changelog.inline ≡ false
-opened-separate t view h =
-    let front = take (most_pieces * piece_length) (bytes_at t changelog_index) in
-    (loaded-count front view.changelog (log-loads (loaded Ignore front) view.changelog (sym (index-front t) ∙ opened_log t view h))).2
+-- what was opened has the form of the index
+pub opened-form : (t : Tree) (view : View) → at_rest t open_asks ≡ Ok view → view.changelog.inline ≡ is_inline (bytes_at t changelog_index)
+opened-form t view h = said-form t (λ r. r) (λ r log e. e) view.changelog (opened_log t view h)
 
-pub refreshed-separate : (t : Tree) (old view : View) → old.changelog.inline ≡ false → at_rest t (refresh_asks old) ≡ Ok view → view.changelog.inline ≡ false
+pub refreshed-separate : (t : Tree) (old view : View) → is_inline (bytes_at t changelog_index) ≡ false → at_rest t (refresh_asks old) ≡ Ok view → view.changelog.inline ≡ false
 refreshed-separate t old view separate h =
     let newer = newer_log_asks old.changelog in
     let behind_log = λ (marks : List Mark) (nodes : Nodes) (log : Log). then_asks roots_asks (λ roots. answer (view_of marks nodes log roots)) in
@@ -194,8 +209,8 @@ refreshed-separate t old view separate h =
 sums : {all a b c d behind_a behind_b behind_c most_a most_b most_c most_d : ℕ} → all ≡ a + behind_a → behind_a ≡ b + behind_b → behind_b ≡ c + behind_c → behind_c ≡ d + 0 → a ≤ most_a → b ≤ most_b → c ≤ most_c → d ≤ most_d → all ≤ most_a + most_b + most_d + most_c
 sums e f g h i j k l = omega (arith, e, f, g, h, i, j, k, l)
 
-pub refresh-given : (t : Tree) (old view : View) → old.changelog.inline ≡ false → at_rest t (refresh_asks old) ≡ Ok view → given_at_rest t (refresh_asks old) ≤ refresh_bytes t old view
-refresh-given t old view separate h =
+pub refresh-given : (t : Tree) (old view : View) → old.changelog.inline ≡ false → view.changelog.inline ≡ false → at_rest t (refresh_asks old) ≡ Ok view → given_at_rest t (refresh_asks old) ≤ refresh_bytes t old view
+refresh-given t old view separate stays h =
     let newer = newer_log_asks old.changelog in
     let behind_log = λ (marks : List Mark) (nodes : Nodes) (log : Log). then_asks roots_asks (λ roots. answer (view_of marks nodes log roots)) in
     let behind_nodes = λ (marks : List Mark) (nodes : Nodes). then_asks newer (behind_log marks nodes) in
@@ -212,7 +227,7 @@ refresh-given t old view separate h =
     let marks_few = given-whole t bookmarks_path most_bookmarks_text bookmarks_answer in
     let nodes_few = given-whole t dirstate_path most_dirstate dirstate_answer in
     let roots_few = given-whole t roots_path most_roots roots_answer in
-    let log_few = subst (λ (l : Log). given_at_rest t newer ≤ 64 * (length l.entries - length old.changelog.entries + 2)) log (newer-given t old.changelog d.0 separate d.1) in
+    let log_few = subst (λ (l : Log). given_at_rest t newer ≤ 64 * (length l.entries - length old.changelog.entries + 2)) log (newer-given t old.changelog d.0 separate (ap (λ (l : Log). l.inline) log ∙ stays) d.1) in
     sums marks_given nodes_given log_given roots_given marks_few nodes_few log_few roots_few
 
 -- ---- a call
@@ -248,11 +263,11 @@ still-way {A} start l (read path from most rest) n y (inr h) =
     (h.5 ∙ ap (λ k. size_of h.1 + k) on.0 ∙ ap (λ o. size_of o + given_at_rest t (rest o)) part, ap (λ o. at_rest t (rest o)) (sym part) ∙ on.1)
 
 few-given : (g0 g1 : ℕ) (alone : Bool) (start : Tree) (before after : Option (List Op)) (old view : View) → (alone ≡ true → after ≡ before) → Gave g0 g1 before start after (refresh_asks old) (answer (Ok view)) → GivenFew alone g0 g1 before start old view
-few-given g0 g1 alone start None after old view still h is separate = tt
-few-given g0 g1 alone start (Some l) after old view still h is separate =
+few-given g0 g1 alone start None after old view still h is separate stays = tt
+few-given g0 g1 alone start (Some l) after old view still h is separate stays =
     let P : Option (List Op) → Type 0 = λ o. GoesTo start (Some l) (refresh_asks old) h.0 o (answer (Ok view)) in
     let way = still-way start l (refresh_asks old) h.0 (Ok view) (subst P (still is) h.2) in
-    let few = refresh-given (after_all l start) old view separate way.1 in
+    let few = refresh-given (after_all l start) old view separate stays way.1 in
     at_most h.1.at_most way.0 few
   where
     at_most : {n given most : ℕ} → g1 ≤ g0 + n → n ≡ given → given ≤ most → g1 ≤ g0 + most

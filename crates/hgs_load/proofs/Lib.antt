@@ -1,6 +1,7 @@
 pub mod BoundLemmas
 pub mod FeedLemmas
 pub mod HistoryLemmas
+pub mod IndexLemmas
 pub mod MachineLemmas
 pub mod RefreshLemmas
 pub mod StepLemmas

@@ -1,10 +1,12 @@
 -- What an answered question says of its parts.
-use Rattle.std.proofs.Common.{◌≡◌, inl, inr, ℕ, zero, suc, ◌+◌, ◌/◌, ◌||◌, Bool, true, false, cond, List, [], ◌++◌, length, Option, Some, None, Result, Ok, Err, refl, sym, ap, subst, arith}
+use Rattle.std.proofs.Common.{◌≡◌, inl, inr, ℕ, zero, suc, ◌+◌, ◌/◌, Bool, true, false, cond, List, [], ◌++◌, length, Option, Some, None, Result, Ok, Err, refl, sym, ap, subst, arith}
 use Rattle.std.specs.Prelude.{◌==◌, nat_lt, unwrap_or, IfOk}
 use Rattle.hgs_bytes.specs.Bytes.{IsPrefixOf}
 use Rattle.hgs_files.specs.declared.op.Op.{Op}
 use Rattle.hgs_files.specs.Tree.{Tree}
 use Rattle.hgs_index.specs.declared.entry.Entry.{Entry}
+use Rattle.hgs_index.specs.declared.kinds.Which.TheVariants.{Part}
+use Rattle.hgs_index.specs.Inline.{is_inline}
 use Rattle.hgs_marks.specs.Bookmarks.{Mark}
 use Rattle.hgs_phases.specs.declared.roots.Root.{Root}
 use Rattle.hgs_revlog.specs.declared.fault.RevFault.{RevFault}
@@ -13,12 +15,15 @@ use Rattle.hgs_revlog.specs.Load.{load_from}
 use Rattle.hgs_revlog.specs.Log.{Log}
 use Rattle.hgs_revlog.specs.Theorems.BehindLemmas.{load-grows}
 use Rattle.hgs_load.specs.declared.answer.ReadAnswer.{ReadAnswer}
+use Rattle.hgs_load.specs.declared.answer.ReadAnswer.TheVariants.{Limit}
 use Rattle.hgs_load.specs.Asks.{Asks, answer, read, then_asks}
+use Rattle.hgs_load.specs.Form.{either_log_of, is_long_apart, most_inline_index, unless_inline}
 use Rattle.hgs_load.specs.Given.{size_of, GoesTo, Takes}
 use Rattle.hgs_load.specs.Marks.{Working, working_answer}
 use Rattle.hgs_load.specs.Open.{bookmarks_asks, dirstate_asks, roots_asks, log_of, view_of, view_with}
-use Rattle.hgs_load.specs.Refresh.{behind_asks, behind_last, first_changed, last_place, unless_changed, log_after, log_on, newer_log_asks, refresh_asks, whole_log_asks}
+use Rattle.hgs_load.specs.Refresh.{behind_asks, behind_last, first_changed, last_place, unless_changed, inline_whole_asks, log_after, log_on, newer_log_asks, refresh_asks, separate_whole_asks, whole_log_asks}
 use Rattle.hgs_load.specs.View.{View, changelog_index, pieces_by, pieces_from, piece_length, most_pieces, log_answer}
+use Rattle.hgs_load.specs.Whole.{is_above, within}
 use Rattle.hgs_load.specs.Theorems.AskLemmas.{grows-refl}
 use Rattle.hgs_load.proofs.HistoryLemmas.{front-of-new}
 
@@ -103,11 +108,40 @@ not-answered old r h = none (ap answer_of h)
     none : None ≡ Some r → ⊥
     none e = cc
 
--- the whole index was read again
-whole-front : (start : Tree) (before after : Option (List Op)) (old : List Entry) (n : ℕ) (log : Log) → GoesTo start before (whole_log_asks old) n after (answer (Ok log)) → IsPrefixOf old log.entries
-whole-front start before after old n log h =
+-- the whole index was read again, in pieces
+apart-front : (start : Tree) (before after : Option (List Op)) (old : List Entry) (n : ℕ) (log : Log) → GoesTo start before (separate_whole_asks old) n after (answer (Ok log)) → IsPrefixOf old log.entries
+apart-front start before after old n log h =
     let r = pieces-read start changelog_index length most_pieces [] (λ index. answer (log_after old (log_of index))) before after n log h in
     front-of-new 0 old log.entries (after-ok old (log_of r.index) log (sym (answer-is (Ok log) (log_after old (log_of r.index)) r.goes_on.2)))
+
+-- or in one read
+once-front : (start : Tree) (before after : Option (List Op)) (old : List Entry) (n : ℕ) (log : Log) → GoesTo start before (inline_whole_asks old) n after (answer (Ok log)) → IsPrefixOf old log.entries
+once-front start before after old n log (inl h) = absurd (no-read (Ok log) changelog_index 0 (suc most_inline_index) _ h.2)
+once-front start before after old n log (inr h) = by (is_long_apart h.1) h.6
+  where
+    answered : (b : Bool) → cond b (Err (Limit Part)) (log_after old (either_log_of (unwrap_or h.1 []))) ≡ Ok log → IsPrefixOf old log.entries
+    answered true e = absurd (no-ok log _ (sym e))
+    answered false e = front-of-new 0 old log.entries (after-ok old (either_log_of (unwrap_or h.1 [])) log e)
+
+    by : (b : Bool) → GoesTo start h.0 (cond b (separate_whole_asks old) (answer (within most_inline_index (λ whole. log_after old (either_log_of (unwrap_or whole []))) h.1))) h.2 after (answer (Ok log)) → IsPrefixOf old log.entries
+    by true m = apart-front start h.0 after old h.2 log m
+    by false m = answered (is_above most_inline_index h.1) (sym (answer-is (Ok log) (within most_inline_index (λ whole. log_after old (either_log_of (unwrap_or whole []))) h.1) m.2))
+
+-- A question was answered, and another where its first read said that the index is inline.
+pub go-either : {A : Type 0} (start : Tree) (before after : Option (List Op)) (inline q : Asks A) (n : ℕ) (y : A) (P : Type 0) → GoesTo start before (unless_inline inline q) n after (answer y)
+    → (GoesTo start before q n after (answer y) → P) → ((mid : Option (List Op)) (more : ℕ) → GoesTo start mid inline more after (answer y) → P) → P
+go-either start before after inline (answer x) n y P h apart once = apart h
+go-either start before after inline (read path from most rest) n y P (inl h) apart once = absurd (no-read y path from most _ h.2)
+go-either {A} start before after inline (read path from most rest) n y P (inr h) apart once = by (is_inline (unwrap_or h.1 [])) h.6
+  where
+    by : (b : Bool) → GoesTo start h.0 (cond b inline (rest h.1)) h.2 after (answer y) → P
+    by true m = once h.0 h.2 m
+    by false m = apart (inr (h.0, h.1, h.2, h.3, h.4, h.5, m))
+
+whole-front : (start : Tree) (before after : Option (List Op)) (old : List Entry) (n : ℕ) (log : Log) → GoesTo start before (whole_log_asks old) n after (answer (Ok log)) → IsPrefixOf old log.entries
+whole-front start before after old n log h =
+    go-either start before after (inline_whole_asks old) (separate_whole_asks old) n (Ok log) (IsPrefixOf old log.entries) h
+    (λ m. apart-front start before after old n log m) (λ mid more m. once-front start mid after old more log m)
 
 pub log-loads : (r : Result Log RevFault) (log : Log) → log_answer changelog_index r ≡ Ok log → r ≡ Ok log
 log-loads (Ok x) log h = cc
@@ -120,11 +154,12 @@ behind-front start before after old (Some behind) n log h =
 
 -- the new history begins with the old one
 newer-front : (start : Tree) (before after : Option (List Op)) (old : Log) (n : ℕ) (log : Log) → GoesTo start before (newer_log_asks old) n after (answer (Ok log)) → IsPrefixOf old.entries log.entries
-newer-front start before after old n log h = by (old.inline || length old.entries == 0) h
+newer-front start before after old n log h = by old.inline (length old.entries == 0) h
   where
-    by : (b : Bool) → GoesTo start before (cond b (whole_log_asks old.entries) (pieces_from changelog_index (last_place old.entries) most_pieces [] (λ tail. behind_asks old (behind_last old.entries tail)))) n after (answer (Ok log)) → IsPrefixOf old.entries log.entries
-    by true m = whole-front start before after old.entries n log m
-    by false m =
+    by : (a b : Bool) → GoesTo start before (cond a (inline_whole_asks old.entries) (cond b (whole_log_asks old.entries) (pieces_from changelog_index (last_place old.entries) most_pieces [] (λ tail. behind_asks old (behind_last old.entries tail))))) n after (answer (Ok log)) → IsPrefixOf old.entries log.entries
+    by true b m = once-front start before after old.entries n log m
+    by false true m = whole-front start before after old.entries n log m
+    by false false m =
         let r = pieces-read start changelog_index (λ bytes. last_place old.entries + length bytes) most_pieces [] (λ tail. behind_asks old (behind_last old.entries tail)) before after n log m in
         behind-front start r.mid after old (behind_last old.entries r.index) r.rest log r.goes_on
 

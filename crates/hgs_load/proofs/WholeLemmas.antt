@@ -17,7 +17,7 @@ use Rattle.hgs_load.specs.declared.answer.ReadAnswer.{ReadAnswer}
 use Rattle.hgs_load.specs.declared.answer.ReadAnswer.TheVariants.{Limit}
 use Rattle.hgs_load.specs.Asks.{Asks, answer, part_of, at_rest}
 use Rattle.hgs_load.specs.Given.{given_at_rest}
-use Rattle.hgs_load.specs.Open.{log_asks, log_of}
+use Rattle.hgs_load.specs.Open.{log_of, separate_log_asks}
 use Rattle.hgs_load.specs.View.{changelog_index, pieces_by, piece_length, most_pieces, log_answer}
 use Rattle.hgs_load.specs.Whole.{within, whole_asks}
 use Rattle.hgs_load.specs.Theorems.PartLemmas.{part_is}
@@ -120,15 +120,15 @@ whole-place b = omega arith
 few_pieces : (n : ℕ) → n / 64 ≤ 1000000 → n ≤ most_pieces * piece_length
 few_pieces n h = let e : n < 64 * (n / 64 + 1) = lt-mul-div-succ n (omega arith) in omega (arith, e, h)
 
--- the front of an index that is read
-pub index-front : (t : Tree) → at_rest t log_asks ≡ log_of (take (most_pieces * piece_length) (bytes_at t changelog_index))
+-- the front of a separate index that is read
+pub index-front : (t : Tree) → at_rest t separate_log_asks ≡ log_of (take (most_pieces * piece_length) (bytes_at t changelog_index))
 index-front t = pieces_front t changelog_index 0 length whole-place most_pieces [] (bytes_at t changelog_index) (λ index. answer (log_of index)) refl
 
--- an index of no more entries than a revlog may have is read whole
-pub index-read : (t : Tree) → length (bytes_at t changelog_index) / 64 ≤ 1000000 → at_rest t log_asks ≡ log_of (bytes_at t changelog_index)
+-- one of no more entries than a revlog may have is read whole
+pub index-read : (t : Tree) → length (bytes_at t changelog_index) / 64 ≤ 1000000 → at_rest t separate_log_asks ≡ log_of (bytes_at t changelog_index)
 index-read t few = index-front t ∙ ap log_of (take_all (most_pieces * piece_length) (bytes_at t changelog_index) (few_pieces (length (bytes_at t changelog_index)) few))
 
-log-loads : (r : Result Log RevFault) (log : Log) → log_answer changelog_index r ≡ Ok log → r ≡ Ok log
+pub log-loads : (r : Result Log RevFault) (log : Log) → log_answer changelog_index r ≡ Ok log → r ≡ Ok log
 log-loads (Ok x) log h = cc
 log-loads (Err f) log h = cc
 

@@ -1,5 +1,5 @@
 -- What a load has still to ask.
-use Rattle.std.specs.Prelude.{◌≡◌, ℕ, ◌+◌, ◌≤◌, ◌||◌, ◌==◌, if◌then◌else◌, List, length, Option, Some, None, IfSome, Result, Ok, Err, ⊤}
+use Rattle.std.specs.Prelude.{◌≡◌, ℕ, suc, ◌+◌, ◌*◌, ◌≤◌, ◌||◌, ◌==◌, if◌then◌else◌, List, [], length, Option, Some, None, IfSome, Result, Ok, Err, ⊤}
 use Rattle.std.specs.Prelude.{Bool, true, false}
 use Rattle.std.specs.Bool.{MatchBool}
 use Rattle.std.specs.Option.{option_map}
@@ -10,22 +10,29 @@ use Rattle.hgs_load.specs.declared.load.LoadMachine.{LoadMachine}
 use Rattle.hgs_load.specs.declared.pieces.Former.{Former}
 use Rattle.hgs_load.specs.declared.pieces.Former.TheVariants.{Nothing, Whole, Last}
 use Rattle.hgs_load.specs.declared.pieces.IndexLoad.{IndexLoad}
+use Rattle.hgs_load.specs.declared.pieces.Turn.{Turn}
+use Rattle.hgs_load.specs.declared.pieces.Turn.TheVariants.{First, Piece, Once}
 use Rattle.hgs_load.specs.declared.load.LoadNext.{LoadNext}
 use Rattle.hgs_load.specs.declared.load.LoadNext.TheVariants.{Read, End}
 use Rattle.hgs_marks.specs.Bookmarks.{Mark}
 use Rattle.hgs_revlog.specs.Log.{Log}
 use Rattle.hgs_load.specs.Answer.{is_of_outside}
 use Rattle.hgs_load.specs.Asks.{Asks, answer, read, then_asks, Continues, MayAnswerWhereTold}
+use Rattle.hgs_load.specs.Form.{most_inline_index, unless_inline, either_log_of, in_one_read}
 use Rattle.hgs_load.specs.Marks.{Nodes, nodes_of}
 use Rattle.hgs_load.specs.Open.{requires_asks, bookmarks_asks, dirstate_asks, roots_asks, log_of, view_of}
 use Rattle.hgs_load.specs.Refresh.{log_after, behind_asks, behind_last, last_place}
-use Rattle.hgs_load.specs.View.{View, changelog_index, most_pieces, pieces_by}
+use Rattle.hgs_load.specs.View.{View, changelog_index, most_pieces, piece_length, pieces_by}
 
 -- ---- an index under way
 
 -- Of a separate index only what stands from the last of the old entries on is read.
 abbrev pub former_of : Log → Former
 former_of old = if old.inline || length old.entries == 0 then Whole old else Last old
+
+-- What was inline is read in one read; an index that is read from its first byte on says its form first.
+abbrev pub first_turn : Log → Turn
+first_turn old = if old.inline then Once else if length old.entries == 0 then First else Piece
 
 -- the place of the next piece behind these bytes
 abbrev pub place_behind : Former → List ℕ → ℕ
@@ -39,25 +46,64 @@ asks_behind Nothing = λ index. answer (log_of index)
 asks_behind (Whole old) = λ index. answer (log_after old.entries (log_of index))
 asks_behind (Last old) = λ tail. behind_asks old (behind_last old.entries tail)
 
-abbrev pub left_to_ask : Former → ℕ → List ℕ → Option Log → Asks (Result Log ReadAnswer)
-left_to_ask former left bytes None = pieces_by changelog_index (place_behind former) left bytes (asks_behind former)
-left_to_ask former left bytes (Some log) = answer (Ok log)
+-- the pieces of a separate index, so many of them, behind these bytes
+abbrev pub pieces_left : Former → ℕ → List ℕ → Asks (Result Log ReadAnswer)
+pieces_left former left bytes = pieces_by changelog_index (place_behind former) left bytes (asks_behind former)
+
+-- the history of an index that was read in one read
+abbrev pub history_read : Former → List ℕ → Result Log ReadAnswer
+history_read Nothing = either_log_of
+history_read (Whole old) = λ index. log_after old.entries (either_log_of index)
+history_read (Last old) = λ index. log_after old.entries (either_log_of index)
+
+abbrev pub asks_once : Former → Asks (Result Log ReadAnswer)
+asks_once former = in_one_read (pieces_left former most_pieces []) (history_read former)
+
+abbrev pub asks_next : Turn → Former → ℕ → List ℕ → Asks (Result Log ReadAnswer)
+asks_next First former left bytes = unless_inline (asks_once former) (pieces_left former left bytes)
+asks_next Piece former left bytes = pieces_left former left bytes
+asks_next Once former left bytes = asks_once former
+
+abbrev pub left_to_ask : Turn → Former → ℕ → List ℕ → Option Log → Asks (Result Log ReadAnswer)
+left_to_ask turn former left bytes None = asks_next turn former left bytes
+left_to_ask turn former left bytes (Some log) = answer (Ok log)
 
 abbrev pub index_asks : IndexLoad → Asks (Result Log ReadAnswer)
-index_asks m = left_to_ask m.former m.left m.bytes.items m.log
+index_asks m = left_to_ask m.turn m.former m.left m.bytes.items m.log
 
--- the pieces that may be read once an index was read from its last old entry on
-abbrev pub pieces_behind : Former → ℕ
-pieces_behind Nothing = 0
-pieces_behind (Whole old) = 0
-pieces_behind (Last old) = most_pieces
+-- the place and the bytes of the next read
+abbrev pub next_place : Turn → Former → List ℕ → ℕ
+next_place First former = place_behind former
+next_place Piece former = place_behind former
+next_place Once former = λ bytes. 0
 
-abbrev pub reads_left_of : Former → ℕ → Option Log → ℕ
-reads_left_of former left None = left + pieces_behind former
-reads_left_of former left (Some log) = 0
+abbrev pub next_most : Turn → ℕ
+next_most First = piece_length
+next_most Piece = piece_length
+next_most Once = suc most_inline_index
+
+-- the most reads of an index from its first byte on: the first piece, all in one, and the pieces of a separate one
+abbrev pub most_reads : ℕ
+most_reads = 2 * most_pieces + 1
+
+-- the reads that may follow once an index was read from its last old entry on
+abbrev pub reads_behind : Former → ℕ
+reads_behind Nothing = 0
+reads_behind (Whole old) = 0
+reads_behind (Last old) = most_reads
+
+-- the pieces that are left, and behind the first one that one read of all; behind that one, pieces again
+abbrev pub reads_next : Turn → ℕ → ℕ
+reads_next First left = left + (most_pieces + 1)
+reads_next Piece left = left
+reads_next Once left = most_pieces + 1
+
+abbrev pub reads_left_of : Turn → Former → ℕ → Option Log → ℕ
+reads_left_of turn former left None = reads_next turn left + reads_behind former
+reads_left_of turn former left (Some log) = 0
 
 abbrev pub index_reads : IndexLoad → ℕ
-index_reads m = reads_left_of m.former m.left m.log
+index_reads m = reads_left_of m.turn m.former m.left m.log
 
 -- ---- a load under way
 

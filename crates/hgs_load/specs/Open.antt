@@ -8,6 +8,7 @@ use Rattle.hgs_revlog.specs.Load.{loaded}
 use Rattle.hgs_revlog.specs.Log.{Log}
 use Rattle.hgs_load.specs.declared.answer.ReadAnswer.{ReadAnswer}
 use Rattle.hgs_load.specs.Asks.{Asks, answer, then_asks}
+use Rattle.hgs_load.specs.Form.{unless_inline, in_one_read, either_log_of}
 use Rattle.hgs_load.specs.Marks.{Nodes, Working, bookmarks_path, dirstate_path, roots_path, bookmarks_answer, dirstate_answer, roots_answer, working_answer}
 use Rattle.hgs_load.specs.Requirements.{requires_answer}
 use Rattle.hgs_load.specs.View.{View, changelog_index, most_pieces, pieces_then, log_answer}
@@ -32,12 +33,21 @@ most_roots = 67108864
 abbrev pub requires_asks : Asks (Result Unit ReadAnswer)
 requires_asks = whole_asks requires_path most_requires requires_answer
 
--- the history of an index; a rest that is no whole entry is passed over
+-- the history of a separate index; a rest that is no whole entry is passed over
 abbrev pub log_of : List ℕ → Result Log ReadAnswer
 log_of index = log_answer changelog_index (loaded Ignore index)
 
+-- a separate index in pieces
+abbrev pub separate_log_asks : Asks (Result Log ReadAnswer)
+separate_log_asks = pieces_then changelog_index most_pieces [] (λ index. answer (log_of index))
+
+-- an inline one once more from its first byte on, in one read
+abbrev pub inline_log_asks : Asks (Result Log ReadAnswer)
+inline_log_asks = in_one_read separate_log_asks either_log_of
+
+-- The first piece says which.
 abbrev pub log_asks : Asks (Result Log ReadAnswer)
-log_asks = pieces_then changelog_index most_pieces [] (λ index. answer (log_of index))
+log_asks = unless_inline inline_log_asks separate_log_asks
 
 abbrev pub bookmarks_asks : Asks (Result (List Mark) ReadAnswer)
 bookmarks_asks = whole_asks bookmarks_path most_bookmarks_text bookmarks_answer

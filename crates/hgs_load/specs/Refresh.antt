@@ -1,5 +1,5 @@
 -- What a refresh asks.
-use Rattle.std.specs.Prelude.{◌≡◌, ◌+◌, ◌≤◌, IfSome, ℕ, suc, ◌-◌, ◌*◌, ◌/◌, nat_le, Bool, true, false, ◌==◌, ◌&&◌, ◌||◌, List, [], ◌∷◌, length, take, drop, slice_get, Option, Some, None, Result, Ok, Err, if◌then◌else◌}
+use Rattle.std.specs.Prelude.{◌≡◌, ◌+◌, ◌≤◌, IfSome, ℕ, suc, ◌-◌, ◌*◌, ◌/◌, nat_le, Bool, true, false, ◌==◌, ◌&&◌, List, [], ◌∷◌, length, take, drop, slice_get, Option, Some, None, Result, Ok, Err, if◌then◌else◌}
 use Rattle.hgs_bytes.specs.Bytes.{same}
 use Rattle.hgs_files.specs.declared.op.Op.{Op}
 use Rattle.hgs_files.specs.Tree.{Tree, bytes_at, after_all}
@@ -11,6 +11,7 @@ use Rattle.hgs_revlog.specs.Load.{separate_at, load_from}
 use Rattle.hgs_revlog.specs.Log.{Log}
 use Rattle.hgs_load.specs.declared.answer.ReadAnswer.{ReadAnswer}
 use Rattle.hgs_load.specs.Asks.{Asks, answer, then_asks}
+use Rattle.hgs_load.specs.Form.{unless_inline, in_one_read, either_log_of}
 use Rattle.hgs_load.specs.Marks.{bookmarks_path, dirstate_path, roots_path}
 use Rattle.hgs_load.specs.Open.{bookmarks_asks, dirstate_asks, roots_asks, log_of, view_of}
 use Rattle.hgs_load.specs.View.{View, changelog_index, damaged, most_pieces, pieces_then, pieces_from, log_answer}
@@ -59,9 +60,17 @@ behind_last old tail = if nat_le 64 (length tail) && is_this (slice_get old (len
 abbrev pub log_on : Log → List ℕ → Result Log ReadAnswer
 log_on old behind = log_answer changelog_index (load_from Ignore (length behind / 64) old behind)
 
--- the whole index, whose history is refused as soon as it was read
+-- a separate index in pieces, whose history is refused as soon as it was read
+abbrev pub separate_whole_asks : List Entry → Asks (Result Log ReadAnswer)
+separate_whole_asks old = pieces_then changelog_index most_pieces [] (λ index. answer (log_after old (log_of index)))
+
+-- an inline one in one read
+abbrev pub inline_whole_asks : List Entry → Asks (Result Log ReadAnswer)
+inline_whole_asks old = in_one_read (separate_whole_asks old) (λ index. log_after old (either_log_of index))
+
+-- the whole index, of which the first piece says the form
 abbrev pub whole_log_asks : List Entry → Asks (Result Log ReadAnswer)
-whole_log_asks old = pieces_then changelog_index most_pieces [] (λ index. answer (log_after old (log_of index)))
+whole_log_asks old = unless_inline (inline_whole_asks old) (separate_whole_asks old)
 
 -- What is asked once the index was read from the last of the old entries on: nothing where that one stands there, and else the whole index, which shows the first that changed.
 abbrev pub behind_asks : Log → Option (List ℕ) → Asks (Result Log ReadAnswer)
@@ -72,9 +81,13 @@ behind_asks old (Some behind) = answer (log_on old behind)
 abbrev pub last_place : List Entry → ℕ
 last_place entries = 64 * (length entries - 1)
 
--- The new history. Of a separate index only what stands from the last of the old entries on is read.
+-- the index from the last of the old entries on, or from its first byte where there is none
+abbrev pub behind_log_asks : Log → Asks (Result Log ReadAnswer)
+behind_log_asks old = if length old.entries == 0 then whole_log_asks old.entries else pieces_from changelog_index (last_place old.entries) most_pieces [] (λ tail. behind_asks old (behind_last old.entries tail))
+
+-- The new history. What was inline is read whole, in one read; of a separate index only what stands from the last of the old entries on.
 abbrev pub newer_log_asks : Log → Asks (Result Log ReadAnswer)
-newer_log_asks old = if old.inline || length old.entries == 0 then whole_log_asks old.entries else pieces_from changelog_index (last_place old.entries) most_pieces [] (λ tail. behind_asks old (behind_last old.entries tail))
+newer_log_asks old = if old.inline then inline_whole_asks old.entries else behind_log_asks old
 
 -- all is read again but `requires`
 abbrev pub refresh_asks : View → Asks (Result View ReadAnswer)
@@ -93,7 +106,7 @@ small_files t = length (bytes_at t bookmarks_path) + length (bytes_at t dirstate
 abbrev pub refresh_bytes : Tree → View → View → ℕ
 refresh_bytes t old new = small_files t + 64 * (length new.changelog.entries - length old.changelog.entries + 2)
 
--- where nobody else writes, the count of bytes given rises by no more
+-- where nobody else writes, and the index was separate and is so still, the count of bytes given rises by no more
 abbrev pub GivenFew : Bool → ℕ → ℕ → Option (List Op) → Tree → View → View → Type 0
 GivenFew alone given_old given_new seen start old new =
-    alone ≡ true → old.changelog.inline ≡ false → IfSome seen (λ log. given_new ≤ given_old + refresh_bytes (after_all log start) old new)
+    alone ≡ true → old.changelog.inline ≡ false → new.changelog.inline ≡ false → IfSome seen (λ log. given_new ≤ given_old + refresh_bytes (after_all log start) old new)

@@ -9,7 +9,7 @@ use crate::answer::ReadAnswer;
 use crate::loaded::Loaded;
 use crate::marks::{WorkingNodes, working_parents_of};
 use crate::paths::{ChangelogPaths, LoadPaths};
-use crate::pieces::{IndexLoad, PIECE};
+use crate::pieces::IndexLoad;
 use crate::whole::{
     MOST_BOOKMARKS_TEXT, MOST_DIRSTATE, MOST_REQUIRES, MOST_ROOTS, take_bookmarks, take_nodes,
     take_requirements, take_roots,
@@ -126,7 +126,7 @@ impl LoadMachine {
             None => LoadNext::Read {
                 path: self.changelog.index(),
                 from: self.index.place(),
-                most: PIECE,
+                most: self.index.most(),
             },
         }
     }
@@ -222,7 +222,7 @@ impl LoadMachine {
         }
     }
 
-    fn feed_piece(&mut self, part: Option<&[u8]>) -> Result<(), ReadAnswer>
+    fn feed_index(&mut self, part: Option<&[u8]>) -> Result<(), ReadAnswer>
         requires required { self.old.required ≡ true }
         requires bookmarks { is_some self.old.bookmarks ≡ true }
         requires nodes { is_some self.old.nodes ≡ true }
@@ -286,7 +286,7 @@ impl LoadMachine {
         if self.index.is_whole() {
             return self.feed_roots(part);
         }
-        self.feed_piece(part)
+        self.feed_index(part)
     }
 
     /// Takes the bytes that were read where `next` asked, none where the file isn't there.

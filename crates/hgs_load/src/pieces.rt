@@ -1,16 +1,20 @@
-//! The changelog's index, read in pieces.
+//! The changelog's index: a separate one is read in pieces, an inline one in one read.
 ghost use Rattle.std.specs.Prelude.{◌≡◌, ◌<◌, ◌||◌, ◌==◌, [], length, nat_lt, unwrap_or, is_some};
 ghost use Rattle.std.specs.Option.{ForNone, option_copied};
 ghost use Rattle.hgs_bytes.specs.Answer.{Gives};
 ghost use Rattle.hgs_load.specs.Answer.{is_of_outside, NeverFaults};
+ghost use Rattle.hgs_load.specs.Form.{either_log_of, is_long_apart};
 ghost use Rattle.hgs_load.specs.Open.{log_of};
-ghost use Rattle.hgs_load.specs.Refresh.{log_after, log_on};
+ghost use Rattle.hgs_load.specs.Refresh.{first_changed, log_after, log_on, unless_changed};
 ghost use Rattle.hgs_load.specs.View.{changelog_index, piece_length};
 
 use crate::answer::ReadAnswer;
 use crate::refresh::{behind_last, first_changed};
 use crate::refusal::{damage, of_revlog};
+use crate::whole::is_above;
 use hgs_files::path::StorePath;
+use hgs_index::inline::is_inline;
+use hgs_index::kinds::Which;
 use hgs_plan::damage::Part;
 use hgs_revlog::fault::Tail;
 use hgs_revlog::revlog::Revlog;
@@ -22,6 +26,9 @@ pub const PIECE: u64 = 65_536;
 
 /// As many pieces hold more entries than a revlog may have.
 pub const MOST_PIECES: u32 = 977;
+
+// The bytes above which an inline changelog is refused.
+const MOST_INLINE: u64 = 16_777_216;
 
 // The bytes of a read, none where the file isn't there.
 pub(crate) fn piece_of(part: Option<&[u8]>) -> &[u8]
@@ -40,7 +47,14 @@ fn is_last(piece: &[u8], left: u32) -> bool
     (piece.len() as u64) < PIECE || left == 1
 }
 
-// The history of an index with this path.
+// Whether a separate index has more bytes than an inline one may have.
+fn is_long_apart(index: Option<&[u8]>) -> bool
+    ensures { result ≡ is_long_apart (option_copied index.entry) }
+{
+    is_above(index, MOST_INLINE) && !is_inline(piece_of(index))
+}
+
+// The history of a separate index with this path.
 fn log_of(alloc: Global, path: &StorePath, index: &[u8]) -> Result<Revlog, ReadAnswer>
     requires { path.now ≡ changelog_index }
     ensures log { Gives is_of_outside (λ log. log) result (log_of index.now) }
@@ -52,7 +66,36 @@ fn log_of(alloc: Global, path: &StorePath, index: &[u8]) -> Result<Revlog, ReadA
     }
 }
 
-// The history of an index with this path, where it begins with the former one.
+// The history of an index of either form with this path.
+fn either_log_of(alloc: Global, path: &StorePath, index: &[u8]) -> Result<Revlog, ReadAnswer>
+    requires { path.now ≡ changelog_index }
+    ensures log { Gives is_of_outside (λ log. log) result (either_log_of index.now) }
+    ensures inner { NeverFaults result }
+{
+    match Revlog::load_either(alloc, index, Tail::Ignore) {
+        Ok(log) => Ok(log),
+        Err(fault) => Err(of_revlog(alloc, path, fault)),
+    }
+}
+
+// This history, where it begins with the former one.
+fn unless_changed(
+    alloc: Global,
+    path: &StorePath,
+    former: &Revlog,
+    log: Revlog,
+) -> Result<Revlog, ReadAnswer>
+    requires { path.now ≡ changelog_index }
+    ensures log { Gives is_of_outside (λ log. log) result (unless_changed (first_changed 0 former.now.entries log.entries) log) }
+    ensures inner { NeverFaults result }
+{
+    match first_changed(former.entries(), &log) {
+        Some(rev) => Err(damage(alloc, path, Part::Shrunk, 1, rev as u64)),
+        None => Ok(log),
+    }
+}
+
+// The history of a separate index with this path, where it begins with the former one.
 fn whole_log(
     alloc: Global,
     path: &StorePath,
@@ -63,13 +106,9 @@ fn whole_log(
     ensures log { Gives is_of_outside (λ log. log) result (log_after former.now.entries (log_of index.now)) }
     ensures inner { NeverFaults result }
 {
-    let log = match log_of(alloc, path, index) {
-        Ok(log) => log,
-        Err(refusal) => return Err(refusal),
-    };
-    match first_changed(former.entries(), &log) {
-        Some(rev) => Err(damage(alloc, path, Part::Shrunk, 1, rev as u64)),
-        None => Ok(log),
+    match log_of(alloc, path, index) {
+        Ok(log) => unless_changed(alloc, path, former, log),
+        Err(refusal) => Err(refusal),
     }
 }
 
@@ -102,7 +141,10 @@ pub enum Former {
 
 impl Former {
     ghost use Rattle.std.specs.Prelude.{◌≡◌};
-    ghost use Rattle.hgs_load.specs.Load.{former_of};
+    ghost use Rattle.hgs_bytes.specs.Answer.{Gives};
+    ghost use Rattle.hgs_load.specs.Answer.{is_of_outside, NeverFaults};
+    ghost use Rattle.hgs_load.specs.Load.{former_of, history_read};
+    ghost use Rattle.hgs_load.specs.View.{changelog_index};
 
     fn of(old: Revlog) -> Former
         ensures { result ≡ former_of old }
@@ -113,12 +155,59 @@ impl Former {
             Former::Last(old)
         }
     }
+
+    // The history of an index that was read in one read.
+    fn history(&self, alloc: Global, path: &StorePath, index: &[u8]) -> Result<Revlog, ReadAnswer>
+        requires { path.now ≡ changelog_index }
+        ensures log { Gives is_of_outside (λ log. log) result (history_read self.now index.now) }
+        ensures inner { NeverFaults result }
+    {
+        let log = match either_log_of(alloc, path, index) {
+            Ok(log) => log,
+            Err(refusal) => return Err(refusal),
+        };
+        match self {
+            Former::Nothing => Ok(log),
+            Former::Whole(old) => unless_changed(alloc, path, old, log),
+            Former::Last(old) => unless_changed(alloc, path, old, log),
+        }
+    }
+}
+
+/// Which read of an index comes next.
+#[derive(Clone, Copy, PartialEq, Eq)]
+pub enum Turn {
+    /// The first piece, which says the form.
+    First,
+    /// A piece of a separate index.
+    Piece,
+    /// The whole index at once.
+    Once,
+}
+
+impl Turn {
+    ghost use Rattle.std.specs.Prelude.{◌≡◌};
+    ghost use Rattle.hgs_load.specs.Load.{first_turn};
+
+    // The first read of an index whose history has to begin with this one.
+    fn behind(old: &Revlog) -> Turn
+        ensures { result ≡ first_turn old.now }
+    {
+        if old.is_inline() {
+            Turn::Once
+        } else if old.len() == 0 {
+            Turn::First
+        } else {
+            Turn::Piece
+        }
+    }
 }
 
 /// What was read so far of an index, and its revisions once it was read to its end.
 #[derive(Drop)]
 pub struct IndexLoad {
     alloc: Global,
+    turn: Turn,
     former: Former,
     left: u32,
     bytes: Vec<u8>,
@@ -127,12 +216,13 @@ pub struct IndexLoad {
 }
 
 impl IndexLoad {
-    ghost use Rattle.std.specs.Prelude.{◌≡◌, ◌<◌, ◌≤◌, List, ℕ, IfOk, OnOk, Ok, None, Option, is_some};
+    ghost use Rattle.std.specs.Prelude.{◌≡◌, ◌+◌, ◌<◌, ◌≤◌, [], List, ℕ, IfOk, OnOk, Ok, None, Option, is_some};
     ghost use Rattle.std.specs.Option.{option_copied};
     ghost use Rattle.hgs_bytes.specs.Answer.{Gives};
     ghost use Rattle.hgs_load.specs.Answer.{is_of_outside, NeverFaults};
     ghost use Rattle.hgs_load.specs.Asks.{answer};
-    ghost use Rattle.hgs_load.specs.Load.{index_asks, index_reads, place_behind, asks_behind, AsksFor, Feeds, HasEnded, Finishes};
+    ghost use Rattle.hgs_load.specs.declared.pieces.Turn.TheVariants.{First, Piece, Once};
+    ghost use Rattle.hgs_load.specs.Load.{index_asks, index_reads, pieces_left, next_place, next_most, most_reads, reads_behind, asks_behind, AsksFor, Feeds, HasEnded, Finishes};
     ghost use Rattle.hgs_load.specs.Open.{log_asks};
     ghost use Rattle.hgs_load.specs.Refresh.{newer_log_asks, whole_log_asks, behind_asks, behind_last};
     ghost use Rattle.hgs_load.specs.View.{changelog_index, most_pieces};
@@ -143,6 +233,7 @@ impl IndexLoad {
     {
         IndexLoad {
             alloc,
+            turn: Turn::First,
             former: Former::Nothing,
             left: MOST_PIECES,
             bytes: Vec::new(alloc),
@@ -156,6 +247,7 @@ impl IndexLoad {
     {
         Ok(IndexLoad {
             alloc,
+            turn: Turn::behind(old),
             former: Former::of(old.copy()?),
             left: MOST_PIECES,
             bytes: Vec::new(alloc),
@@ -177,15 +269,29 @@ impl IndexLoad {
         self.log.is_some()
     }
 
-    /// The place of the next piece in the file.
+    /// The place of the next read in the file.
     pub fn place(&self) -> u64
-        ensures { result ≡ place_behind self.now.former self.now.bytes.items }
+        ensures { result ≡ next_place self.now.turn self.now.former self.now.bytes.items }
     {
+        if matches!(self.turn, Turn::Once) {
+            return 0;
+        }
         let read = self.bytes.len() as u64;
         match &self.former {
             Former::Nothing => read,
             Former::Whole(_) => read,
             Former::Last(old) => 64 * (old.len().saturating_sub(1) as u64) + read,
+        }
+    }
+
+    /// The most bytes of the next read.
+    pub fn most(&self) -> u64
+        ensures { result ≡ next_most self.now.turn }
+    {
+        match self.turn {
+            Turn::First => PIECE,
+            Turn::Piece => PIECE,
+            Turn::Once => MOST_INLINE + 1,
         }
     }
 
@@ -195,7 +301,7 @@ impl IndexLoad {
         requires path { path.now ≡ changelog_index }
         requires open { self.old.log ≡ None }
         ensures done { Finishes (behind_asks former (behind_last former.entries self.old.bytes.items)) (index_asks self.new) result }
-        ensures fewer { OnOk result (index_reads self.new ≤ most_pieces) }
+        ensures fewer { OnOk result (index_reads self.new ≤ most_reads) }
         ensures inner { NeverFaults result }
     {
         match behind_last(&former, &self.bytes) {
@@ -239,16 +345,29 @@ impl IndexLoad {
     fn read_whole(&mut self, former: Revlog)
         requires open { self.old.log ≡ None }
         ensures asks { index_asks self.new ≡ whole_log_asks former.entries }
-        ensures reads { index_reads self.new ≡ most_pieces }
+        ensures reads { index_reads self.new ≡ most_reads }
     {
+        self.turn = Turn::First;
         self.former = Former::Whole(former);
         self.left = MOST_PIECES;
         self.bytes = Vec::new(self.alloc);
     }
 
-    /// Takes the next piece of the file with this path, none where the file isn't there.
-    pub fn feed(&mut self, path: &StorePath, part: Option<&[u8]>) -> Result<(), ReadAnswer>
+    // Begins to read a separate index from its first byte on.
+    fn read_pieces(&mut self)
+        requires open { self.old.log ≡ None }
+        ensures asks { index_asks self.new ≡ pieces_left self.old.former most_pieces [] }
+        ensures reads { index_reads self.new ≡ most_pieces + reads_behind self.old.former }
+    {
+        self.turn = Turn::Piece;
+        self.left = MOST_PIECES;
+        self.bytes = Vec::new(self.alloc);
+    }
+
+    // Takes the next piece of a separate index.
+    fn take_piece(&mut self, path: &StorePath, part: Option<&[u8]>) -> Result<(), ReadAnswer>
         requires path { path.now ≡ changelog_index }
+        requires turn { self.old.turn ≡ Piece }
         requires asked { AsksFor (index_asks self.old) (option_copied part) }
         ensures fed { Feeds (index_asks self.old) (option_copied part.entry) (index_asks self.new) result }
         ensures fewer { OnOk result (index_reads self.new < index_reads self.old) }
@@ -263,6 +382,64 @@ impl IndexLoad {
         Ok(())
     }
 
+    // Takes the whole index, which was read at once.
+    fn take_whole(&mut self, path: &StorePath, part: Option<&[u8]>) -> Result<(), ReadAnswer>
+        requires path { path.now ≡ changelog_index }
+        requires turn { self.old.turn ≡ Once }
+        requires asked { AsksFor (index_asks self.old) (option_copied part) }
+        ensures fed { Feeds (index_asks self.old) (option_copied part.entry) (index_asks self.new) result }
+        ensures fewer { OnOk result (index_reads self.new < index_reads self.old) }
+        ensures inner { NeverFaults result }
+    {
+        let index = piece_of(part);
+        if is_long_apart(part) {
+            self.read_pieces();
+            return Ok(());
+        }
+        if is_above(part, MOST_INLINE) {
+            return Err(ReadAnswer::Limit(Which::Part));
+        }
+        match self.former.history(self.alloc, path, index) {
+            Ok(log) => {
+                self.log = Some(log);
+                Ok(())
+            }
+            Err(refusal) => Err(refusal),
+        }
+    }
+
+    // Takes the first piece: an inline index is read whole then.
+    fn take_first(&mut self, path: &StorePath, part: Option<&[u8]>) -> Result<(), ReadAnswer>
+        requires path { path.now ≡ changelog_index }
+        requires turn { self.old.turn ≡ First }
+        requires asked { AsksFor (index_asks self.old) (option_copied part) }
+        ensures fed { Feeds (index_asks self.old) (option_copied part.entry) (index_asks self.new) result }
+        ensures fewer { OnOk result (index_reads self.new < index_reads self.old) }
+        ensures inner { NeverFaults result }
+    {
+        if is_inline(piece_of(part)) {
+            self.turn = Turn::Once;
+            return Ok(());
+        }
+        self.turn = Turn::Piece;
+        self.take_piece(path, part)
+    }
+
+    /// Takes what was read of the file with this path, none where the file isn't there.
+    pub fn feed(&mut self, path: &StorePath, part: Option<&[u8]>) -> Result<(), ReadAnswer>
+        requires path { path.now ≡ changelog_index }
+        requires asked { AsksFor (index_asks self.old) (option_copied part) }
+        ensures fed { Feeds (index_asks self.old) (option_copied part.entry) (index_asks self.new) result }
+        ensures fewer { OnOk result (index_reads self.new < index_reads self.old) }
+        ensures inner { NeverFaults result }
+    {
+        match self.turn {
+            Turn::First => self.take_first(path, part),
+            Turn::Piece => self.take_piece(path, part),
+            Turn::Once => self.take_whole(path, part),
+        }
+    }
+
     /// The revisions of an index that was read to its end. Takes no memory.
     pub fn take(self) -> Revlog
         requires { HasEnded (index_asks self) }
@@ -270,6 +447,7 @@ impl IndexLoad {
     {
         let IndexLoad {
             alloc: _,
+            turn: _,
             former: _,
             left: _,
             bytes: _,

@@ -27,7 +27,7 @@ pub(crate) const MOST_DIRSTATE: u64 = 33_554_432;
 pub(crate) const MOST_ROOTS: u64 = 67_108_864;
 
 // Whether a file has more bytes than it may have.
-fn is_above(part: Option<&[u8]>, most: u64) -> bool
+pub(crate) fn is_above(part: Option<&[u8]>, most: u64) -> bool
     ensures { result ≡ is_above most (option_copied part.entry) }
 {
     match part {

@@ -30,10 +30,10 @@ module _ (file bytes piece new : List ℕ) (front : take (length bytes) file ≡
       let g = length-drop (length bytes) file in
       omega (arith, e, f, g, size)
 
-  last-front : length piece < piece_length → length bytes + piece_length ≤ most_index → take most_index file ≡ new
-  last-front size fits =
+  last-front : (most : ℕ) → length piece < piece_length → length bytes + piece_length ≤ most → take most file ≡ new
+  last-front most size fits =
       let few = rest size in
-      take_all most_index file (omega (arith, few, fits)) ∙ sym (take_all (length bytes + piece_length) file few) ∙ sym longer
+      take_all most file (omega (arith, few, fits)) ∙ sym (take_all (length bytes + piece_length) file few) ∙ sym longer
 
 piece-is : (t : Tree) (path bytes piece : List ℕ) (from : ℕ) (part : Option (List ℕ)) → from ≡ length bytes → part ≡ part_of t path from piece_length → piece ≡ unwrap_or part [] → piece ≡ take piece_length (drop (length bytes) (bytes_at t path))
 piece-is t path bytes piece from part f e p = p ∙ ap (λ o. unwrap_or o []) e ∙ part-bytes (t path) from piece_length ∙ ap (λ n. take piece_length (drop n (bytes_at t path))) f
@@ -46,19 +46,19 @@ module _ (alone : Bool) (now next : Option (List Op)) (start start_next : Tree) 
       told-read alone now next start start_next (IsFront path bytes) (IsFront path new) path from piece_length part still same before read
       (λ t k e. next-front (bytes_at t path) bytes piece new k (piece-is t path bytes piece from part behind e piece_part) joined size)
 
-  pub ends : length piece < piece_length → length bytes + piece_length ≤ most_index → alone ≡ true → IfSome next (λ log. (let g : Result (List ℕ) ReadAnswer = Ok (index_in path (after_all log start_next)) in g) ≡ Ok new)
-  ends size fits =
-      told-read alone now next start start_next (IsFront path bytes) (λ t. (let g : Result (List ℕ) ReadAnswer = Ok (index_in path t) in g) ≡ Ok new) path from piece_length part still same before read
-      (λ t k e. ap (λ l. Ok l) (last-front (bytes_at t path) bytes piece new k (piece-is t path bytes piece from part behind e piece_part) joined size fits))
+  pub ends : (most : ℕ) → length piece < piece_length → length bytes + piece_length ≤ most → alone ≡ true → IfSome next (λ log. (let g : Result (List ℕ) ReadAnswer = Ok (take most (bytes_at (after_all log start_next) path)) in g) ≡ Ok new)
+  ends most size fits =
+      told-read alone now next start start_next (IsFront path bytes) (λ t. (let g : Result (List ℕ) ReadAnswer = Ok (take most (bytes_at t path)) in g) ≡ Ok new) path from piece_length part still same before read
+      (λ t k e. ap (λ l. Ok l) (last-front (bytes_at t path) bytes piece new k (piece-is t path bytes piece from part behind e piece_part) joined most size fits))
 
 pub none-read : (seen : Option (List Op)) (start : Tree) (path bytes : List ℕ) → bytes ≡ [] → IfSome seen (λ log. IsFront path bytes (after_all log start))
 none-read None start path bytes e = tt
 none-read (Some log) start path bytes e = let P : List ℕ → Type 0 = λ l. IsFront path l (after_all log start) in subst P (sym e) refl
 
 -- as much was read as may be
-pub all-read : (seen : Option (List Op)) (start : Tree) (path bytes : List ℕ) → length bytes ≡ most_index → IfSome seen (λ log. IsFront path bytes (after_all log start)) → IfSome seen (λ log. (let g : Result (List ℕ) ReadAnswer = Ok (index_in path (after_all log start)) in g) ≡ Ok bytes)
-all-read None start path bytes e h = tt
-all-read (Some log) start path bytes e h = ap (λ l. Ok l) (ap (λ n. take n (bytes_at (after_all log start) path)) (sym e) ∙ h)
+pub all-read : (most : ℕ) (seen : Option (List Op)) (start : Tree) (path bytes : List ℕ) → length bytes ≡ most → IfSome seen (λ log. IsFront path bytes (after_all log start)) → IfSome seen (λ log. (let g : Result (List ℕ) ReadAnswer = Ok (take most (bytes_at (after_all log start) path)) in g) ≡ Ok bytes)
+all-read most None start path bytes e h = tt
+all-read most (Some log) start path bytes e h = ap (λ l. Ok l) (ap (λ n. take n (bytes_at (after_all log start) path)) (sym e) ∙ h)
 
 pub short-piece : (most : ℕ) (part : Option (List ℕ)) (piece : List ℕ) → IfSome part (λ bytes. length bytes ≤ most) → piece ≡ unwrap_or part [] → length piece ≤ most
 short-piece most None piece h e = let k = ap length e in omega (arith, k)

@@ -1,16 +1,18 @@
 -- An index that loads has no more bytes than its entries.
-use Rattle.std.proofs.Common.{◌≡◌, ℕ, zero, suc, ◌+◌, ◌-◌, ◌*◌, ◌/◌, ◌==◌, ◌≤◌, min, List, [], ◌∷◌, ◌++◌, length, take, drop, Bool, true, false, cond, Result, Ok, Err, refl, sym, ◌∙◌, ap, arith, length-append}
+use Rattle.std.proofs.Common.{◌≡◌, ℕ, zero, suc, ◌+◌, ◌-◌, ◌*◌, ◌/◌, ◌==◌, ◌≤◌, ◌<◌, ◌&&◌, ◌⊎◌, inl, inr, min, List, [], ◌∷◌, ◌++◌, length, take, drop, Bool, true, false, cond, Result, Ok, Err, refl, sym, ◌∙◌, ap, arith, length-append}
+use Rattle.std.specs.Prelude.{nat_le}
 use Rattle.std.proofs.lemmas.Bool.Decides.{nat_tests}
+use Rattle.hgs_index.specs.Inline.{entries_in, is_inline, without_inline}
 use Rattle.std.proofs.lemmas.List.{take_all, length-take, length-drop}
 use Rattle.hgs_files.specs.Tree.{Tree, bytes_at}
 use Rattle.hgs_index.specs.declared.entry.Entry as index_entry
 use Rattle.hgs_revlog.specs.declared.fault.RevFault.{RevFault}
 use Rattle.hgs_revlog.specs.declared.fault.RevFault.TheVariants.{Tail}
 use Rattle.hgs_revlog.specs.declared.fault.Tail.TheVariants.{Refuse}
-use Rattle.hgs_revlog.specs.Load.{after, entry_behind, load_from, loaded}
+use Rattle.hgs_revlog.specs.Load.{after, entry_behind, in_form, load_from, loaded, loaded_either}
 use Rattle.hgs_revlog.specs.Log.{Log, with_entry}
 use Rattle.hgs_load.specs.View.{log_answer}
-use Rattle.hgs_loading.specs.Logs.{most_index, index_in, log_in}
+use Rattle.hgs_loading.specs.Logs.{either_index_in, either_log_in, has_more, most_index, index_in}
 
 ok_is : (x y : Log) → (let a : Result Log RevFault = Ok x in a) ≡ Ok y → x ≡ y
 ok_is x y e = cc
@@ -55,15 +57,40 @@ least m n k e f few = omega (arith, e, f, few)
 pub all-of-it : (index : List ℕ) (t : Tree) → length (bytes_at t index) ≤ most_index → index_in index t ≡ bytes_at t index
 all-of-it index t few = take_all most_index (bytes_at t index) few
 
-pub whole-index : (index : List ℕ) (t : Tree) (log : Log) → (loaded Refuse (index_in index t) ≡ Ok log → length log.entries ≤ 1000000) → log_in index t ≡ Ok log → (index_in index t ≡ bytes_at t index) × (loaded Refuse (bytes_at t index) ≡ Ok log)
-whole-index index t log few h =
-    let loads : loaded Refuse (index_in index t) ≡ Ok log = answered index log (loaded Refuse (index_in index t)) h in
-    let size = load-length (length (index_in index t) / 64) (record { inline = false; entries = [] }) log (index_in index t) refl loads in
-    let e : index_in index t ≡ bytes_at t index = all-of-it index t (least (length (bytes_at t index)) (length (index_in index t)) (length log.entries) (length-take most_index (bytes_at t index)) size (few loads)) in
-    (e, ap (λ b. loaded Refuse b) (sym e) ∙ loads)
-
 few-bytes : (n : ℕ) → n / 64 ≤ 1000000 → n ≤ most_index
 few-bytes n h = omega (arith, h)
 
 pub short-index : (index : List ℕ) (t : Tree) → length (bytes_at t index) / 64 ≤ 1000000 → index_in index t ≡ bytes_at t index
 short-index index t few = all-of-it index t (few-bytes (length (bytes_at t index)) few)
+
+-- An index of either form that loads is all that was read.
+pub whole-either : (index : List ℕ) (t : Tree) (log : Log) → ((l : Log) → loaded Refuse (index_in index t) ≡ Ok l → length l.entries ≤ 1000000) → either_log_in index t ≡ Ok log → loaded_either Refuse (bytes_at t index) ≡ Ok log
+whole-either index t log few h = ap (λ b. loaded_either Refuse b) (sym (by (has_more (index_in index t)) refl)) ∙ loads
+  where
+    loads : loaded_either Refuse (either_index_in index t) ≡ Ok log
+    loads = answered index log (loaded_either Refuse (either_index_in index t)) h
+
+    some-more : (a b : Bool) → (a && b) ≡ false → (a ≡ false) ⊎ (b ≡ false)
+    some-more true b e = inr e
+    some-more false b e = inl refl
+
+    short : nat_le most_index (length (index_in index t)) ≡ false → index_in index t ≡ bytes_at t index
+    short e = take_all most_index (bytes_at t index) (omega (arith, length-take most_index (bytes_at t index), above most_index (length (index_in index t)) e))
+      where
+        above : (a b : ℕ) → nat_le a b ≡ false → b < a
+        above a b k = grind (arith, nat_tests, k)
+
+    -- the entries of a separate index, which are not that many
+    plain : is_inline (index_in index t) ≡ false → has_more (index_in index t) ≡ false → index_in index t ≡ bytes_at t index
+    plain e less = separate (loaded Refuse (index_in index t)) refl
+        (sym (ap (λ b. in_form b (loaded Refuse (cond b (without_inline (entries_in (length (index_in index t)) (index_in index t))) (index_in index t)))) e) ∙ ap (λ b. loaded_either Refuse b) (sym (ap (λ b. cond b (bytes_at t index) (index_in index t)) less)) ∙ loads)
+      where
+        separate : (r : Result Log RevFault) → loaded Refuse (index_in index t) ≡ r → in_form false r ≡ Ok log → index_in index t ≡ bytes_at t index
+        separate (Err f) k o = absurd (no_ok f log o)
+        separate (Ok l) k o =
+            let size = load-length (length (index_in index t) / 64) (record { inline = false; entries = [] }) l (index_in index t) refl k in
+            all-of-it index t (least (length (bytes_at t index)) (length (index_in index t)) (length l.entries) (length-take most_index (bytes_at t index)) size (few l k))
+
+    by : (b : Bool) → has_more (index_in index t) ≡ b → either_index_in index t ≡ bytes_at t index
+    by true e = ap (λ b. cond b (bytes_at t index) (index_in index t)) e
+    by false e = ap (λ b. cond b (bytes_at t index) (index_in index t)) e ∙ elim (some-more (nat_le most_index (length (index_in index t))) (is_inline (index_in index t)) e) [ inl a ↦ short a | inr a ↦ plain a e ]

@@ -1,3 +1,4 @@
+pub mod EitherLemmas
 pub mod EndLemmas
 pub mod IndexLemmas
 pub mod LengthLemmas

@@ -1,25 +1,27 @@
 //! Revlogs, as they are loaded before more is appended to them.
-ghost use Rattle.std.specs.Prelude.{◌≡◌, false, true, Ok, IfOk};
+ghost use Rattle.std.specs.Prelude.{◌≡◌, ◌≤◌, ◌*◌, ◌^◌, true, take, Ok, IfOk};
 ghost use Rattle.hgs_bytes.specs.Answer.{Gives};
 ghost use Rattle.hgs_files.specs.Reads.{Grows};
+ghost use Rattle.hgs_files.specs.Tree.{bytes_at};
 ghost use Rattle.hgs_revlog.specs.declared.fault.Tail.TheVariants.{Refuse};
-ghost use Rattle.hgs_revlog.specs.Load.{loaded};
+ghost use Rattle.hgs_revlog.specs.Load.{loaded_either};
 ghost use Rattle.hgs_revlog.specs.Loaded.{AreEntries};
 ghost use Rattle.hgs_revlog.specs.Log.{stored_sum};
 ghost use Rattle.hgs_load.specs.Answer.{is_of_outside, HasFaultCause, NeverFaults};
-ghost use Rattle.hgs_load.specs.View.{log_answer};
+ghost use Rattle.hgs_load.specs.View.{log_answer, piece_length};
 ghost use Rattle.hgs_loading.specs.Found.{Finds};
-ghost use Rattle.hgs_loading.specs.Logs.{index_in, log_in, data_in, whole_log_in};
+ghost use Rattle.hgs_loading.specs.Logs.{data_in, either_data_in, either_index_in, either_log_in, has_more, index_in, whole_log_in};
 
 use crate::whole::size_of;
 use hgs_files::files::Reads;
 use hgs_files::path::StorePath;
+use hgs_index::inline::is_inline;
 use hgs_load::answer::ReadAnswer;
 use hgs_load::ask::{bytes_of, read_part};
 use hgs_load::refusal::of_revlog;
 use hgs_reader::find::RevlogPaths;
 use hgs_revlog::fault::{RevFault, Tail};
-use hgs_revlog::laws::loaded_entries;
+use hgs_revlog::laws::either_form;
 use hgs_revlog::revlog::Revlog;
 use std::alloc::Global;
 
@@ -27,22 +29,27 @@ use std::alloc::Global;
 const PIECE: u64 = 65_536;
 
 /// As many pieces hold more entries than a revlog may have.
-const MOST_PIECES: u32 = 977;
+const MOST_PIECES: u64 = 977;
+
+/// More pieces than a list of bytes can have.
+const ALL_PIECES: u64 = 0x1_0000_0000_0000;
 
 // Reads an index in pieces, until one is shorter or as many were read as may be.
 fn read_index<R: Reads>(
     alloc: Global,
     files: &mut R,
     index: &StorePath,
+    pieces: u64,
 ) -> Result<Vec<u8>, ReadAnswer>
-    ensures found { Finds (λ bytes. bytes.items) R.alone (R.seen files.new) (R.start files.new) (λ t. Ok (index_in index.now t)) result }
+    requires { pieces ≤ 2 ^ 48 }
+    ensures found { Finds (λ bytes. bytes.items) R.alone (R.seen files.new) (R.start files.new) (λ t. Ok (take (pieces * piece_length) (bytes_at t index.now))) result }
     ensures seen { Grows (R.seen files.old) (R.seen files.new) }
     ensures same_start { R.start files.new ≡ R.start files.old }
     ensures still { R.alone ≡ true → R.seen files.new ≡ R.seen files.old }
     ensures cause { HasFaultCause (R.faults files.old) (R.faults files.new) (R.denied files.old) (R.denied files.new) result }
 {
     let mut bytes = Vec::new(alloc);
-    let mut left = MOST_PIECES;
+    let mut left = pieces;
     while left > 0 {
         let part = read_part(alloc, files, index, bytes.len() as u64, PIECE)?;
         let piece = bytes_of(&part);
@@ -55,37 +62,103 @@ fn read_index<R: Reads>(
     Ok(bytes)
 }
 
-// The revlog that these bytes of its index are.
-fn log_from(alloc: Global, index: &StorePath, bytes: &[u8]) -> Result<Revlog, ReadAnswer>
-    ensures log { Gives is_of_outside (λ log. log) result (log_answer index.now (loaded Refuse bytes.now)) }
-    ensures entries { IfOk result (λ log. AreEntries log.entries) }
-    ensures separate { IfOk result (λ log. log.inline ≡ false) }
-    ensures inner { NeverFaults result }
-{
-    loaded_entries();
-    match Revlog::load(alloc, bytes, Tail::Refuse) {
-        Ok(log) => Ok(log),
-        Err(fault) => Err(of_revlog(alloc, index, fault)),
-    }
-}
-
-/// Loads the revlog with this index, of which no byte may stand behind the last whole entry. An absent index is one of no
-/// revisions. The data file is not looked at.
-pub fn load_log<R: Reads>(
+// Reads as much of an index as one of entries may have.
+fn read_entries<R: Reads>(
     alloc: Global,
     files: &mut R,
-    paths: &RevlogPaths,
-) -> Result<Revlog, ReadAnswer>
-    ensures found { Finds (λ log. log) R.alone (R.seen files.new) (R.start files.new) (log_in paths.now.index) result }
-    ensures entries { IfOk result (λ log. AreEntries log.entries) }
-    ensures separate { IfOk result (λ log. log.inline ≡ false) }
+    index: &StorePath,
+) -> Result<Vec<u8>, ReadAnswer>
+    ensures found { Finds (λ bytes. bytes.items) R.alone (R.seen files.new) (R.start files.new) (λ t. Ok (index_in index.now t)) result }
     ensures seen { Grows (R.seen files.old) (R.seen files.new) }
     ensures same_start { R.start files.new ≡ R.start files.old }
     ensures still { R.alone ≡ true → R.seen files.new ≡ R.seen files.old }
     ensures cause { HasFaultCause (R.faults files.old) (R.faults files.new) (R.denied files.old) (R.denied files.new) result }
 {
-    let bytes = read_index(alloc, files, &paths.index)?;
-    match log_from(alloc, &paths.index, &bytes) {
+    read_index(alloc, files, index, MOST_PIECES)
+}
+
+// Reads all of an index.
+fn read_all<R: Reads>(
+    alloc: Global,
+    files: &mut R,
+    index: &StorePath,
+) -> Result<Vec<u8>, ReadAnswer>
+    ensures found { Finds (λ bytes. bytes.items) R.alone (R.seen files.new) (R.start files.new) (λ t. Ok (bytes_at t index.now)) result }
+    ensures seen { Grows (R.seen files.old) (R.seen files.new) }
+    ensures same_start { R.start files.new ≡ R.start files.old }
+    ensures still { R.alone ≡ true → R.seen files.new ≡ R.seen files.old }
+    ensures cause { HasFaultCause (R.faults files.old) (R.faults files.new) (R.denied files.old) (R.denied files.new) result }
+{
+    match read_index(alloc, files, index, ALL_PIECES) {
+        Ok(bytes) => Ok(bytes),
+        Err(refusal) => Err(refusal),
+    }
+}
+
+// Whether an index may have more bytes than these, which are as many as one of entries may have.
+fn has_more(bytes: &[u8]) -> bool
+    ensures { result ≡ has_more bytes.now }
+{
+    (bytes.len() as u64) >= MOST_PIECES * PIECE && is_inline(bytes)
+}
+
+// Reads an index of either form, an inline one with its chunks.
+fn read_either_index<R: Reads>(
+    alloc: Global,
+    files: &mut R,
+    index: &StorePath,
+) -> Result<Vec<u8>, ReadAnswer>
+    ensures found { Finds (λ bytes. bytes.items) R.alone (R.seen files.new) (R.start files.new) (λ t. Ok (either_index_in index.now t)) result }
+    ensures seen { Grows (R.seen files.old) (R.seen files.new) }
+    ensures same_start { R.start files.new ≡ R.start files.old }
+    ensures still { R.alone ≡ true → R.seen files.new ≡ R.seen files.old }
+    ensures cause { HasFaultCause (R.faults files.old) (R.faults files.new) (R.denied files.old) (R.denied files.new) result }
+{
+    let bytes = match read_entries(alloc, files, index) {
+        Ok(bytes) => bytes,
+        Err(refusal) => return Err(refusal),
+    };
+    if !has_more(&bytes) {
+        return Ok(bytes);
+    }
+    match read_all(alloc, files, index) {
+        Ok(bytes) => Ok(bytes),
+        Err(refusal) => Err(refusal),
+    }
+}
+
+// The revlog that these bytes of its index are, in the form that they say.
+fn either_log_from(alloc: Global, index: &StorePath, bytes: &[u8]) -> Result<Revlog, ReadAnswer>
+    ensures log { Gives is_of_outside (λ log. log) result (log_answer index.now (loaded_either Refuse bytes.now)) }
+    ensures entries { IfOk result (λ log. AreEntries log.entries) }
+    ensures inner { NeverFaults result }
+{
+    either_form();
+    match Revlog::load_either(alloc, bytes, Tail::Refuse) {
+        Ok(log) => Ok(log),
+        Err(fault) => Err(of_revlog(alloc, index, fault)),
+    }
+}
+
+/// Loads the revlog with this index in the form that it says. Behind the last whole entry, in an inline index with its chunk,
+/// no byte may stand. An absent index is one of no revisions. The data file is not looked at.
+pub fn load_either_log<R: Reads>(
+    alloc: Global,
+    files: &mut R,
+    paths: &RevlogPaths,
+) -> Result<Revlog, ReadAnswer>
+    ensures found { Finds (λ log. log) R.alone (R.seen files.new) (R.start files.new) (either_log_in paths.now.index) result }
+    ensures entries { IfOk result (λ log. AreEntries log.entries) }
+    ensures seen { Grows (R.seen files.old) (R.seen files.new) }
+    ensures same_start { R.start files.new ≡ R.start files.old }
+    ensures still { R.alone ≡ true → R.seen files.new ≡ R.seen files.old }
+    ensures cause { HasFaultCause (R.faults files.old) (R.faults files.new) (R.denied files.old) (R.denied files.new) result }
+{
+    let bytes = match read_either_index(alloc, files, &paths.index) {
+        Ok(bytes) => bytes,
+        Err(refusal) => return Err(refusal),
+    };
+    match either_log_from(alloc, &paths.index, &bytes) {
         Ok(log) => Ok(log),
         Err(refusal) => Err(refusal),
     }
@@ -104,9 +177,9 @@ pub fn end_of(log: &Revlog) -> u64
     span.from + span.len
 }
 
-/// Tests that a data file ends where the last chunk does, so that the next chunk stands right behind it. An absent file is
-/// empty.
-pub fn test_data<R: Reads>(
+// Tests that a data file ends where the last chunk does, so that the next chunk stands right behind it. An absent file is
+// empty.
+fn test_data<R: Reads>(
     alloc: Global,
     files: &mut R,
     paths: &RevlogPaths,
@@ -126,7 +199,28 @@ pub fn test_data<R: Reads>(
     Err(of_revlog(alloc, &paths.index, RevFault::Tail(log.len())))
 }
 
-/// Loads a revlog, and tests its data file.
+/// The same of a revlog in either form, so that the next chunk stands right behind the last: beside an inline index no data
+/// file is looked at.
+pub fn test_either_data<R: Reads>(
+    alloc: Global,
+    files: &mut R,
+    paths: &RevlogPaths,
+    log: &Revlog,
+) -> Result<(), ReadAnswer>
+    requires { AreEntries log.now.entries }
+    ensures found { Finds (λ x. x) R.alone (R.seen files.new) (R.start files.new) (either_data_in paths.now.index paths.now.chunks log.now) result }
+    ensures seen { Grows (R.seen files.old) (R.seen files.new) }
+    ensures same_start { R.start files.new ≡ R.start files.old }
+    ensures still { R.alone ≡ true → R.seen files.new ≡ R.seen files.old }
+    ensures cause { HasFaultCause (R.faults files.old) (R.faults files.new) (R.denied files.old) (R.denied files.new) result }
+{
+    if log.is_inline() {
+        return Ok(());
+    }
+    test_data(alloc, files, paths, log)
+}
+
+/// Loads a revlog in either form, and tests its data file.
 pub fn load_whole<R: Reads>(
     alloc: Global,
     files: &mut R,
@@ -134,13 +228,12 @@ pub fn load_whole<R: Reads>(
 ) -> Result<Revlog, ReadAnswer>
     ensures found { Finds (λ log. log) R.alone (R.seen files.new) (R.start files.new) (whole_log_in paths.now.index paths.now.chunks) result }
     ensures entries { IfOk result (λ log. AreEntries log.entries) }
-    ensures separate { IfOk result (λ log. log.inline ≡ false) }
     ensures seen { Grows (R.seen files.old) (R.seen files.new) }
     ensures same_start { R.start files.new ≡ R.start files.old }
     ensures still { R.alone ≡ true → R.seen files.new ≡ R.seen files.old }
     ensures cause { HasFaultCause (R.faults files.old) (R.faults files.new) (R.denied files.old) (R.denied files.new) result }
 {
-    let log = load_log(alloc, files, paths)?;
-    test_data(alloc, files, paths, &log)?;
+    let log = load_either_log(alloc, files, paths)?;
+    test_either_data(alloc, files, paths, &log)?;
     Ok(log)
 }

@@ -13,7 +13,7 @@ ghost use Rattle.hgs_load.specs.View.{changelog_index};
 ghost use Rattle.hgs_loading.specs.Found.{Finds};
 ghost use Rattle.hgs_loading.specs.Parent.{change_in, rows_at, rows_in, parent_in, view_parent};
 
-use crate::texts::read_text;
+use crate::texts::{read_chunk, text_in_chunk};
 use hgs_changelog::text::ChangeText;
 use hgs_files::files::Reads;
 use hgs_files::path::StorePath;
@@ -63,14 +63,15 @@ pub fn read_change<R: Reads>(
 ) -> Result<ChangeText, ReadAnswer>
     requires stands { rev < length changelog.now.entries }
     requires path { paths.now.index ≡ changelog_index }
-    ensures found { Finds view_change R.alone (R.seen files.new) (R.start files.new) (change_in paths.now.chunks changelog.now.entries rev) result }
+    ensures found { Finds view_change R.alone (R.seen files.new) (R.start files.new) (change_in paths.now.chunks changelog.now rev) result }
     ensures seen { Grows (R.seen files.old) (R.seen files.new) }
     ensures same_start { R.start files.new ≡ R.start files.old }
     ensures still { R.alone ≡ true → R.seen files.new ≡ R.seen files.old }
     ensures cause { HasFaultCause (R.faults files.old) (R.faults files.new) (R.denied files.old) (R.denied files.new) result }
 {
-    let text = read_text(alloc, files, paths, changelog, rev)?;
-    match change_from(alloc, &paths.index, rev, text.as_slice()) {
+    let chunk = read_chunk(alloc, files, paths, changelog, rev)?;
+    let text = text_in_chunk(alloc, &paths.index, changelog, rev, chunk.as_slice())?;
+    match change_from(alloc, &paths.index, rev, text) {
         Ok(change) => Ok(change),
         Err(refusal) => Err(refusal),
     }
@@ -87,15 +88,16 @@ fn read_rows_at<R: Reads>(
     requires stands { rev < length manifest.now.entries }
     requires path { paths.now.index ≡ manifest_index }
     requires small { HaveSmallTexts manifest.now.entries }
-    ensures found { Finds view_parent R.alone (R.seen files.new) (R.start files.new) (λ t. rows_at paths.now.chunks manifest.now.entries t (Some rev)) result }
+    ensures found { Finds view_parent R.alone (R.seen files.new) (R.start files.new) (λ t. rows_at paths.now.chunks manifest.now t (Some rev)) result }
     ensures below { IfOk result (λ p. IfSome p.rev (λ r. r < length manifest.now.entries)) }
     ensures seen { Grows (R.seen files.old) (R.seen files.new) }
     ensures same_start { R.start files.new ≡ R.start files.old }
     ensures still { R.alone ≡ true → R.seen files.new ≡ R.seen files.old }
     ensures cause { HasFaultCause (R.faults files.old) (R.faults files.new) (R.denied files.old) (R.denied files.new) result }
 {
-    let text = read_text(alloc, files, paths, manifest, rev)?;
-    match manifest_from(alloc, &paths.index, text.as_slice()) {
+    let chunk = read_chunk(alloc, files, paths, manifest, rev)?;
+    let text = text_in_chunk(alloc, &paths.index, manifest, rev, chunk.as_slice())?;
+    match manifest_from(alloc, &paths.index, text) {
         Ok(rows) => Ok(ParentManifest {
             rev: Some(rev),
             rows,
@@ -114,7 +116,7 @@ pub fn read_rows<R: Reads>(
 ) -> Result<ParentManifest, ReadAnswer>
     requires path { paths.now.index ≡ manifest_index }
     requires small { HaveSmallTexts manifest.now.entries }
-    ensures found { Finds view_parent R.alone (R.seen files.new) (R.start files.new) (rows_in paths.now.chunks manifest.now.entries node.now.0) result }
+    ensures found { Finds view_parent R.alone (R.seen files.new) (R.start files.new) (rows_in paths.now.chunks manifest.now node.now.0) result }
     ensures below { IfOk result (λ p. IfSome p.rev (λ r. r < length manifest.now.entries)) }
     ensures seen { Grows (R.seen files.old) (R.seen files.new) }
     ensures same_start { R.start files.new ≡ R.start files.old }
@@ -147,7 +149,7 @@ pub fn parent_manifest<R: Reads>(
     requires changelog_path { changelog_paths.now.index ≡ changelog_index }
     requires manifest_path { manifest_paths.now.index ≡ manifest_index }
     requires small { HaveSmallTexts manifest.now.entries }
-    ensures found { Finds view_parent R.alone (R.seen files.new) (R.start files.new) (parent_in changelog_paths.now.chunks changelog.now.entries manifest_paths.now.chunks manifest.now.entries rev) result }
+    ensures found { Finds view_parent R.alone (R.seen files.new) (R.start files.new) (parent_in changelog_paths.now.chunks changelog.now manifest_paths.now.chunks manifest.now rev) result }
     ensures below { IfOk result (λ p. IfSome p.rev (λ r. r < length manifest.now.entries)) }
     ensures seen { Grows (R.seen files.old) (R.seen files.new) }
     ensures same_start { R.start files.new ≡ R.start files.old }

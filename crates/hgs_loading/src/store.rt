@@ -1,5 +1,5 @@
 //! What a writer reads of a repository before it plans.
-ghost use Rattle.std.specs.Prelude.{◌≡◌, ◌<◌, false, true, length, IfOk, IfSome};
+ghost use Rattle.std.specs.Prelude.{◌≡◌, ◌<◌, true, length, IfOk, IfSome};
 ghost use Rattle.hgs_bytes.specs.Answer.{Gives};
 ghost use Rattle.hgs_files.specs.Reads.{Grows};
 ghost use Rattle.hgs_revlog.specs.Loaded.{AreEntries};
@@ -82,11 +82,12 @@ fn history_of(alloc: Global, small: SmallFiles, logs: Logs) -> Result<LoadedStor
     })
 }
 
-/// Loads the changelog and the manifest's revlog, in this order, and tests the ends of both data files.
+/// Loads the changelog and the manifest's revlog, each in the form that its index says, in this order, and tests the ends of
+/// their data files.
 pub fn load_logs<R: Reads>(alloc: Global, files: &mut R) -> Result<Logs, ReadAnswer>
     ensures found { Finds view_logs R.alone (R.seen files.new) (R.start files.new) logs_in result }
-    ensures changelog { IfOk result (λ l. AreEntries l.changelog.entries × (l.changelog.inline ≡ false)) }
-    ensures manifest { IfOk result (λ l. AreEntries l.manifest.entries × (l.manifest.inline ≡ false)) }
+    ensures changelog { IfOk result (λ l. AreEntries l.changelog.entries) }
+    ensures manifest { IfOk result (λ l. AreEntries l.manifest.entries) }
     ensures seen { Grows (R.seen files.old) (R.seen files.new) }
     ensures same_start { R.start files.new ≡ R.start files.old }
     ensures still { R.alone ≡ true → R.seen files.new ≡ R.seen files.old }
@@ -102,12 +103,12 @@ pub fn load_logs<R: Reads>(alloc: Global, files: &mut R) -> Result<Logs, ReadAns
     })
 }
 
-/// Reads the small files, the changelog and the manifest's revlog, in this order, and tests the ends of both data files.
+/// Reads the small files, the changelog and the manifest's revlog, in this order, and tests the ends of their data files.
 /// That the working parents are in the history is tested last.
 pub fn history<R: Reads>(alloc: Global, files: &mut R) -> Result<LoadedStore, ReadAnswer>
     ensures found { Finds view_store R.alone (R.seen files.new) (R.start files.new) loaded_in result }
-    ensures changelog { IfOk result (λ h. AreEntries h.changelog.entries × (h.changelog.inline ≡ false)) }
-    ensures manifest { IfOk result (λ h. AreEntries h.manifest.entries × (h.manifest.inline ≡ false)) }
+    ensures changelog { IfOk result (λ h. AreEntries h.changelog.entries) }
+    ensures manifest { IfOk result (λ h. AreEntries h.manifest.entries) }
     ensures first { IfOk result (λ h. IfSome h.working.first (λ rev. rev < length h.changelog.entries)) }
     ensures second { IfOk result (λ h. IfSome h.working.second (λ rev. rev < length h.changelog.entries)) }
     ensures phases { IfOk result (λ h. length h.phases ≡ length h.changelog.entries) }

@@ -11,3 +11,4 @@ pub mod Carrying
 pub mod Locking
 pub mod Plans
 pub mod Stopping
+pub mod Going

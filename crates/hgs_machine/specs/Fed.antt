@@ -32,6 +32,35 @@ is_finishing_at _ = false
 abbrev pub is_cleaning : Machine → Bool
 is_cleaning m = is_finishing_at m.stage && m.done == m.plan.commit
 
+-- it ended behind its publishing operation
+abbrev pub is_published_end : Short → Bool
+is_published_end AllDone = true
+is_published_end (Unfinished Yes) = true
+is_published_end _ = false
+
+abbrev pub is_published_at : Stage → Short → Bool
+is_published_at Finishing outcome = true
+is_published_at Sweeping outcome = is_published_end outcome
+is_published_at Removing outcome = is_published_end outcome
+is_published_at _ outcome = false
+
+-- the publishing operation is done
+abbrev pub is_published : Machine → Bool
+is_published m = is_published_at m.stage m.outcome
+
+abbrev pub is_done_end : Short → Bool
+is_done_end AllDone = true
+is_done_end _ = false
+
+abbrev pub is_acknowledged_at : Stage → Short → Bool
+is_acknowledged_at Sweeping outcome = is_done_end outcome
+is_acknowledged_at Removing outcome = is_done_end outcome
+is_acknowledged_at _ outcome = false
+
+-- the journal of what is published is removed
+abbrev pub is_acknowledged : Machine → Bool
+is_acknowledged m = is_acknowledged_at m.stage m.outcome
+
 -- with the operation at hand done, at this stage
 abbrev pub advanced : Stage → Machine → Machine
 advanced stage m = record m { stage = stage; done = m.done + 1 }

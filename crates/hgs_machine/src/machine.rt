@@ -4,7 +4,7 @@ ghost use Rattle.std.specs.Option.{option_map};
 ghost use Rattle.hgs_files.specs.Tree.{Tree};
 ghost use Rattle.hgs_machine.specs.Planned.{IsPlanned};
 ghost use Rattle.hgs_machine.specs.Asked.{IsNext, asked, asks_size, bytes_in, is_size_asked_of, makes, op_at_hand, size_question, stray_end, was_made};
-ghost use Rattle.hgs_machine.specs.Fed.{fed, is_cleaning, is_publishing, new_machine};
+ghost use Rattle.hgs_machine.specs.Fed.{fed, is_acknowledged, is_cleaning, is_published, is_publishing, new_machine};
 ghost use Rattle.hgs_machine.specs.declared.ended.Ended.{Ended};
 ghost use Rattle.hgs_machine.specs.declared.machine.Reply.{Reply};
 ghost use Rattle.hgs_machine.specs.SoFar.{Blames, EndsWell, Fits, HasNoSize, SoFar, Steps, questions_left, sweep_from};
@@ -143,6 +143,30 @@ impl Machine {
         ensures { result ≡ is_cleaning self.now }
     {
         matches!(self.stage, Stage::Finishing) && self.done == self.plan.commit as usize
+    }
+
+    /// Whether the publishing operation is done.
+    pub fn is_published(&self) -> bool
+        ensures { result ≡ is_published self.now }
+    {
+        match self.stage {
+            Stage::Finishing => true,
+            Stage::Sweeping | Stage::Removing => matches!(
+                self.outcome,
+                Short::Done | Short::Unfinished(Published::Yes)
+            ),
+            _ => false,
+        }
+    }
+
+    /// Whether the journal of what is published is removed, so that nothing takes it back.
+    pub fn is_acknowledged(&self) -> bool
+        ensures { result ≡ is_acknowledged self.now }
+    {
+        match self.stage {
+            Stage::Sweeping | Stage::Removing => matches!(self.outcome, Short::Done),
+            _ => false,
+        }
     }
 
     /// Whether this transaction made the file.

@@ -8,7 +8,9 @@ use Rattle.hgs_bytes.specs.Theorems.ByteLemmas.{same-eq}
 use Rattle.hgs_files.specs.Tree.{Tree, bytes_at}
 use Rattle.hgs_files.specs.Theorems.TreeLemmas.{bytes_at-is}
 use Rattle.hgs_index.specs.Revision.{Revision}
+use Rattle.hgs_index.specs.Either.{BeginsEither}
 use Rattle.hgs_index.specs.Revlog.{BeginsWithRevisions}
+use Rattle.hgs_index.specs.Theorems.EitherLemmas.{either-more}
 use Rattle.hgs_index.specs.Theorems.RevlogLemmas.{begins-more, length-held}
 use Rattle.hgs_journal.specs.declared.backups.BackupLine.{BackupLine}
 use Rattle.hgs_journal.specs.declared.journal.JournalLine.{JournalLine}
@@ -26,7 +28,7 @@ use Rattle.hgs_phases.specs.declared.roots.Root.{Root}
 use Rattle.hgs_phases.specs.Phases.{phases_by}
 use Rattle.hgs_phases.specs.Roots.{read_roots}
 use Rattle.hgs_stands.specs.Places.{bookmarks_path, changelog_index, changelog_data, dirstate_path, manifest_index, manifest_data, requires_path, roots_path}
-use Rattle.hgs_stands.specs.Shows.{BeginsAt, Shows}
+use Rattle.hgs_stands.specs.Shows.{BeginsApart, BeginsAt, Shows}
 use Rattle.hgs_stands.specs.Stands.{Stands, changeset_entries}
 use Rattle.hgs_stands.specs.Theorems.LooseLemmas.{store-not-loose}
 use Rattle.hgs_stands.specs.Theorems.ShowsLemmas.{stands-shows}
@@ -93,6 +95,11 @@ module _ (u q : Tree) (c : Covers strays u q) where
 
   begins : (index chunks : List ℕ) (revisions : List Revision) → Grown u q index → Grown u q chunks → BeginsAt q index chunks revisions → BeginsAt u index chunks revisions
   begins index chunks revisions gi gd b =
+      subst (λ x. BeginsEither x (bytes_at u chunks) revisions) (sym gi.1)
+      (subst (λ y. BeginsEither (bytes_at q index ++ gi.0) y revisions) (sym gd.1) (either-more (bytes_at q index) (bytes_at q chunks) gi.0 gd.0 revisions b))
+
+  begins-apart : (index chunks : List ℕ) (revisions : List Revision) → Grown u q index → Grown u q chunks → BeginsApart q index chunks revisions → BeginsApart u index chunks revisions
+  begins-apart index chunks revisions gi gd b =
       subst (λ x. BeginsWithRevisions x (bytes_at u chunks) revisions) (sym gi.1)
       (subst (λ y. BeginsWithRevisions (bytes_at q index ++ gi.0) y revisions) (sym gd.1) (begins-more (bytes_at q index) (bytes_at q chunks) gi.0 gd.0 revisions b))
 
@@ -141,7 +148,7 @@ still-shows q v r s c i = record {
   requires = record { text = s.requires.text; there = requires-same v q c ∙ s.requires.there; known = s.requires.known; whole = s.requires.whole };
   revlogs = record {
     whole = whole;
-    changelog = begins v q c changelog_index changelog_data _ (grown v q c changelog_index refl refl refl) (grown v q c changelog_data refl refl refl) shown.revlogs.changelog;
+    changelog = begins-apart v q c changelog_index changelog_data _ (grown v q c changelog_index refl refl refl) (grown v q c changelog_data refl refl refl) shown.revlogs.changelog;
     manifest = begins v q c manifest_index manifest_data _ (grown v q c manifest_index refl refl refl) (grown v q c manifest_data refl refl refl) shown.revlogs.manifest;
     filelogs = revision-files v q c r s;
   };
@@ -170,7 +177,7 @@ loose-shows t u a b r same_file shown = record {
   requires = record { text = shown.requires.text; there = same_file requires_path refl ∙ shown.requires.there; known = shown.requires.known; whole = shown.requires.whole };
   revlogs = record {
     whole = shown.revlogs.whole ∙ ap (λ l. length l / 64) (sym (text changelog_index refl));
-    changelog = moved changelog_index changelog_data _ refl refl shown.revlogs.changelog;
+    changelog = moved-apart changelog_index changelog_data _ refl refl shown.revlogs.changelog;
     manifest = moved manifest_index manifest_data _ refl refl shown.revlogs.manifest;
     filelogs = λ path used. moved (store_name path I) (store_name path D) _ (store-not-loose strays path I refl) (store-not-loose strays path D refl) (shown.revlogs.filelogs path used);
   };
@@ -183,4 +190,7 @@ loose-shows t u a b r same_file shown = record {
     text p e = bytes-same t u p (same_file p e)
 
     moved : (index chunks : List ℕ) (revisions : List Revision) → is_loose strays index ≡ false → is_loose strays chunks ≡ false → BeginsAt t index chunks revisions → BeginsAt u index chunks revisions
-    moved index chunks revisions x y h = subst (λ z. BeginsWithRevisions z (bytes_at u chunks) revisions) (sym (text index x)) (subst (λ z. BeginsWithRevisions (bytes_at t index) z revisions) (sym (text chunks y)) h)
+    moved index chunks revisions x y h = subst (λ z. BeginsEither z (bytes_at u chunks) revisions) (sym (text index x)) (subst (λ z. BeginsEither (bytes_at t index) z revisions) (sym (text chunks y)) h)
+
+    moved-apart : (index chunks : List ℕ) (revisions : List Revision) → is_loose strays index ≡ false → is_loose strays chunks ≡ false → BeginsApart t index chunks revisions → BeginsApart u index chunks revisions
+    moved-apart index chunks revisions x y h = subst (λ z. BeginsWithRevisions z (bytes_at u chunks) revisions) (sym (text index x)) (subst (λ z. BeginsWithRevisions (bytes_at t index) z revisions) (sym (text chunks y)) h)

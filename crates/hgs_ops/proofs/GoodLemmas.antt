@@ -1,9 +1,8 @@
 -- The paths that a commit appends to, and the files that it replaces, are such as its journal and its list may name.
-use Rattle.std.proofs.Common.{◌≡◌, ℕ, List, [], ◌∷◌, ◌++◌, Bool, true, false, refl, map, drop}
-use Rattle.std.specs.Prelude.{length}
+use Rattle.std.proofs.Common.{◌≡◌, ℕ, List, [], ◌∷◌, ◌++◌, Bool, true, false, refl, map}
 use Rattle.std.specs.List.{AllByRecursion}
 use Rattle.hex.specs.Hex.{IsBytes}
-use Rattle.hgs_files.specs.Tree.{Tree, bytes_at}
+use Rattle.hgs_files.specs.Tree.{Tree}
 use Rattle.hgs_index.specs.Revision.{Revision}
 use Rattle.hgs_journal.specs.Covers.{no_repeat}
 use Rattle.hgs_journal.specs.Names.{journal_path}
@@ -17,7 +16,8 @@ use Rattle.hgs_path.specs.Theorems.ReadableLemmas.{listed-small}
 use Rattle.hgs_path.specs.Theorems.ShapeLemmas.{encoded-path, small-of}
 use Rattle.hgs_stands.specs.Places.{changelog_data, changelog_index, fncache_path, manifest_data, manifest_index}
 use Rattle.hgs_stands.specs.Theorems.LooseLemmas.{store-not-loose}
-use Rattle.hgs_ops.specs.Growth.{append_some, filelogs_grow, growth, grown, new_chunks, new_entries, new_items, new_paths}
+use Rattle.hgs_ops.specs.Growth.{append_some, filelog_growth, filelogs_grow, growth, grown, new_data, new_entries, new_paths}
+use Rattle.hgs_ops.specs.Theorems.FileGrowth.{added, form}
 use Rattle.hgs_ops.specs.Operations.{journal_lines, strays}
 use Rattle.hgs_ops.specs.Replaced.{Replacement, dirstate_with, marks_with, roots_with}
 use Rattle.hgs_ops.specs.Theorems.Apart.{fixed, among-part, stores-fixed}
@@ -56,16 +56,16 @@ some-good : (files : List Replacement) (path bytes : List ℕ) → IsGoodPath pa
 some-good files path [] g = tt
 some-good files path (b ∷ bytes) g = (g, tt)
 
-grown-good : (files : List Replacement) (t : Tree) (index data_path : List ℕ) (old all : List Revision) → IsGoodPath index → IsGoodPath data_path → AllByRecursion (IsGood files) (grown t index data_path old all)
-grown-good files t index data_path old all i d =
-    all-join (IsGood files) (append_some data_path (new_chunks (new_items (length (bytes_at t data_path)) old (drop (length old) all)))) (append_some index (new_entries old (new_items (length (bytes_at t data_path)) old (drop (length old) all))))
-    (some-good files data_path (new_chunks (new_items (length (bytes_at t data_path)) old (drop (length old) all))) d) (some-good files index (new_entries old (new_items (length (bytes_at t data_path)) old (drop (length old) all))) i)
+grown-good : (f : Bool) (files : List Replacement) (t : Tree) (index data_path : List ℕ) (old all : List Revision) → IsGoodPath index → IsGoodPath data_path → AllByRecursion (IsGood files) (grown f t index data_path old all)
+grown-good f files t index data_path old all i d =
+    all-join (IsGood files) (append_some data_path (new_data f (added f t index data_path old all))) (append_some index (new_entries f old (added f t index data_path old all)))
+    (some-good files data_path (new_data f (added f t index data_path old all)) d) (some-good files index (new_entries f old (added f t index data_path old all)) i)
 
 filelogs-good : (files : List Replacement) → (t : Tree) (old new : List ℕ → List Revision) (paths : List (List ℕ)) → AllByRecursion IsBytes paths → AllByRecursion (IsGood files) (filelogs_grow t old new paths)
 filelogs-good files t old new [] bytes = tt
 filelogs-good files t old new (q ∷ paths) bytes =
-    all-join (IsGood files) (grown t (store_name q I) (store_name q D) (old q) (new q)) (filelogs_grow t old new paths)
-    (grown-good files t (store_name q I) (store_name q D) (old q) (new q) (store-good q I bytes.0) (store-good q D bytes.0)) (filelogs-good files t old new paths bytes.1)
+    all-join (IsGood files) (filelog_growth t q (old q) (new q)) (filelogs_grow t old new paths)
+    (grown-good (form t old new q) files t (store_name q I) (store_name q D) (old q) (new q) (store-good q I bytes.0) (store-good q D bytes.0)) (filelogs-good files t old new paths bytes.1)
 
 pub growth-good : (files : List Replacement) → (t : Tree) (r next : Repo) → AllByRecursion IsBytes (new_paths r next) → AllByRecursion (IsGood files) (growth t r next)
 growth-good files t r next bytes =
@@ -73,7 +73,7 @@ growth-good files t r next bytes =
     (all-join (IsGood files) (part_files t r next ++ append_some fncache_path (part_lines r next)) (part_manifest t r next)
     (all-join (IsGood files) (part_files t r next) (append_some fncache_path (part_lines r next))
     (filelogs-good files t (history r.changesets).filelog (history next.changesets).filelog (new_paths r next) bytes) (some-good files fncache_path (part_lines r next) fncache-good))
-    (grown-good files t manifest_index manifest_data (history r.changesets).manifest (history next.changesets).manifest manifest-good.0 manifest-good.1))
+    (grown-good false files t manifest_index manifest_data (history r.changesets).manifest (history next.changesets).manifest manifest-good.0 manifest-good.1))
     (some-good files changelog_data (part_data t r next) changelog-good.1)
 
 pub publish-good : IsGoodPath changelog_index

@@ -11,12 +11,13 @@ use Rattle.hgs_bytes.specs.Bytes.{same, among}
 use Rattle.hgs_bytes.specs.Theorems.ByteLemmas.{same-eq}
 use Rattle.hgs_files.specs.Tree.{after_all, bytes_at}
 use Rattle.hgs_index.specs.declared.kinds.Flag.TheVariants.{Plain}
+use Rattle.hgs_index.specs.Either.{chunks_either}
 use Rattle.hgs_model.specs.declared.command.Command.TheVariants.{Commit}
 use Rattle.hgs_model.specs.History.{history, log_with_file, no_history}
 use Rattle.hgs_model.specs.Repo.{TreeFile, empty_repo}
 use Rattle.hgs_model.specs.Step.{answer_at, step}
 use Rattle.hgs_model.specs.Valid.{IsNewChange, IsValid}
-use Rattle.hgs_path.specs.declared.name.Ext.TheVariants.{D}
+use Rattle.hgs_path.specs.declared.name.Ext.TheVariants.{D, I}
 use Rattle.hgs_path.specs.Fncache.{clashes}
 use Rattle.hgs_path.specs.ListedNames.{names_of}
 use Rattle.hgs_path.specs.StoreName.{store_name}
@@ -112,7 +113,8 @@ few path = by (same requires_path path)
 pub first-ready : IsReady bare empty_repo (Commit first_change) one_draft
 first-ready = (
   record {
-    room = record { changesets = most 0 1000000 refl; changelog = most 0 _ refl; manifest = most 0 _ refl; filelogs = λ path used. subst (λ l. length l ≤ 2 ^ 48 - 1) (sym (no-bytes (store_name path D) refl)) (most 0 _ refl) };
+    room = record { changesets = most 0 1000000 refl; changelog = most 0 _ refl; manifest = most 0 _ refl; filelogs = λ path used. subst (λ i. length (chunks_either i (bytes_at bare (store_name path D))) ≤ 2 ^ 48 - 1) (sym (no-bytes (store_name path I) refl)) (subst (λ l. length (chunks_either [] l) ≤ 2 ^ 48 - 1) (sym (no-bytes (store_name path D) refl)) (most 0 _ refl)) };
+    separate = refl;
     changelog = new-changelog;
     manifest = new-manifest;
     filelogs = new-filelogs;

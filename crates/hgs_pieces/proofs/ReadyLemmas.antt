@@ -6,6 +6,8 @@ use Rattle.hgs_bytes.specs.Theorems.ByteLemmas.{same-eq}
 use Rattle.hgs_files.specs.declared.op.Op.{Op}
 use Rattle.hgs_files.specs.declared.op.Op.TheVariants.{Append, Cut, Rename, Remove, Create, Sync, Settle}
 use Rattle.hgs_files.specs.Tree.{Tree, after_all, bytes_at}
+use Rattle.hgs_index.specs.Either.{chunks_either}
+use Rattle.hgs_index.specs.Inline.{is_inline}
 use Rattle.hgs_journal.specs.Covers.{is_loose, journal_paths}
 use Rattle.hgs_journal.specs.Names.{in_store}
 use Rattle.hgs_machine.specs.Locks.{AreLocked}
@@ -15,11 +17,11 @@ use Rattle.hgs_model.specs.declared.command.Command.TheVariants.{Commit, Move, M
 use Rattle.hgs_ops.specs.Operations.{changes_before, journal_lines, journal_of, lock_path, publishing, strays, wlock_path}
 use Rattle.hgs_ops.specs.Unhindered.{CanBeJournalled, IsReady, IsUnhindered}
 use Rattle.hgs_path.specs.declared.name.Ext.{Ext}
-use Rattle.hgs_path.specs.declared.name.Ext.TheVariants.{D}
+use Rattle.hgs_path.specs.declared.name.Ext.TheVariants.{D, I}
 use Rattle.hgs_path.specs.ListedNames.{names_of}
 use Rattle.hgs_path.specs.StoreName.{store_name}
 use Rattle.hgs_revlog.specs.Load.{most_data}
-use Rattle.hgs_stands.specs.Places.{changelog_data, fncache_path, manifest_data}
+use Rattle.hgs_stands.specs.Places.{changelog_data, fncache_path, manifest_data, manifest_index}
 use Rattle.hgs_pieces.proofs.UnderLemmas.{AreSameBeside, AreSameChanges, changes-same, same-beside, store-same}
 
 bytes-of : (o p : Option (List ℕ)) → o ≡ p → unwrap_or o [] ≡ unwrap_or p []
@@ -73,8 +75,9 @@ module _ (stores : (path : List ℕ) (ext : Ext) → is_loose strays (store_name
       changesets = h.room.changesets;
       changelog = subst (λ (b : List ℕ). length b ≤ most_data) (own changelog_data refl refl) h.room.changelog;
       manifest = subst (λ (b : List ℕ). length b ≤ most_data) (own manifest_data refl refl) h.room.manifest;
-      filelogs = λ path new. subst (λ (b : List ℕ). length b ≤ most_data) (stored path D) (h.room.filelogs path new);
+      filelogs = λ path new. subst (λ (b : List ℕ). length b ≤ most_data) (λ i. chunks_either (stored path I i) (stored path D i)) (h.room.filelogs path new);
     };
+    separate = ap is_inline (sym (own manifest_index refl refl)) ∙ h.separate;
     changelog = h.changelog;
     manifest = h.manifest;
     filelogs = h.filelogs;

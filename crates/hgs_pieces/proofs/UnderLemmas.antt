@@ -6,7 +6,8 @@ use Rattle.hgs_bytes.specs.Bytes.{among, same}
 use Rattle.hgs_bytes.specs.Text.{line}
 use Rattle.hgs_files.specs.declared.op.Op.{Op}
 use Rattle.hgs_files.specs.declared.op.Op.TheVariants.{Append, Rename}
-use Rattle.hgs_files.specs.Tree.{Tree, after_all}
+use Rattle.hgs_files.specs.Tree.{Tree, after_all, bytes_at}
+use Rattle.hgs_index.specs.Either.{chunk_bytes}
 use Rattle.hgs_index.specs.Revision.{Revision}
 use Rattle.hgs_journal.specs.Names.{locks, new_name, place}
 use Rattle.hgs_journal.specs.Covers.{is_loose}
@@ -16,7 +17,7 @@ use Rattle.hgs_model.specs.History.{history}
 use Rattle.hgs_model.specs.Repo.{Repo}
 use Rattle.hgs_model.specs.declared.command.Command.{Command}
 use Rattle.hgs_model.specs.declared.command.Command.TheVariants.{Commit, Move, Mark, Unmark}
-use Rattle.hgs_ops.specs.Growth.{append_some, filelogs_grow, grown, growth, new_changelog_entry, new_chunks, new_entries, new_items, new_names, new_paths}
+use Rattle.hgs_ops.specs.Growth.{append_some, filelog_growth, filelogs_grow, grown, growth, grows_inline, new_changelog_entry, new_chunks, new_data, new_entries, new_items, new_names, new_paths}
 use Rattle.hgs_ops.specs.Operations.{changes_before, lock_path, publishing, strays, wlock_path}
 use Rattle.hgs_ops.specs.Replaced.{new_rename, new_roots, roots_change}
 use Rattle.hgs_ops.specs.Theorems.CommitLemmas.{growth-quiet}
@@ -150,27 +151,33 @@ parts-same t u r command next p beside same are =
 pub store-same : ((path : List ℕ) (ext : Ext) → is_loose strays (store_name path ext) ≡ false) → (t u : Tree) → AreSameBeside t u → (path : List ℕ) (ext : Ext) → u (store_name path ext) ≡ t (store_name path ext)
 store-same stores t u beside path ext = let n = not-lock (store_name path ext) (left-false (among (store_name path ext) locks) (among (store_name path ext) strays) (stores path ext)) in beside (store_name path ext) n.0 n.1
 
-grown-same : (t u : Tree) (index data_path : List ℕ) (old all : List Revision) → u data_path ≡ t data_path → grown u index data_path old all ≡ grown t index data_path old all
-grown-same t u index data_path old all e =
-    ap (λ (o : Option (List ℕ)). (let items = new_items (length (unwrap_or o [])) old (drop (length old) all) in append_some data_path (new_chunks items) ++ append_some index (new_entries old items))) e
+grown-same : (inline : Bool) (t u : Tree) (index data_path : List ℕ) (old all : List Revision) → u index ≡ t index → u data_path ≡ t data_path → grown inline u index data_path old all ≡ grown inline t index data_path old all
+grown-same inline t u index data_path old all i d =
+    let growing = λ (x y : Option (List ℕ)). (let items = new_items (length (chunk_bytes inline (unwrap_or x []) (unwrap_or y []))) old (drop (length old) all) in append_some data_path (new_data inline items) ++ append_some index (new_entries inline old items)) in
+    ap (λ x. growing x (u data_path)) i ∙ ap (growing (t index)) d
+
+filelog-same : (t u : Tree) (path : List ℕ) (old all : List Revision) → u (store_name path I) ≡ t (store_name path I) → u (store_name path D) ≡ t (store_name path D) → filelog_growth u path old all ≡ filelog_growth t path old all
+filelog-same t u path old all i d =
+    ap (λ (x : Option (List ℕ)). grown (grows_inline (unwrap_or x []) old all) u (store_name path I) (store_name path D) old all) i
+    ∙ grown-same (grows_inline (bytes_at t (store_name path I)) old all) t u (store_name path I) (store_name path D) old all i d
 
 growth-same : ((path : List ℕ) (ext : Ext) → is_loose strays (store_name path ext) ≡ false) → (t u : Tree) (r next : Repo) → AreSameBeside t u → growth u r next ≡ growth t r next
 growth-same stores t u r next beside =
     let old = history r.changesets in
     let new = history next.changesets in
     let files : filelogs_grow u old.filelog new.filelog (new_paths r next) ≡ filelogs_grow t old.filelog new.filelog (new_paths r next) =
-    ap (λ (f : List ℕ → List Op). flat_map f (new_paths r next)) (λ i path. grown-same t u (store_name path I) (store_name path D) (old.filelog path) (new.filelog path) (store-same stores t u beside path D) i) in
-    let manifest = grown-same t u manifest_index manifest_data old.manifest new.manifest (beside manifest_data refl refl) in
-    let lines = append_some fncache_path (flat_map line (new_names old.filelog (new_paths r next))) in
+    ap (λ (f : List ℕ → List Op). flat_map f (new_paths r next)) (λ i path. filelog-same t u path (old.filelog path) (new.filelog path) (store-same stores t u beside path I) (store-same stores t u beside path D) i) in
+    let manifest = grown-same false t u manifest_index manifest_data old.manifest new.manifest (beside manifest_index refl refl) (beside manifest_data refl refl) in
+    let lines = append_some fncache_path (flat_map line (new_names old.filelog new.filelog (new_paths r next))) in
     let entries = λ (o : Option (List ℕ)). append_some changelog_data (new_chunks (new_items (length (unwrap_or o [])) old.changelog (drop (length old.changelog) new.changelog))) in
-    ap (λ l. l ++ lines ++ grown u manifest_index manifest_data old.manifest new.manifest ++ entries (u changelog_data)) files
+    ap (λ l. l ++ lines ++ grown false u manifest_index manifest_data old.manifest new.manifest ++ entries (u changelog_data)) files
     ∙ ap (λ l. filelogs_grow t old.filelog new.filelog (new_paths r next) ++ lines ++ l ++ entries (u changelog_data)) manifest
-    ∙ ap (λ o. filelogs_grow t old.filelog new.filelog (new_paths r next) ++ lines ++ grown t manifest_index manifest_data old.manifest new.manifest ++ entries o) (beside changelog_data refl refl)
+    ∙ ap (λ o. filelogs_grow t old.filelog new.filelog (new_paths r next) ++ lines ++ grown false t manifest_index manifest_data old.manifest new.manifest ++ entries o) (beside changelog_data refl refl)
 
 entry-same : (t u : Tree) (r next : Repo) → AreSameBeside t u → new_changelog_entry u r next ≡ new_changelog_entry t r next
 entry-same t u r next beside =
     let old = (history r.changesets).changelog in
-    ap (λ (o : Option (List ℕ)). new_entries old (new_items (length (unwrap_or o [])) old (drop (length old) (history next.changesets).changelog))) (beside changelog_data refl refl)
+    ap (λ (o : Option (List ℕ)). new_entries false old (new_items (length (unwrap_or o [])) old (drop (length old) (history next.changesets).changelog))) (beside changelog_data refl refl)
 
 roots-untouched : (b : Bool) (next : Repo) (q : List ℕ) → touched q (new_rename (new_roots next) ∷ []) ≡ false → touched q (if b then new_rename (new_roots next) ∷ [] else []) ≡ false
 roots-untouched true next q e = e

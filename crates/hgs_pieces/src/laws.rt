@@ -13,8 +13,9 @@ ghost use Rattle.hgs_model.specs.Step.{Answer, step};
 ghost use Rattle.hgs_model.specs.Valid.{IsValid};
 ghost use Rattle.hgs_model.specs.declared.command.Command.{Command};
 ghost use Rattle.hgs_bytes.specs.Bytes.{same};
-ghost use Rattle.hgs_ops.specs.Operations.{lock_path, wlock_path};
+ghost use Rattle.hgs_ops.specs.Operations.{lock_path, strays, wlock_path};
 ghost use Rattle.hgs_ops.specs.Unhindered.{IsReady};
+ghost use Rattle.hgs_stands.specs.Open.{IsOpen};
 ghost use Rattle.hgs_stands.specs.Stands.{Stands};
 ghost use Rattle.hgs_pieces.specs.Made.{HasNoLocks, HasNoStrays, IsOver, IsPieceOf};
 ghost use Rattle.hgs_journal.specs.Names.{journal_path};
@@ -24,6 +25,7 @@ ghost use Rattle.hgs_transaction.specs.OfTransaction.{ArePartsOf};
 ghost use Rattle.hgs_transaction.specs.declared.assemble.Plan.{Plan};
 ghost use Rattle.hgs_transaction.specs.declared.parts.Parts.{Parts};
 
+use hgs_journal::laws::{transactions_stay_covered, undo_leads_back};
 use hgs_ops::laws::strays_are_apart;
 use hgs_stands::laws::{files_are_not_loose, other_files_do_not_matter};
 use hgs_transaction::laws::plans_are_transactions;
@@ -67,6 +69,14 @@ pub fn refusals_are_for_files()
     ensures free { (who : List ℕ) (t : Tree) (locking : List Op) → AreLocked who t locking → HasNoLocks t }
     ensures no_journal { (who : List ℕ) (t : Tree) (locking : List Op) → AreLocked who t locking → t journal_path ≡ None }
 {}
+
+/// A tree that is open for a repository stays so behind a writer that did not get the locks, where all was swept.
+pub fn turned_away_writers_keep_open_trees()
+    ensures { (t : Tree) (r : Repo) (who : List ℕ) (why : LockRefusal) (log : List Op) → IsOpen strays t r → IsTurnedAway who t why true log → IsOpen strays (after_all log t) r }
+{
+    transactions_stay_covered();
+    undo_leads_back();
+}
 
 /// Where the locks were taken, the tree under them has the other files that it had, and stands for what it stood for before;
 /// the parts of a transaction of it are those of the tree without the locks, and what hinders none there hinders none here.

@@ -1,10 +1,13 @@
 -- A commit is answered as the repository answers it.
-use Rattle.std.proofs.Common.{◌≡◌, ℕ, List, [], ◌++◌, length, refl, sym, ◌∙◌, ap, subst, arith}
+use Rattle.std.proofs.Common.{◌≡◌, ℕ, List, [], ◌∷◌, ◌++◌, Bool, true, false, ◌||◌, cond, length, refl, sym, ◌∙◌, ap, subst, arith}
 use Rattle.std.specs.Prelude.{◌<◌, ◌≤◌, ◌^◌, Option, Some, None, IfSome, Result, Ok, Err}
-use Rattle.hgs_files.specs.Tree.{Tree}
+use Rattle.hgs_files.specs.Tree.{Tree, bytes_at}
 use Rattle.hgs_index.specs.ChangeText.{change_text}
+use Rattle.hgs_index.specs.Either.{chunks_either}
+use Rattle.hgs_index.specs.declared.kinds.Which.TheVariants as limits
 use Rattle.hgs_index.specs.Manifest.{manifest_text}
 use Rattle.hgs_index.specs.Revision.{Parents, Revision, standing}
+use Rattle.hgs_index.specs.Theorems.EitherLemmas.{separate-holds}
 use Rattle.hgs_loading.specs.Found.{and_then}
 use Rattle.hgs_model.specs.History.{History, changeset_revision, first_of, history}
 use Rattle.hgs_model.specs.IsRepo.{IsRepo}
@@ -15,14 +18,17 @@ use Rattle.hgs_model.specs.declared.command.Command.TheVariants.{Commit}
 use Rattle.hgs_model.specs.declared.command.NewChange.{NewChange}
 use Rattle.hgs_model.specs.declared.command.Refusal.{Refusal}
 use Rattle.hgs_model.specs.Theorems.HistoryLemmas.{history-push, length-changelog}
+use Rattle.hgs_ops.specs.Theorems.Touch.{or-right}
 use Rattle.hgs_ops.specs.Unhindered.{IsReady}
 use Rattle.hgs_load.specs.declared.answer.ReadAnswer.{ReadAnswer}
 use Rattle.hgs_revlog.specs.Add.{next_entry}
 use Rattle.hgs_revlog.specs.Load.{most_revisions}
-use Rattle.hgs_stands.specs.Places.{changelog_data, manifest_data}
+use Rattle.hgs_revlog.specs.Log.{stored_sum}
+use Rattle.hgs_stands.specs.Places.{changelog_data, changelog_index, manifest_data, manifest_index}
 use Rattle.hgs_stands.specs.Stands.{Stands}
 use Rattle.hgs_transaction.specs.declared.parts.Replacing.{Replacing}
 use Rattle.hgs_steps.specs.Parents.{named_all, parents_answer}
+use Rattle.hgs_steps.specs.Loaded.{has_inline}
 use Rattle.hgs_steps.specs.Planned.{IsLoadedOf, IsStepOf}
 use Rattle.hgs_steps.specs.Steps.{as_fault}
 use Rattle.hgs_steps.specs.declared.fault.PlanFault.{PlanFault}
@@ -30,8 +36,8 @@ use Rattle.hgs_steps.specs.declared.fault.PlanFault.TheVariants.{Refused as refu
 use Rattle.hgs_steps.specs.declared.loaded.Loaded.{Loaded}
 use Rattle.hgs_steps.specs.declared.step.Step.{Step}
 use Rattle.hgs_commit.specs.Changeset.{change_of, changeset_in, manifest_in, of_changelog, of_manifest}
-use Rattle.hgs_commit.specs.Commit.{ClashBy, ClashOn, OfTexts, accepted, and_plan, commit_in, grown_in, or_refused, or_unread, planned, refusal_with, replaced_after, step_of, step_on, step_with, tested, texts_in, trees_in, too_many_marks, written_new, written_unless, written_with}
-use Rattle.hgs_commit.specs.Obstacles.{Met, Obstacle, noted, nothing_met}
+use Rattle.hgs_commit.specs.Commit.{ClashBy, ClashOn, OfTexts, accepted, and_plan, commit_in, grown_in, inline_logs, or_refused, or_unread, planned, refusal_with, replaced_after, step_of, step_on, step_with, tested, texts_in, trees_in, too_many_marks, written_new, written_unless, written_with}
+use Rattle.hgs_commit.specs.Obstacles.{Met, Obstacle, noted, nothing_met, passes}
 use Rattle.hgs_commit.specs.Texts.{OfGrowth, OfText}
 use Rattle.hgs_commit.specs.Trees.{OfGrown}
 use Rattle.hgs_commit.specs.declared.fault.CommitFault.{CommitFault}
@@ -46,8 +52,9 @@ use Rattle.hgs_planned.specs.Ready.{NeedsNoTest}
 use Rattle.hgs_planned.specs.StepsBelow.{StepsBelow}
 use Rattle.hgs_planned.specs.Trees.{AreBelow, AreTextsOf, IsTreeOf}
 use Rattle.hgs_planned.proofs.Basics.{IsLimited, both, ok-is}
+use Rattle.hgs_planned.proofs.FormLemmas.{count-is}
 use Rattle.hgs_planned.proofs.FreeLemmas.{grown-free, marks-free, marks-given}
-use Rattle.hgs_planned.proofs.GrowthLemmas.{count-is}
+use Rattle.hgs_planned.proofs.LogLemmas.{chunks-sum}
 use Rattle.hgs_planned.proofs.MetLemmas.{all-none}
 use Rattle.hgs_planned.proofs.NewTextLemmas.{text-of}
 use Rattle.hgs_planned.proofs.NextLemmas.{next, next-manifest, node-is}
@@ -98,7 +105,7 @@ answer-of r c n o = refused_where o >>= λ unchanged. Ok (done_at (with_new r c 
 module _ (laws : Below) (more : StepsBelow) (t : Tree) (r : Repo) (l : Loaded) (s : Stands t r) (loads : IsLoadedOf t l) (changelog : IsLogOf t (of_changelog l.changelog) (history r.changesets).changelog) (changelog_whole : IsWhole t (of_changelog l.changelog)) (manifest : IsLogOf t (of_manifest l.manifest) (history r.changesets).manifest) (manifest_whole : IsWhole t (of_manifest l.manifest))
     (n : NewChange) (good : IsNewChange n) (clash : Option (List ℕ)) (parents : Parents) (below : AreBelow (length r.changesets) parents)
     (files : (x : OfGrown × Parents) → grown_in l n parents t ≡ Ok (x, []) → AreGrownFilesOf t r (next r n parents) x.0) (keeps : nothing_changed r (new_changeset (history r.changesets) parents n) ≡ None → IsRepo (next r n parents))
-    (is_ready : (x : OfGrown × Parents) (z : OfTexts) → grown_in l n parents t ≡ Ok (x, []) → texts_in l n parents x.0 x.1 t ≡ Ok (z, []) → ClashOn l (trees_in l n parents t) None None → NeedsNoTest t r (next r n parents) → IsReady t r (Commit n) (next r n parents)) where
+    (is_ready : (x : OfGrown × Parents) (z : OfTexts) → has_inline l ≡ false → grown_in l n parents t ≡ Ok (x, []) → texts_in l n parents x.0 x.1 t ≡ Ok (z, []) → ClashOn l (trees_in l n parents t) None None → NeedsNoTest t r (next r n parents) → IsReady t r (Commit n) (next r n parents)) where
   -- it was told whether names clash
   abbrev IsTold : Type 0
   IsTold = ClashOn l (trees_in l n parents t) None clash
@@ -118,40 +125,60 @@ module _ (laws : Below) (more : StepsBelow) (t : Tree) (r : Repo) (l : Loaded) (
   abbrev same-parent : Option ℕ
   same-parent = unchanged_from r.changesets parents.0 parents.1 c.tree
 
+  changelog_separate : l.changelog.inline ≡ false
+  changelog_separate = more.separate t r l s loads
+
+  changelog_sum : length (chunks_either (bytes_at t changelog_index) (bytes_at t changelog_data)) ≡ stored_sum l.changelog.entries
+  changelog_sum = chunks-sum laws t (of_changelog l.changelog) h.changelog (separate-holds (bytes_at t changelog_index) (bytes_at t changelog_data) h.changelog s.revlogs.changelog) loads.changelog
+
+  manifest_sum : length (chunks_either (bytes_at t manifest_index) (bytes_at t manifest_data)) ≡ stored_sum l.manifest.entries
+  manifest_sum = chunks-sum laws t (of_manifest l.manifest) h.manifest s.revlogs.manifest loads.manifest
+
   count : length l.changelog.entries ≡ length r.changesets
   count = count-is t (of_changelog l.changelog) h.changelog changelog ∙ length-changelog r s.repository
 
   module _ (y : (OfGrown × Parents) × List Obstacle) (e : grown_in l n parents t ≡ Ok y) (z : OfTexts × List Obstacle) (texts_is : texts_in l n parents y.0.0 y.0.1 t ≡ Ok z) (texts : AreTextsOf l h c z) (tree : IsTreeOf h c y.0) where
     abbrev met : Met
-    met = noted (noted (noted nothing_met (too_many_marks l n)) y.1) z.1
+    met = noted (noted (noted (noted nothing_met (too_many_marks l n)) y.1) z.1) (inline_logs l)
+
+    -- the manifest is separate where nothing was told of the form
+    separate-by : inline_logs l ≡ [] → has_inline l ≡ false
+    separate-by = by (has_inline l)
+      where
+        by : (b : Bool) → (let os : List Obstacle = cond b (passes limits.Inline ∷ []) [] in os) ≡ [] → b ≡ false
+        by true h = cc
+        by false h = refl
 
     -- where nothing was met it is the step of the repository
-    step-of : IsRepo then-next → equal-one ≡ None → too_many_marks l n ≡ [] → y.1 ≡ [] → z.1 ≡ [] → (g : OfGrowth) → z.0.changeset.growth ≡ Some g → (after : List Replacing) → replaced_after l n z.0.changeset.node ≡ Ok after → IsStepOf t r (Commit n) (done_at then-next (length r.changesets)) (step_with l n parents (written_with z.0 g) after)
-    step-of next_is new few free texts_free g grown after after_is =
+    step-of : IsRepo then-next → equal-one ≡ None → too_many_marks l n ≡ [] → y.1 ≡ [] → z.1 ≡ [] → inline_logs l ≡ [] → (g : OfGrowth) → z.0.changeset.growth ≡ Some g → (after : List Replacing) → replaced_after l n z.0.changeset.node ≡ Ok after → IsStepOf t r (Commit n) (done_at then-next (length r.changesets)) (step_with l n parents (written_with z.0 g) after)
+    step-of next_is new few free texts_free plain g grown after after_is =
+        let manifest_separate = or-right l.changelog.inline l.manifest.inline (separate-by plain) in
         let made = texts-made l n parents y.0.0 y.0.1 t z texts_is in
         let asked : Revision = record { text = change_text (change_of n made.manifest.0.node y.0.0.changed); parents = parents; link = length l.changelog.entries } in
         let node = texts.node ∙ node-is r n parents new in
         let first = subst (λ (k : ℕ). IfSome parents.0 (λ p. p < k)) (sym count) below.first in
         let second = subst (λ (k : ℕ). IfSome parents.1 (λ p. p < k)) (sym count) below.second in
-        let pushed = pushed-of more t (of_changelog l.changelog) asked made.changeset g changelog.separate first second (some-number l t h.changelog changelog) made.changeset_is (ap (λ (x : OfTexts × List Obstacle). x.0.changeset.growth) made.are ∙ grown) in
-        step-is t r l loads n parents y.0.0 (written_with z.0 g) new changelog changelog_whole manifest manifest_whole (record {
+        let pushed = pushed-of more t (of_changelog l.changelog) asked made.changeset g changelog_separate first second (some-number l t h.changelog changelog) made.changeset_is (ap (λ (x : OfTexts × List Obstacle). x.0.changeset.growth) made.are ∙ grown) in
+        step-is t r l loads n parents y.0.0 (written_with z.0 g) new changelog changelog_whole manifest manifest_whole changelog_separate manifest_separate (record {
           files = files y.0 (e ∙ ap (λ (os : List Obstacle). Ok (y.0, os)) free);
           filelogs = ap (λ (x : OfTexts × List Obstacle). x.0.filelogs) (sym made.are);
           lines = ap (λ (x : OfTexts × List Obstacle). x.0.lines) (sym made.are);
           manifest = texts.manifest texts_free;
           changeset = sym grown ∙ texts.changeset texts_free ∙ ap (growth_by (of_changelog l.changelog) (changeset_revision h c)) new;
         }) after (next_entry l.changelog.entries asked) more s next_is count node pushed.entries (sym pushed.node ∙ ap (λ (x : OfTexts × List Obstacle). x.0.changeset.node) made.are ∙ node) refl
-        (behind-are more t r l s loads n parents new z.0.changeset.node after node few after_is)
+        (behind-are more t r l s loads n parents new z.0.changeset.node after node few after_is) (sym (more.form t r l s loads) ∙ manifest_separate)
 
     -- where there is room for it nothing was met
     nothing-met : IsFree t r then-next → met ≡ nothing_met
     nothing-met free =
         let marks = marks-free more t r l n parents s loads free.bookmarks in
         let grown = grown-free laws t r l s loads changelog manifest n parents y good.ordered below free e in
-        let manifest_room = subst (HasRoomFor t manifest_data h.manifest) (next-manifest r n parents) free.manifest in
-        let changelog_room = subst (λ (k : History). HasRoomFor t changelog_data h.changelog k.changelog) (history-push r.changesets c) free.changelog in
-        let both_texts = texts-free t r l s changelog manifest n parents y.0.0 y.0.1 tree manifest_whole.chunks changelog_whole.chunks manifest_room changelog_room z texts_is in
-        λ i. noted (noted (noted nothing_met (marks i)) (grown i)) (both_texts i)
+        let manifest_room = subst (HasRoomFor t manifest_index manifest_data h.manifest) (next-manifest r n parents) free.manifest in
+        let changelog_room = subst (λ (k : History). HasRoomFor t changelog_index changelog_data h.changelog k.changelog) (history-push r.changesets c) free.changelog in
+        let both_texts = texts-free t r l s changelog manifest n parents y.0.0 y.0.1 tree manifest_sum changelog_sum manifest_room changelog_room z texts_is in
+        let plain : has_inline l ≡ false = (let a = changelog_separate in let b = more.form t r l s loads ∙ free.separate in λ i. a i || b i) in
+        let logs = ap (λ b. let os : List Obstacle = cond b (passes limits.Inline ∷ []) [] in os) plain in
+        λ i. noted (noted (noted (noted nothing_met (marks i)) (grown i)) (both_texts i)) (logs i)
 
     -- where it is accepted
     accepted-answer : IsRepo then-next → equal-one ≡ None → (refusal : Result (Unit {0}) PlanFault) → refusal_with met clash ≡ refusal
@@ -160,15 +187,15 @@ module _ (laws : Below) (more : StepsBelow) (t : Tree) (r : Repo) (l : Loaded) (
         refused-by (IsFree t r then-next) met.limit clash met.in_the_way met.collision fault (λ free. (ap (λ (m : Met). m.limit) (nothing-met free), ap (λ (m : Met). m.in_the_way) (nothing-met free), ap (λ (m : Met). m.collision) (nothing-met free))) refusal
     accepted-answer next_is new (Ok free) refusal = by z.0.changeset.growth (texts.changeset none.2 ∙ ap (growth_by (of_changelog l.changelog) (changeset_revision h c)) new) refl
       where
-        none : (too_many_marks l n ≡ []) × (y.1 ≡ []) × (z.1 ≡ []) × (clash ≡ None)
-        none = all-none (too_many_marks l n) y.1 z.1 clash refusal
+        none : (too_many_marks l n ≡ []) × (y.1 ≡ []) × (z.1 ≡ []) × (inline_logs l ≡ []) × (clash ≡ None)
+        none = all-none (too_many_marks l n) y.1 z.1 (inline_logs l) clash refusal
 
         replaced : (g : OfGrowth) → z.0.changeset.growth ≡ Some g → (after : Result (List Replacing) PlanFault) → replaced_after l n z.0.changeset.node ≡ after
             → AnswersWith IsTold t r n clash (or_refused (and_plan after (λ xs. Ok (step_with l n parents (written_with z.0 g) xs))) accepted) (Ok (done_at then-next (length r.changesets)))
         replaced g grown (Err fault) is = marks-refused (IsFree t r then-next) l n z.0.changeset.node clash fault (λ free. marks-given more t r l n parents s loads free.bookmarks z.0.changeset.node fault is) is
         replaced g grown (Ok after) is = record {
-          as_step = step-of next_is new none.0 none.1 none.2 g grown after is;
-          ready = λ told. is_ready y.0 z.0 (e ∙ ap (λ (os : List Obstacle). Ok (y.0, os)) none.1) (texts_is ∙ ap (λ (os : List Obstacle). Ok (z.0, os)) none.2) (subst (ClashOn l (trees_in l n parents t) None) none.3 told);
+          as_step = step-of next_is new none.0 none.1 none.2 none.3 g grown after is;
+          ready = λ told. is_ready y.0 z.0 (separate-by none.3) (e ∙ ap (λ (os : List Obstacle). Ok (y.0, os)) none.1) (texts_is ∙ ap (λ (os : List Obstacle). Ok (z.0, os)) none.2) (subst (ClashOn l (trees_in l n parents t) None) none.4 told);
         }
 
         by : (o : Option OfGrowth) → z.0.changeset.growth ≡ growth_by (of_changelog l.changelog) (changeset_revision h c) None → z.0.changeset.growth ≡ o → AnswersWith IsTold t r n clash (or_refused (and_plan (written_new z.0 o) (λ w. step_of l n parents w)) accepted) (Ok (done_at then-next (length r.changesets)))
@@ -230,7 +257,7 @@ pub commit-answers : (laws : Below) (more : StepsBelow) (t : Tree) (r : Repo) (l
     → (n : NewChange) → IsNewChange n → (clash : Option (List ℕ)) → ((e : Refusal) → model_named_all r n.parents ≡ Err e → (commit_in clash l n t ≡ Err (Refused (refused_for e))) × (step r (Commit n) ≡ Err e))
     → ((revs : List ℕ) → model_named_all r n.parents ≡ Ok revs → (commit_in clash l n t ≡ step_on clash l n (as_parents revs) t) × AreBelow (length r.changesets) (as_parents revs))
     → ((parents : Parents) (x : OfGrown × Parents) → AreBelow (length r.changesets) parents → grown_in l n parents t ≡ Ok (x, []) → AreGrownFilesOf t r (next r n parents) x.0)
-    → ((parents : Parents) (x : OfGrown × Parents) (z : OfTexts) → AreBelow (length r.changesets) parents → grown_in l n parents t ≡ Ok (x, []) → texts_in l n parents x.0 x.1 t ≡ Ok (z, []) → ClashOn l (trees_in l n parents t) None None → NeedsNoTest t r (next r n parents) → IsReady t r (Commit n) (next r n parents))
+    → ((parents : Parents) (x : OfGrown × Parents) (z : OfTexts) → AreBelow (length r.changesets) parents → has_inline l ≡ false → grown_in l n parents t ≡ Ok (x, []) → texts_in l n parents x.0 x.1 t ≡ Ok (z, []) → ClashOn l (trees_in l n parents t) None None → NeedsNoTest t r (next r n parents) → IsReady t r (Commit n) (next r n parents))
     → named_all l n.parents ≡ model_named_all r n.parents → AnswersAs t r l n clash (commit_in clash l n t) (step r (Commit n))
 commit-answers laws more t r l s loads changelog changelog_whole manifest manifest_whole n good clash unknown known files is_ready names = by (model_named_all r n.parents) refl
   where

@@ -5,14 +5,14 @@ use Rattle.std.specs.Prelude.{◌<◌, Option, Some, None, IfSome, Result, Ok, E
 use Rattle.std.specs.List.{AllByRecursion}
 use Rattle.hgs_bytes.specs.Bytes.{same}
 use Rattle.hgs_bytes.specs.Theorems.ByteLemmas.{same-eq}
-use Rattle.hgs_files.specs.Tree.{Tree, bytes_at}
+use Rattle.hgs_files.specs.Tree.{Tree}
 use Rattle.hgs_index.specs.declared.entry.Entry.{Entry}
 use Rattle.hgs_index.specs.FileText.{body_of, prefix_of}
 use Rattle.hgs_index.specs.Revision.{Parents, Revision}
 use Rattle.hgs_index.specs.Revlog.{chunk_text}
 use Rattle.hgs_index.specs.Theorems.FileTextLemmas.{unpacked-joins}
 use Rattle.hgs_loading.specs.Found.{and_then}
-use Rattle.hgs_loading.specs.Logs.{text_in}
+use Rattle.hgs_loading.specs.Logs.{chunk_in_form}
 use Rattle.hgs_manifest.specs.Held.{found_in}
 use Rattle.hgs_model.specs.History.{History, Placed, file_parents, file_parents_of, kept_of, node_at, placed_at, placed_file, row_of, text_at}
 use Rattle.hgs_model.specs.Theorems.CountLemmas.{IsSound}
@@ -24,12 +24,12 @@ use Rattle.hgs_revlog.specs.Held.{chunk_in}
 use Rattle.hgs_revlog.specs.Loaded.{parents_in as entry_parents}
 use Rattle.hgs_revlog.specs.Log.{place_of}
 use Rattle.hgs_revlog.specs.Text.{entry_text, fitting_text, node_with, text_at as text_with, text_of}
-use Rattle.hgs_commit.specs.Files.{is_shorter, kept_in, known_rev, node_in, parents_by, rev_of_node}
+use Rattle.hgs_commit.specs.Files.{is_shorter, kept_by, kept_in, known_rev, node_in, parents_by, rev_of_node}
 use Rattle.hgs_commit.specs.Texts.{OfLog}
 use Rattle.hgs_commit.specs.Walk.{Told}
 use Rattle.hgs_planned.specs.Files.{files_at, told_at}
-use Rattle.hgs_planned.specs.Logs.{IsLogOf}
-use Rattle.hgs_planned.proofs.TextLemmas.{entry-of, place-of, text-in}
+use Rattle.hgs_planned.specs.Logs.{IsLogOf, held_chunks}
+use Rattle.hgs_planned.proofs.TextLemmas.{entry-of, place-of, text-of-chunk}
 
 -- ---- the row of a path
 
@@ -129,14 +129,14 @@ kept-is t f revisions None b body is low = refl
 kept-is t f revisions (Some rev) (Some other) body is low = refl
 kept-is t f revisions (Some rev) None body is low = ap (λ (o : Option Entry). read (is_shorter o body)) e.1 ∙ by (nat_lt e.0.size (length body)) refl
   where
-    e : (x : Entry) × (slice_get f.log.entries rev ≡ Some x) × (text_of f.log.entries rev (chunk_in (bytes_at t f.chunks) x) ≡ Ok (text_at revisions rev))
+    e : (x : Entry) × (slice_get f.log.entries rev ≡ Some x) × (text_of f.log.entries rev (chunk_in (held_chunks t f) x) ≡ Ok (text_at revisions rev))
     e = entry-of t f revisions rev is low
 
     read : Bool → Result (Option ℕ) ReadAnswer
-    read z = cond z (Ok None) (and_then (text_in f.index f.chunks f.log.entries rev t) (λ text. Ok (cond (same (body_of text) body) (Some rev) None)))
+    read z = cond z (Ok None) (kept_by f rev body (text_of f.log.entries rev (chunk_in_form f.index f.chunks f.log rev t)))
 
     size : length (text_at revisions rev) ≡ e.0.size
-    size = entry-size f.log.entries rev (chunk_in (bytes_at t f.chunks) e.0) e.0 (text_at revisions rev) (ap (text_with f.log.entries rev (chunk_in (bytes_at t f.chunks) e.0)) (sym e.1) ∙ e.2)
+    size = entry-size f.log.entries rev (chunk_in (held_chunks t f) e.0) e.0 (text_at revisions rev) (ap (text_with f.log.entries rev (chunk_in (held_chunks t f) e.0)) (sym e.1) ∙ e.2)
 
     shorter : nat_lt e.0.size (length body) ≡ true → length (text_at revisions rev) < length body
     shorter h = omega (arith, size, less h)
@@ -146,4 +146,4 @@ kept-is t f revisions (Some rev) None body is low = ap (λ (o : Option Entry). r
 
     by : (z : Bool) → nat_lt e.0.size (length body) ≡ z → read z ≡ Ok (kept_of revisions (Some rev) None body)
     by true h = ap (λ (z : Bool). Ok (cond z (Some rev) None)) (sym (no-body (text_at revisions rev) body (shorter h)))
-    by false h = ap (λ (x : Result (List ℕ) ReadAnswer). and_then x (λ text. Ok (cond (same (body_of text) body) (Some rev) None))) (text-in t f revisions rev is low)
+    by false h = ap (kept_by f rev body) (text-of-chunk t f revisions rev is low)

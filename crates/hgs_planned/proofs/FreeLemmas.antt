@@ -16,7 +16,7 @@ use Rattle.hgs_index.specs.FileText.{plain_prefix}
 use Rattle.hgs_index.specs.Revision.{Parents, Revision, with_revision}
 use Rattle.hgs_index.specs.declared.kinds.Which.TheVariants as limits
 use Rattle.hgs_loading.specs.Found.{and_then}
-use Rattle.hgs_loading.specs.Logs.{data_in}
+use Rattle.hgs_loading.specs.Logs.{either_data_in}
 use Rattle.hgs_manifest.specs.Held.{found_in}
 use Rattle.hgs_marks.specs.Bookmarks.{Mark, node_of, with_mark}
 use Rattle.hgs_model.specs.History.{History, changeset_nodes, file_parents, filelog_with, first_of, history, kept, uses}
@@ -42,7 +42,7 @@ use Rattle.hgs_steps.specs.declared.fault.PlanFault.TheVariants as faults
 use Rattle.hgs_steps.specs.declared.loaded.Loaded.{Loaded}
 use Rattle.hgs_commit.specs.Changeset.{of_changelog, of_manifest}
 use Rattle.hgs_commit.specs.Commit.{and_plan, grown_in, mark_count, marks_after, replaced_after, too_many_marks}
-use Rattle.hgs_commit.specs.Files.{OfFile, file_in, file_with, filelog_with as filelog_at, kept_file, place_in, row_with, standing_at}
+use Rattle.hgs_commit.specs.Files.{OfFile, file_in, file_with, formed, filelog_with as filelog_at, kept_file, place_in, row_with, standing_at}
 use Rattle.hgs_commit.specs.Obstacles.{Obstacle, passes, stands}
 use Rattle.hgs_commit.specs.Texts.{OfLog, OfText, new_text_in}
 use Rattle.hgs_commit.specs.Tree.{OfFiles, with_first}
@@ -57,9 +57,9 @@ use Rattle.hgs_planned.specs.StepsBelow.{StepsBelow}
 use Rattle.hgs_planned.specs.Trees.{AreBelow}
 use Rattle.hgs_planned.proofs.Basics.{both, never, ok-is}
 use Rattle.hgs_planned.proofs.FileLemmas.{told-of}
-use Rattle.hgs_planned.proofs.GrownFileLemmas.{parts-of}
+use Rattle.hgs_planned.proofs.FormLemmas.{count-is, formed-log, whole-chunks, whole-empty}
+use Rattle.hgs_planned.proofs.GrownFileLemmas.{NoFiles, parts-of}
 use Rattle.hgs_planned.proofs.GrownTreeLemmas.{history-next, new-paths-of}
-use Rattle.hgs_planned.proofs.GrowthLemmas.{count-is, whole-empty}
 use Rattle.hgs_planned.proofs.NewTextLemmas.{text-free}
 use Rattle.hgs_planned.proofs.NextLemmas.{next}
 use Rattle.hgs_planned.proofs.RowLemmas.{file-steps, filelog-is, new-revision}
@@ -78,13 +78,13 @@ place-free t f obstacles free e = by (length f.log.entries == 0) refl e
     none zero h = refl
     none (suc n) h = grind (arith, nat_tests, h)
 
-    by : (b : Bool) → (length f.log.entries == 0) ≡ b → (let x : Result (List Obstacle) ReadAnswer = cond b (Ok (standing_at f.index t ++ standing_at f.chunks t)) (and_then (data_in f.index f.chunks f.log t) (λ x. Ok [])) in x) ≡ Ok obstacles → obstacles ≡ []
+    by : (b : Bool) → (length f.log.entries == 0) ≡ b → (let x : Result (List Obstacle) ReadAnswer = cond b (Ok (standing_at f.index t ++ standing_at f.chunks t)) (and_then (either_data_in f.index f.chunks f.log t) (λ x. Ok [])) in x) ≡ Ok obstacles → obstacles ≡ []
     by true is h =
         let files = free (none (length f.log.entries) is) in
         let first = no-file t f.index files.0 in
         let second = no-file t f.chunks files.1 in
         sym (ok-is {E = ReadAnswer} (standing_at f.index t ++ standing_at f.chunks t) obstacles h) ∙ λ i. first i ++ second i
-    by false is h = let a = both (data_in f.index f.chunks f.log t) (λ x. Ok []) obstacles h in sym (ok-is {E = ReadAnswer} [] obstacles a.2)
+    by false is h = let a = both (either_data_in f.index f.chunks f.log t) (λ x. Ok []) obstacles h in sym (ok-is {E = ReadAnswer} [] obstacles a.2)
 
 -- ---- a file
 
@@ -111,12 +111,12 @@ module _ (laws : Below) (t : Tree) (r : Repo) (l : Loaded) (s : Stands t r) (loa
   asked = record { text = plain_prefix file.body ++ file.body; parents = both_parents; link = link }
 
   abbrev made-of : OfLog → OfText × List Obstacle → List Obstacle → OfFile × List Obstacle
-  made-of f text obstacles = (record { row = row_with file text.0.node; changed = true; growth = text.0.growth; new = length f.log.entries == 0 }, obstacles ++ text.1)
+  made-of f text obstacles = (record { row = row_with file text.0.node; changed = true; growth = text.0.growth; new = length f.log.entries == 0; inline = f.log.inline }, obstacles ++ text.1)
 
-  abbrev NoFiles : Type 0
-  NoFiles = revisions ≡ [] → (ext : Ext) → bytes_at t (store_name file.path ext) ≡ []
+  abbrev IsRoomy : List Revision → Type 0
+  IsRoomy all = HasRoomFor t (store_name file.path I) (store_name file.path D) revisions all
 
-  whole-log : (log : Log) → IsLogOf t (filelog_at file.path log) revisions → (uses r.changesets file.path ≡ true → IsWhole t (filelog_at file.path log)) → NoFiles → IsWhole t (filelog_at file.path log)
+  whole-log : (log : Log) → IsLogOf t (filelog_at file.path log) revisions → (uses r.changesets file.path ≡ true → IsWhole t (filelog_at file.path log)) → NoFiles t file.path revisions → IsWhole t (filelog_at file.path log)
   whole-log log is whole no_files = by (bool (uses r.changesets file.path))
     where
       by : (uses r.changesets file.path ≡ true) ⊎ (uses r.changesets file.path ≡ false) → IsWhole t (filelog_at file.path log)
@@ -125,26 +125,28 @@ module _ (laws : Below) (t : Tree) (r : Repo) (l : Loaded) (s : Stands t r) (loa
           let none = laws.unused r.changesets file.path unused in
           whole-empty t (filelog_at file.path log) (count-is t (filelog_at file.path log) revisions is ∙ ap length none) (no_files none I) (no_files none D)
 
-  file-by : (log : Log) (x : OfFile × List Obstacle) → IsLogOf t (filelog_at file.path log) revisions → IsWhole t (filelog_at file.path log) → NoFiles → HasRoomFor t (store_name file.path D) revisions (filelog_with h c g.path) → find (λ (y : TreeFile). same y.path g.path) c.tree ≡ Some g
+  file-by : (log : Log) (x : OfFile × List Obstacle) → IsLogOf t (filelog_at file.path log) revisions → IsWhole t (filelog_at file.path log) → NoFiles t file.path revisions → IsRoomy (filelog_with h c g.path) → find (λ (y : TreeFile). same y.path g.path) c.tree ≡ Some g
       → (o : Option ℕ) → kept h parents file.path file.body ≡ o → file_with (filelog_at file.path log) file old both_parents link o t ≡ Ok x → x.1 ≡ []
   file-by log x is whole no_files room found (Some rev) k e = ap (λ (z : OfFile × List Obstacle). z.1) (sym (ok-is {E = ReadAnswer} (kept_file (filelog_at file.path log) file old rev, []) x e))
   file-by log x is whole no_files room found None k e =
       let f = filelog_at file.path log in
-      let a = both (new_text_in f asked t) (λ text. and_then (place_in f t) (λ obstacles. Ok (made-of f text obstacles))) x e in
-      let b = both (place_in f t) (λ obstacles. Ok (made-of f a.0 obstacles)) x a.2 in
+      let text_asked = plain_prefix file.body ++ file.body in
+      let now = formed f text_asked in
+      let a = both (new_text_in now asked t) (λ text. and_then (place_in now t) (λ obstacles. Ok (made-of now text obstacles))) x e in
+      let b = both (place_in now t) (λ obstacles. Ok (made-of now a.0 obstacles)) x a.2 in
       let same_revision = new-revision laws t r l s loads n parents link linked file k in
       let more = filelog-is laws t r l s loads n parents link linked file None k found in
-      let roomy : HasRoomFor t f.chunks revisions (with_revision revisions asked) = subst (λ (z : Revision). HasRoomFor t f.chunks revisions (with_revision revisions z)) (sym same_revision) (subst (HasRoomFor t f.chunks revisions) more room) in
-      let text = text-free t f revisions asked is whole.chunks roomy a.0 a.1 in
+      let roomy : IsRoomy (with_revision revisions asked) = subst (λ (z : Revision). IsRoomy (with_revision revisions z)) (sym same_revision) (subst (λ (all : List Revision). IsRoomy all) more room) in
+      let text = text-free t now revisions asked (formed-log t f revisions text_asked is) (whole-chunks t f revisions is whole (λ none. (no_files none I, no_files none D))) roomy a.0 a.1 in
       let none : length f.log.entries ≡ 0 → revisions ≡ [] = λ empty. no-items revisions (sym (count-is t f revisions is) ∙ empty) in
-      let place = place-free t f b.0 (λ empty. (no_files (none empty) I, no_files (none empty) D)) b.1 in
-      ap (λ (z : OfFile × List Obstacle). z.1) (sym (ok-is {E = ReadAnswer} (made-of f a.0 b.0) x b.2)) ∙ λ i. place i ++ text i
+      let place = place-free t now b.0 (λ empty. (no_files (none empty) I, no_files (none empty) D)) b.1 in
+      ap (λ (z : OfFile × List Obstacle). z.1) (sym (ok-is {E = ReadAnswer} (made-of now a.0 b.0) x b.2)) ∙ λ i. place i ++ text i
     where
       no-items : (xs : List Revision) → length xs ≡ 0 → xs ≡ []
       no-items [] q = refl
       no-items (y ∷ xs) q = absurd (omega (arith, q))
 
-  file-free : (x : OfFile × List Obstacle) → NoFiles → HasRoomFor t (store_name file.path D) revisions (filelog_with h c g.path) → find (λ (y : TreeFile). same y.path g.path) c.tree ≡ Some g → file_in (listing l.fncache) link file (told_at h parents.0 file.path) (told_at h parents.1 file.path) t ≡ Ok x → x.1 ≡ []
+  file-free : (x : OfFile × List Obstacle) → NoFiles t file.path revisions → IsRoomy (filelog_with h c g.path) → find (λ (y : TreeFile). same y.path g.path) c.tree ≡ Some g → file_in (listing l.fncache) link file (told_at h parents.0 file.path) (told_at h parents.1 file.path) t ≡ Ok x → x.1 ≡ []
   file-free x no_files room found e =
       let a = file-steps laws t r l s loads n parents link linked file x e in
       let p = parts-of laws t r l file.path a.0 s loads a.1 in
@@ -174,7 +176,7 @@ module _ (laws : Below) (t : Tree) (r : Repo) (l : Loaded) (s : Stands t r) (loa
       let two = told-of now parents.1 f.path in
       let told : file_in lists link f (found_in f.path first) (found_in f.path second) t ≡ file_in lists link f (told_at now parents.0 f.path) (told_at now parents.1 f.path) t = (λ i. file_in lists link f (one i) (two i) t) in
       let there : among f.path (new_paths r (next r n parents)) ≡ true = ap (among f.path) paths ∙ found-among added.tree f.path (new_file now parents f) found.0 in
-      let room : HasRoomFor t (store_name f.path D) (now.filelog f.path) (filelog_with now added f.path) = subst (λ (k : History). HasRoomFor t (store_name f.path D) (now.filelog f.path) (k.filelog f.path)) (history-next r (next r n parents) added refl) (free.filelogs f.path) in
+      let room : HasRoomFor t (store_name f.path I) (store_name f.path D) (now.filelog f.path) (filelog_with now added f.path) = subst (λ (k : History). HasRoomFor t (store_name f.path I) (store_name f.path D) (now.filelog f.path) (k.filelog f.path)) (history-next r (next r n parents) added refl) (free.filelogs f.path) in
       let none = file-free laws t r l s loads n parents link linked f a.0 (λ empty ext. free.files f.path ext there empty) room found.0 (sym told ∙ a.1) in
       let rest = all-free files b.0 found.1 b.1 in
       ap (λ (y : OfFiles). y.1) (sym (ok-is {E = ReadAnswer} (with_first a.0 b.0) xs b.2)) ∙ λ i. none i ++ rest i

@@ -7,7 +7,7 @@ use Rattle.hgs_bytes.specs.Bytes.{among, same}
 use Rattle.hgs_files.specs.Tree.{Tree}
 use Rattle.hgs_index.specs.Node.{null_node}
 use Rattle.hgs_index.specs.Revision.{Revision, node_after, nodes}
-use Rattle.hgs_index.specs.Revlog.{HoldsRevisions, all_different}
+use Rattle.hgs_index.specs.Revlog.{Holds, all_different}
 use Rattle.hgs_index.specs.Theorems.RevisionLemmas.{nodes_from-append}
 use Rattle.hgs_ops.specs.Unhindered.{AreNewRevisions}
 use Rattle.hgs_ops.specs.Theorems.GrowLemmas.{drop-front}
@@ -35,8 +35,8 @@ drop-all [] = refl
 drop-all (x ∷ xs) = drop-all xs
 
 -- where no revision is new
-pub fresh-held : (index data_bytes : List ℕ) (revisions : List Revision) → HoldsRevisions index data_bytes revisions → AreNewRevisions revisions revisions
-fresh-held index data_bytes revisions h = record {
+pub fresh-held : (inline : Bool) (index data_bytes : List ℕ) (revisions : List Revision) → Holds inline index data_bytes revisions → AreNewRevisions revisions revisions
+fresh-held inline index data_bytes revisions h = record {
   texts = subst (AllByRecursion (λ (x : Revision). length x.text ≤ most_text)) (sym (drop-all revisions)) tt;
   different = h.different;
   not_null = h.not_null;

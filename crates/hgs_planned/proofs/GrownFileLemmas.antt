@@ -1,13 +1,16 @@
 -- What is appended for a file of a commit is what its path's filelog grows by.
-use Rattle.std.proofs.Common.{◌≡◌, ◌⊎◌, ◌<◌, ◌≤◌, ℕ, List, [], ◌∷◌, ◌++◌, Bool, true, false, ◌==◌, cond, length, inl, inr, refl, sym, ◌∙◌, ap, subst, arith}
-use Rattle.std.specs.Prelude.{Option, Some, None, Result, Ok, IfSome, find}
+use Rattle.std.proofs.Common.{◌≡◌, ◌⊎◌, ◌<◌, ◌≤◌, ◌+◌, ◌*◌, ℕ, List, [], ◌∷◌, ◌++◌, Bool, true, false, ◌==◌, cond, length, inl, inr, refl, sym, ◌∙◌, ap, subst, arith}
+use Rattle.std.specs.Prelude.{◌^◌, Option, Some, None, Result, Ok, IfSome, find}
 use Rattle.hgs_bytes.specs.Bytes.{same}
 use Rattle.hgs_files.specs.declared.op.Op.{Op}
 use Rattle.hgs_files.specs.Tree.{Tree, bytes_at}
+use Rattle.hgs_index.specs.declared.entry.Entry.{Entry}
+use Rattle.hgs_index.specs.Either.{chunk_bytes, chunks_either}
 use Rattle.hgs_index.specs.FileText.{plain_prefix}
+use Rattle.hgs_index.specs.Inline.{is_inline}
 use Rattle.hgs_index.specs.Revision.{Parents, Revision, standing as standing_in, with_revision}
 use Rattle.hgs_loading.specs.Found.{and_then}
-use Rattle.hgs_loading.specs.Logs.{data_in, log_in}
+use Rattle.hgs_loading.specs.Logs.{either_data_in, either_log_in}
 use Rattle.hgs_model.specs.History.{History, file_parents, file_revision, filelog_with, first_of, history, kept, kept_of, uses}
 use Rattle.hgs_model.specs.Repo.{Changeset, Repo, TreeFile}
 use Rattle.hgs_model.specs.Step.{new_changeset, new_file}
@@ -15,31 +18,33 @@ use Rattle.hgs_model.specs.declared.command.NewChange.{NewChange}
 use Rattle.hgs_model.specs.declared.files.NewFile.{NewFile}
 use Rattle.hgs_model.specs.Theorems.CountLemmas.{file-revision-below, sound}
 use Rattle.hgs_model.specs.Theorems.ListLemmas.{bool}
-use Rattle.hgs_ops.specs.Growth.{filelog_growth}
+use Rattle.hgs_ops.specs.Growth.{begins_inline, filelog_growth, grown, grows_inline}
 use Rattle.hgs_ops.specs.Unhindered.{AreNewRevisions}
 use Rattle.hgs_path.specs.declared.name.Ext.{Ext}
 use Rattle.hgs_path.specs.declared.name.Ext.TheVariants.{I, D}
 use Rattle.hgs_path.specs.Fncache.{listing, lists}
 use Rattle.hgs_path.specs.StoreName.{store_name}
 use Rattle.hgs_load.specs.declared.answer.ReadAnswer.{ReadAnswer}
-use Rattle.hgs_revlog.specs.Load.{most_data}
-use Rattle.hgs_revlog.specs.Log.{Log}
+use Rattle.hgs_revlog.specs.Load.{most_data, most_revisions}
+use Rattle.hgs_revlog.specs.Log.{Log, stored_sum}
 use Rattle.hgs_stands.specs.Stands.{Stands}
 use Rattle.hgs_steps.specs.Planned.{IsLoadedOf}
 use Rattle.hgs_steps.specs.declared.loaded.Loaded.{Loaded}
-use Rattle.hgs_commit.specs.Files.{OfFile, empty_log, file_in, file_with, filelog_in, filelog_with as filelog_at, kept_file, place_in, row_with, standing_at}
+use Rattle.hgs_commit.specs.Files.{OfFile, empty_log, file_in, file_with, filelog_in, formed, filelog_with as filelog_at, kept_file, place_in, row_with, standing_at}
 use Rattle.hgs_commit.specs.Obstacles.{Obstacle, stands}
 use Rattle.hgs_commit.specs.Texts.{OfGrowth, OfLog, OfText, changes_of, new_text_in}
 use Rattle.hgs_commit.specs.Walk.{Told}
 use Rattle.hgs_planned.specs.Below.{Below}
 use Rattle.hgs_planned.specs.Files.{told_at}
-use Rattle.hgs_planned.specs.Growth.{AreAppends, IsGrownFileOf, IsWhole}
+use Rattle.hgs_planned.specs.Growth.{AreAppends, IsGrownFileOf, IsWhole, index_end}
 use Rattle.hgs_planned.specs.Logs.{IsLogOf}
 use Rattle.hgs_planned.specs.NewTexts.{IsTextOf, growth_by}
 use Rattle.hgs_planned.proofs.Basics.{both, never, ok-is}
 use Rattle.hgs_planned.proofs.FilelogLemmas.{listing-is}
+use Rattle.hgs_planned.proofs.FormLemmas.{count-is, form-grows, formed-log, formed-same, some-length, some-or-none, whole-chunks, whole-empty}
 use Rattle.hgs_planned.proofs.FreshLemmas.{fresh-same}
-use Rattle.hgs_planned.proofs.GrowthLemmas.{count-is, grown-none, growth-grows, no-appends, some-length, whole-empty, whole-of}
+use Rattle.hgs_planned.proofs.GrowthLemmas.{grown-none, growth-grows, no-appends}
+use Rattle.hgs_planned.proofs.LogLemmas.{whole-of}
 use Rattle.hgs_planned.proofs.NewTextLemmas.{text-of}
 use Rattle.hgs_planned.proofs.RowLemmas.{file-steps, filelog-is, new-revision}
 use Rattle.hgs_planned.proofs.WholeTextLemmas.{none-left, none-right}
@@ -56,11 +61,11 @@ pub parts-of : (laws : Below) (t : Tree) (r : Repo) (l : Loaded) (path : List �
 parts-of laws t r l path f s h e = by (lists s.fncache.names path I) refl (ap (λ (list : List ℕ → Ext → Bool). filelog_in list path t) (sym (listing-is t r l s h)) ∙ e)
   where
     answer : Bool → Result OfLog ReadAnswer
-    answer b = cond b (and_then (log_in (store_name path I) t) (λ log. Ok (filelog_at path log))) (Ok (filelog_at path empty_log))
+    answer b = cond b (and_then (either_log_in (store_name path I) t) (λ log. Ok (filelog_at path log))) (Ok (filelog_at path empty_log))
 
     by : (listed : Bool) → lists s.fncache.names path I ≡ listed → answer (lists s.fncache.names path I) ≡ Ok f → Parts t r path f
     by true listed g =
-        let a = both (log_in (store_name path I) t) (λ log. Ok (filelog_at path log)) f (ap answer (sym listed) ∙ g) in
+        let a = both (either_log_in (store_name path I) t) (λ log. Ok (filelog_at path log)) f (ap answer (sym listed) ∙ g) in
         record {
           log = a.0;
           is = ok-is {E = ReadAnswer} (filelog_at path a.0) f a.2;
@@ -69,12 +74,33 @@ parts-of laws t r l path f s h e = by (lists s.fncache.names path I) refl (ap (�
     by false listed g = record {
       log = empty_log;
       is = ok-is {E = ReadAnswer} (filelog_at path empty_log) f (ap answer (sym listed) ∙ g);
-      whole = λ used. never (sym (s.fncache.listed path I used) ∙ listed);
+      whole = λ used. never (sym (s.fncache.listed path I used refl) ∙ listed);
     }
 
-small-files : (t : Tree) (path : List ℕ) (log : Log) (revisions : List Revision) → IsLogOf t (filelog_at path log) revisions → IsWhole t (filelog_at path log) → (ext : Ext) → length (bytes_at t (store_name path ext)) ≤ most_data
-small-files t path log revisions is whole I = omega (arith, whole.entries, is.entries.few)
-small-files t path log revisions is whole D = omega (arith, whole.chunks, is.entries.data_end)
+-- ---- lengths
+
+-- without revisions the files have no bytes
+abbrev pub NoFiles : Tree → List ℕ → List Revision → Type 0
+NoFiles t path revisions = revisions ≡ [] → (ext : Ext) → bytes_at t (store_name path ext) ≡ []
+
+pub chunks-room : (t : Tree) (path : List ℕ) (log : Log) (revisions : List Revision) → IsLogOf t (filelog_at path log) revisions → IsWhole t (filelog_at path log) → NoFiles t path revisions → length (chunks_either (bytes_at t (store_name path I)) (bytes_at t (store_name path D))) ≤ most_data
+chunks-room t path log revisions is whole free =
+    let sum = whole-chunks t (filelog_at path log) revisions is whole (λ none. (free none I, free none D)) in
+    omega (arith, sum, is.entries.data_end)
+
+index-short : (t : Tree) (path : List ℕ) (log : Log) (revisions : List Revision) → IsLogOf t (filelog_at path log) revisions → IsWhole t (filelog_at path log) → length (bytes_at t (store_name path I)) < 2 ^ 64
+index-short t path log revisions is whole = subst (λ n. n < 2 ^ 64) (sym whole.entries) (by log.inline log.entries is.entries.few is.entries.data_end)
+  where
+    by : (b : Bool) (entries : List Entry) → length entries ≤ most_revisions → stored_sum entries ≤ most_data → index_end b entries < 2 ^ 64
+    by true entries few end = omega (arith, few, end)
+    by false entries few end = omega (arith, few)
+
+data-short : (t : Tree) (path : List ℕ) (revisions all : List Revision) → length (chunks_either (bytes_at t (store_name path I)) (bytes_at t (store_name path D))) ≤ most_data → NoFiles t path revisions
+    → grows_inline (bytes_at t (store_name path I)) revisions all ≡ false → length (bytes_at t (store_name path D)) < 2 ^ 64
+data-short t path [] all room free plain = omega (arith, ap length (free refl D))
+data-short t path (r ∷ revisions) all room free plain =
+    let same = ap (λ b. length (chunk_bytes b (bytes_at t (store_name path I)) (bytes_at t (store_name path D)))) plain in
+    omega (arith, room, same)
 
 -- no file with bytes stands there
 free-at : (path bytes : List ℕ) → (let os : List Obstacle = cond (length bytes == 0) [] (stands path ∷ []) in os) ≡ [] → bytes ≡ []
@@ -91,7 +117,7 @@ place-free t f obstacles none e free =
     (free-at f.index (bytes_at t f.index) (none-left (standing_at f.index t) (standing_at f.chunks t) met), free-at f.chunks (bytes_at t f.chunks) (none-right (standing_at f.index t) (standing_at f.chunks t) met))
   where
     answer : ℕ → Result (List Obstacle) ReadAnswer
-    answer n = cond (n == 0) (Ok (standing_at f.index t ++ standing_at f.chunks t)) (and_then (data_in f.index f.chunks f.log t) (λ x. Ok []))
+    answer n = cond (n == 0) (Ok (standing_at f.index t ++ standing_at f.chunks t)) (and_then (either_data_in f.index f.chunks f.log t) (λ x. Ok []))
 
 -- a revision that is kept is one of the list
 kept-some : (log : List Revision) (a b : Option ℕ) (body : List ℕ) (rev : ℕ) → IfSome a (λ p. p < length log) → kept_of log a b body ≡ Some rev → 0 < length log
@@ -141,46 +167,74 @@ module _ (laws : Below) (t : Tree) (r : Repo) (l : Loaded) (s : Stands t r) (loa
     abbrev f : OfLog
     f = filelog_at file.path log
 
+    abbrev text_asked : List ℕ
+    text_asked = plain_prefix file.body ++ file.body
+
+    -- the filelog in the form in which it grows
+    abbrev now : OfLog
+    now = formed (filelog_at file.path log) (plain_prefix file.body ++ file.body)
+
     -- a file whose revision is kept
     grown-kept : (rev : ℕ) → kept h parents file.path file.body ≡ Some rev → Found → IsGrownFileOf t h c g (kept_file f file old rev)
     grown-kept rev k found = record {
       path = refl;
-      growth = subst (λ (new : List Revision). AreAppends t (filelog_growth t g.path revisions new) []) (sym stays) (subst (λ (ops : List Op). AreAppends t ops []) (sym (grown-none t f.index f.chunks revisions)) (no-appends t));
+      growth = subst (λ (new : List Revision). AreAppends t (filelog_growth t g.path revisions new) []) (sym stays)
+          (subst (λ (ops : List Op). AreAppends t ops []) (sym (grown-none (grows_inline (bytes_at t f.index) revisions revisions) t f.index f.chunks revisions)) (no-appends t));
       new = sym (some-length (length revisions) some);
+      inline = λ none. absurd (not-empty none);
       fresh = subst (AreNewRevisions revisions) (sym stays) (fresh-same t f revisions is);
-      small = small-files t file.path log revisions is (whole (used-with some));
-      free = λ none. absurd (omega (arith, some, ap length none));
+      room = room;
+      index_short = index-short t file.path log revisions is (whole (used-with some));
+      data_short = data-short t file.path revisions (filelog_with h c g.path) room free;
+      free = free;
     }
       where
         some : 0 < length revisions
         some = kept-some revisions both_parents.0 both_parents.1 file.body rev (file-revision-below h parents file.path (sound r s.repository)).first k
 
+        not-empty : revisions ≡ [] → ⊥
+        not-empty none = omega (arith, some, ap length none)
+
+        free : NoFiles t file.path revisions
+        free none = absurd (not-empty none)
+
         stays : filelog_with h c g.path ≡ revisions
         stays = filelog-is laws t r l s loads n parents link linked file (Some rev) k found
+
+        room : length (chunks_either (bytes_at t (store_name file.path I)) (bytes_at t (store_name file.path D))) ≤ most_data
+        room = chunks-room t file.path log revisions is (whole (used-with some)) free
 
     abbrev asked : Revision
     asked = record { text = plain_prefix file.body ++ file.body; parents = both_parents; link = link }
 
     abbrev made_of : OfText × List Obstacle → List Obstacle → OfFile × List Obstacle
-    made_of text obstacles = (record { row = row_with file text.0.node; changed = true; growth = text.0.growth; new = length f.log.entries == 0 }, obstacles ++ text.1)
+    made_of text obstacles = (record { row = row_with file text.0.node; changed = true; growth = text.0.growth; new = length f.log.entries == 0; inline = now.log.inline }, obstacles ++ text.1)
 
     -- a file with another revision, before which nothing was met
-    grown-new : (text : OfText × List Obstacle) (obstacles : List Obstacle) → kept h parents file.path file.body ≡ None → Found → new_text_in f asked t ≡ Ok text → place_in f t ≡ Ok obstacles → text.1 ≡ [] → obstacles ≡ [] → IsGrownFileOf t h c g (made_of text obstacles).0
+    grown-new : (text : OfText × List Obstacle) (obstacles : List Obstacle) → kept h parents file.path file.body ≡ None → Found → new_text_in now asked t ≡ Ok text → place_in now t ≡ Ok obstacles → text.1 ≡ [] → obstacles ≡ [] → IsGrownFileOf t h c g (made_of text obstacles).0
     grown-new text obstacles k found told placed plain free = record {
       path = refl;
       growth = subst (λ (new : List Revision). AreAppends t (filelog_growth t g.path revisions new) (changes_of text.0.growth)) (sym more)
-          (subst (λ (o : Option OfGrowth). AreAppends t (filelog_growth t g.path revisions (with_revision revisions revision)) (changes_of o)) (sym growth) (growth-grows t f revisions revision (standing_in revisions revision.text revision.parents) is whole_now));
+          (subst (λ (o : Option OfGrowth). AreAppends t (filelog_growth t g.path revisions (with_revision revisions revision)) (changes_of o)) (sym growth)
+          (subst (λ b. AreAppends t (grown b t f.index f.chunks revisions (with_revision revisions revision)) (changes_of (growth_by now revision (standing_in revisions revision.text revision.parents)))) grows
+          (growth-grows t now revisions revision (standing_in revisions revision.text revision.parents) now_is whole_now)));
       new = ap (λ m. m == 0) count;
+      inline = λ none. grows ∙ ap (λ (all : List Revision). grows_inline (bytes_at t f.index) revisions all) (sym more) ∙ ap (λ (log : List Revision). grows_inline (bytes_at t f.index) log (filelog_with h c g.path)) none;
       fresh = subst (AreNewRevisions revisions) (sym more) (subst (λ (z : Revision). AreNewRevisions revisions (with_revision revisions z)) same_revision (y.2.fresh (ap (λ (z : OfText × List Obstacle). z.1) text_is ∙ plain)));
-      small = small-files t file.path log revisions is whole_now;
-      free = λ none. no-bytes none;
+      room = room;
+      index_short = index-short t file.path now.log revisions now_is whole_now;
+      data_short = data-short t file.path revisions (filelog_with h c g.path) room no-bytes;
+      free = no-bytes;
     }
       where
         revision : Revision
         revision = file_revision h c g
 
-        y : (z : OfText × List Obstacle) × (new_text_in f asked t ≡ Ok z) × IsTextOf f revisions asked z
-        y = text-of t f revisions asked is
+        now_is : IsLogOf t now revisions
+        now_is = formed-log t f revisions text_asked is
+
+        y : (z : OfText × List Obstacle) × (new_text_in now asked t ≡ Ok z) × IsTextOf now revisions asked z
+        y = text-of t now revisions asked now_is
 
         text_is : y.0 ≡ text
         text_is = ok-is {E = ReadAnswer} y.0 text (sym y.1 ∙ told)
@@ -188,10 +242,13 @@ module _ (laws : Below) (t : Tree) (r : Repo) (l : Loaded) (s : Stands t r) (loa
         same_revision : asked ≡ revision
         same_revision = new-revision laws t r l s loads n parents link linked file k
 
-        growth : text.0.growth ≡ growth_by f revision (standing_in revisions revision.text revision.parents)
+        grows : now.log.inline ≡ grows_inline (bytes_at t f.index) revisions (with_revision revisions revision)
+        grows = form-grows t f revisions revision text_asked is (ap (λ (z : Revision). z.text) same_revision)
+
+        growth : text.0.growth ≡ growth_by now revision (standing_in revisions revision.text revision.parents)
         growth =
             ap (λ (z : OfText × List Obstacle). z.0.growth) (sym text_is) ∙ y.2.growth (ap (λ (z : OfText × List Obstacle). z.1) text_is ∙ plain)
-            ∙ ap (λ (z : Revision). growth_by f z (standing_in revisions z.text z.parents)) same_revision
+            ∙ ap (λ (z : Revision). growth_by now z (standing_in revisions z.text z.parents)) same_revision
 
         more : filelog_with h c g.path ≡ with_revision revisions revision
         more = filelog-is laws t r l s loads n parents link linked file None k found
@@ -199,22 +256,25 @@ module _ (laws : Below) (t : Tree) (r : Repo) (l : Loaded) (s : Stands t r) (loa
         count : length f.log.entries ≡ length revisions
         count = count-is t f revisions is
 
-        no-bytes : revisions ≡ [] → (ext : Ext) → bytes_at t (store_name file.path ext) ≡ []
-        no-bytes none I = (place-free t f obstacles (count ∙ ap length none) placed free).0
-        no-bytes none D = (place-free t f obstacles (count ∙ ap length none) placed free).1
+        no-bytes : NoFiles t file.path revisions
+        no-bytes none I = (place-free t now obstacles (count ∙ ap length none) placed free).0
+        no-bytes none D = (place-free t now obstacles (count ∙ ap length none) placed free).1
 
-        whole_now : IsWhole t f
-        whole_now = by (bool (uses r.changesets file.path))
+        whole_now : IsWhole t now
+        whole_now = by (some-or-none revisions)
           where
-            by : (uses r.changesets file.path ≡ true) ⊎ (uses r.changesets file.path ≡ false) → IsWhole t f
-            by (inl used) = whole used
-            by (inr unused) = let none = laws.unused r.changesets file.path unused in whole-empty t f (count ∙ ap length none) (no-bytes none I) (no-bytes none D)
+            by : (revisions ≡ []) ⊎ (0 < length revisions) → IsWhole t now
+            by (inl none) = whole-empty t now (count ∙ ap length none) (no-bytes none I) (no-bytes none D)
+            by (inr some) = subst (IsWhole t) (sym (formed-same f text_asked (omega (arith, count, some)))) (whole (used-with some))
+
+        room : length (chunks_either (bytes_at t (store_name file.path I)) (bytes_at t (store_name file.path D))) ≤ most_data
+        room = chunks-room t file.path now.log revisions now_is whole_now no-bytes
 
     grown-by : (x : OfFile × List Obstacle) (o : Option ℕ) → kept h parents file.path file.body ≡ o → Found → file_with f file old both_parents link o t ≡ Ok x → x.1 ≡ [] → IsGrownFileOf t h c g x.0
     grown-by x (Some rev) k found e free = subst (λ (z : OfFile × List Obstacle). IsGrownFileOf t h c g z.0) (ok-is {E = ReadAnswer} (kept_file f file old rev, []) x e) (grown-kept rev k found)
     grown-by x None k found e free =
-        let a = both (new_text_in f asked t) (λ text. and_then (place_in f t) (λ obstacles. Ok (made_of text obstacles))) x e in
-        let b = both (place_in f t) (λ obstacles. Ok (made_of a.0 obstacles)) x a.2 in
+        let a = both (new_text_in now asked t) (λ text. and_then (place_in now t) (λ obstacles. Ok (made_of text obstacles))) x e in
+        let b = both (place_in now t) (λ obstacles. Ok (made_of a.0 obstacles)) x a.2 in
         let made : made_of a.0 b.0 ≡ x = ok-is {E = ReadAnswer} (made_of a.0 b.0) x b.2 in
         let none : b.0 ++ a.0.1 ≡ [] = ap (λ (z : OfFile × List Obstacle). z.1) made ∙ free in
         subst (λ (z : OfFile × List Obstacle). IsGrownFileOf t h c g z.0) made (grown-new a.0 b.0 k found a.1 b.1 (none-right b.0 a.0.1 none) (none-left b.0 a.0.1 none))

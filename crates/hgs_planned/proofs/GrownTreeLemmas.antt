@@ -18,11 +18,13 @@ use Rattle.hgs_model.specs.declared.command.NewChange.{NewChange}
 use Rattle.hgs_model.specs.declared.files.NewFile.{NewFile}
 use Rattle.hgs_model.specs.Theorems.HistoryLemmas.{history-push}
 use Rattle.hgs_model.specs.Theorems.ListLemmas.{ascends-head, ascends-tail}
-use Rattle.hgs_ops.specs.Growth.{filelog_growth, filelogs_grow, new_names, new_names_of, new_paths}
+use Rattle.hgs_ops.specs.Growth.{begins_inline, filelog_growth, filelogs_grow, new_names, new_names_of, new_paths}
 use Rattle.hgs_ops.specs.Theorems.FileGrowth.{head-others}
 use Rattle.hgs_ops.specs.Theorems.GrowLemmas.{drop-front}
 use Rattle.hgs_ops.specs.Theorems.Touch.{same-sym}
+use Rattle.hgs_path.specs.declared.name.Ext.TheVariants.{D, I}
 use Rattle.hgs_path.specs.Fncache.{listing}
+use Rattle.hgs_path.specs.StoreName.{listed_name}
 use Rattle.hgs_load.specs.declared.answer.ReadAnswer.{ReadAnswer}
 use Rattle.hgs_stands.specs.Stands.{Stands}
 use Rattle.hgs_steps.specs.Planned.{IsLoadedOf}
@@ -41,8 +43,9 @@ use Rattle.hgs_planned.specs.Growth.{AreAppends, AreGrownFilesOf, IsGrownFileOf}
 use Rattle.hgs_planned.specs.Logs.{IsLogOf}
 use Rattle.hgs_planned.proofs.Basics.{both, ok-is}
 use Rattle.hgs_planned.proofs.FileLemmas.{told-of}
+use Rattle.hgs_planned.proofs.FormLemmas.{some-length}
 use Rattle.hgs_planned.proofs.GrownFileLemmas.{grown-file}
-use Rattle.hgs_planned.proofs.GrowthLemmas.{appends-join, no-appends, some-length}
+use Rattle.hgs_planned.proofs.GrowthLemmas.{appends-join, no-appends}
 use Rattle.hgs_planned.proofs.TreeLemmas.{AreTrees, found-files, link-is, new-paths-are, trees-of}
 use Rattle.hgs_planned.proofs.WholeTextLemmas.{none-left, none-right}
 
@@ -57,20 +60,24 @@ appends-of t h c (g ∷ tree) (x ∷ xs) all =
     all.0.growth (appends-of t h c tree xs all.1)
 
 -- the lines of a filelog that has no revision
-lines-one : (path : List ℕ) (log : List Revision) → new_lines (length log == 0) path ≡ flat_map line (new_names_of path log)
-lines-one path [] = refl
-lines-one path (r ∷ log) = ap (λ b. new_lines b path) (some-length (length (r ∷ log)) (omega arith))
+lines-one : (path : List ℕ) (log all : List Revision) (inline : Bool) → (log ≡ [] → inline ≡ begins_inline all) → new_lines (length log == 0) inline path ≡ flat_map line (new_names_of path log all)
+lines-one path [] all inline is = ap (λ b. new_lines true b path) (is refl) ∙ by (begins_inline all)
+  where
+    by : (b : Bool) → new_lines true b path ≡ flat_map line (listed_name path I ∷ (cond b [] (listed_name path D ∷ [])))
+    by true = refl
+    by false = refl
+lines-one path (r ∷ log) all inline is = ap (λ b. new_lines b inline path) (some-length (length (r ∷ log)) (omega arith))
 
-lines-of : (t : Tree) (h : History) (c : Changeset) (tree : List TreeFile) (xs : List OfFile) → AllZip (IsGrownFileOf t h c) tree xs → flat_map (λ (x : OfFile). new_lines x.new x.row.path) xs ≡ flat_map line (new_names h.filelog (tree_paths tree))
+lines-of : (t : Tree) (h : History) (c : Changeset) (tree : List TreeFile) (xs : List OfFile) → AllZip (IsGrownFileOf t h c) tree xs → flat_map (λ (x : OfFile). new_lines x.new x.inline x.row.path) xs ≡ flat_map line (new_names h.filelog (filelog_with h c) (tree_paths tree))
 lines-of t h c [] [] all = refl
 lines-of t h c [] (x ∷ xs) all = absurd all
 lines-of t h c (g ∷ tree) [] all = absurd all
 lines-of t h c (g ∷ tree) (x ∷ xs) all =
-    ap (λ p. new_lines x.new p ++ flat_map (λ (y : OfFile). new_lines y.new y.row.path) xs) all.0.path
-    ∙ ap (λ b. new_lines b g.path ++ flat_map (λ (y : OfFile). new_lines y.new y.row.path) xs) all.0.new
-    ∙ ap (λ l. l ++ flat_map (λ (y : OfFile). new_lines y.new y.row.path) xs) (lines-one g.path (h.filelog g.path))
-    ∙ ap (λ l. flat_map line (new_names_of g.path (h.filelog g.path)) ++ l) (lines-of t h c tree xs all.1)
-    ∙ sym (flat_map-append line (new_names_of g.path (h.filelog g.path)) (new_names h.filelog (tree_paths tree)))
+    ap (λ p. new_lines x.new x.inline p ++ flat_map (λ (y : OfFile). new_lines y.new y.inline y.row.path) xs) all.0.path
+    ∙ ap (λ b. new_lines b x.inline g.path ++ flat_map (λ (y : OfFile). new_lines y.new y.inline y.row.path) xs) all.0.new
+    ∙ ap (λ l. l ++ flat_map (λ (y : OfFile). new_lines y.new y.inline y.row.path) xs) (lines-one g.path (h.filelog g.path) (filelog_with h c g.path) x.inline all.0.inline)
+    ∙ ap (λ l. flat_map line (new_names_of g.path (h.filelog g.path) (filelog_with h c g.path)) ++ l) (lines-of t h c tree xs all.1)
+    ∙ sym (flat_map-append line (new_names_of g.path (h.filelog g.path) (filelog_with h c g.path)) (new_names h.filelog (filelog_with h c) (tree_paths tree)))
 
 -- ---- the new paths
 
@@ -141,7 +148,7 @@ pub files-grow : (t : Tree) (r next : Repo) (l : Loaded) (n : NewChange) (parent
 files-grow t r next l n parents x free ordered e = record {
   filelogs = subst (λ (g : OfGrown). AreAppends t (filelogs_grow t h.filelog (history next.changesets).filelog (new_paths r next)) g.growth) shown
       (subst (λ (ops : List Op). AreAppends t ops growth) (λ i. filelogs_grow t h.filelog (sym logs i).filelog (sym paths i)) (appends-of t h c c.tree files free.all));
-  lines = ap (λ (g : OfGrown). g.lines) (sym shown) ∙ lines-of t h c c.tree files free.all ∙ ap (λ ps. flat_map line (new_names h.filelog ps)) (sym paths);
+  lines = ap (λ (g : OfGrown). g.lines) (sym shown) ∙ lines-of t h c c.tree files free.all ∙ (λ i. flat_map line (new_names h.filelog (sym logs i).filelog (sym paths i)));
 }
   where
     h : History

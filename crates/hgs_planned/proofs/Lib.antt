@@ -1,5 +1,7 @@
 pub mod Basics
+pub mod EitherLemmas
 pub mod LogLemmas
+pub mod FormLemmas
 pub mod FilelogLemmas
 pub mod HistoryLemmas
 pub mod TextLemmas

@@ -12,13 +12,14 @@ use Rattle.hgs_bytes.specs.Theorems.ByteLemmas.{same-eq}
 use Rattle.hgs_files.specs.Tree.{Tree, bytes_at}
 use Rattle.hgs_index.specs.declared.entry.Entry.{Entry}
 use Rattle.hgs_index.specs.declared.kinds.Which.TheVariants as limits
+use Rattle.hgs_index.specs.Either.{chunks_either}
 use Rattle.hgs_index.specs.Entry.{entry_bytes}
 use Rattle.hgs_index.specs.Node.{node_hash, null_node}
 use Rattle.hgs_index.specs.Revision.{Parents, Revision, is_as, node_after, nodes, number_of, parent_node, same_parents, standing as standing_in, with_revision, with_revision_at}
 use Rattle.hgs_index.specs.Revlog.{all_different, chunk_of, chunk_text}
 use Rattle.hgs_index.specs.Theorems.RevisionLemmas.{nodes_from-append}
 use Rattle.hgs_loading.specs.Found.{and_then}
-use Rattle.hgs_loading.specs.Logs.{chunk_at, chunk_of_rev}
+use Rattle.hgs_loading.specs.Logs.{chunk_in_form}
 use Rattle.hgs_model.specs.History.{node_at, text_at}
 use Rattle.hgs_model.specs.Theorems.ListLemmas.{and-left, and-right, some-same}
 use Rattle.hgs_model.specs.Theorems.ListedLemmas.{length-nodes}
@@ -40,13 +41,13 @@ use Rattle.hgs_commit.specs.Obstacles.{Obstacle, collides, passes}
 use Rattle.hgs_commit.specs.Revised.{revised}
 use Rattle.hgs_commit.specs.Texts.{OfLog, OfText, new_text_in, new_text_of, revlog_answer}
 use Rattle.hgs_planned.specs.Free.{HasRoomFor}
-use Rattle.hgs_planned.specs.Logs.{IsLogOf}
+use Rattle.hgs_planned.specs.Logs.{IsLogOf, held_chunks}
 use Rattle.hgs_planned.specs.NewTexts.{IsTextOf, growth_by}
 use Rattle.hgs_planned.proofs.FreshLemmas.{fresh-push, fresh-same}
 use Rattle.hgs_planned.proofs.HashLemmas.{hash-same, position-none}
 use Rattle.hgs_planned.proofs.HistoryLemmas.{got, text-is}
 use Rattle.hgs_planned.proofs.LimitLemmas.{apart-within, different-within}
-use Rattle.hgs_planned.proofs.TextLemmas.{entry-node, entry-of, node-of}
+use Rattle.hgs_planned.proofs.TextLemmas.{entry-node, entry-of, node-of, text-of-chunk}
 
 -- ---- what an entry says of its revision
 
@@ -84,18 +85,18 @@ get-map f (y ∷ xs) (suc i) x e = get-map f xs i x e
 record Pair (t : Tree) (f : OfLog) (rev : ℕ) (s : Revision) : Type 0 where
   entry : Entry
   there : slice_get f.log.entries rev ≡ Some entry
-  text : text_of f.log.entries rev (chunk_in (bytes_at t f.chunks) entry) ≡ Ok s.text
+  text : text_of f.log.entries rev (chunk_in_form f.index f.chunks f.log rev t) ≡ Ok s.text
   parents : (entry.p1, entry.p2) ≡ s.parents
   node : entry.node.0 ≡ node_hash (parent_node (nodes_of f.log.entries) s.parents.0) (parent_node (nodes_of f.log.entries) s.parents.1) s.text
 
 pair-of : (t : Tree) (f : OfLog) (revisions : List Revision) (rev : ℕ) (s : Revision) → IsLogOf t f revisions → rev < length revisions → slice_get revisions rev ≡ Some s → Pair t f rev s
 pair-of t f revisions rev s is lt at = record { entry = e.0; there = e.1; text = text; parents = parents; node = node }
   where
-    e : (x : Entry) × (slice_get f.log.entries rev ≡ Some x) × (text_of f.log.entries rev (chunk_in (bytes_at t f.chunks) x) ≡ Ok (text_at revisions rev))
+    e : (x : Entry) × (slice_get f.log.entries rev ≡ Some x) × (text_of f.log.entries rev (chunk_in (held_chunks t f) x) ≡ Ok (text_at revisions rev))
     e = entry-of t f revisions rev is lt
 
-    text : text_of f.log.entries rev (chunk_in (bytes_at t f.chunks) e.0) ≡ Ok s.text
-    text = e.2 ∙ ap (λ x. Ok x) (text-is revisions rev s at)
+    text : text_of f.log.entries rev (chunk_in_form f.index f.chunks f.log rev t) ≡ Ok s.text
+    text = text-of-chunk t f revisions rev is lt ∙ ap (λ x. Ok x) (text-is revisions rev s at)
 
     parents : (e.0.p1, e.0.p2) ≡ s.parents
     parents = some-same s.parents (e.0.p1, e.0.p2) s.parents
@@ -103,7 +104,7 @@ pair-of t f revisions rev s is lt at = record { entry = e.0; there = e.1; text =
 
     node : e.0.node.0 ≡ node_hash (parent_node (nodes_of f.log.entries) s.parents.0) (parent_node (nodes_of f.log.entries) s.parents.1) s.text
     node =
-        sym (entry-hash f.log.entries rev (chunk_in (bytes_at t f.chunks) e.0) e.0 s.text (ap (text_with f.log.entries rev (chunk_in (bytes_at t f.chunks) e.0)) (sym e.1) ∙ text))
+        sym (entry-hash f.log.entries rev (chunk_in_form f.index f.chunks f.log rev t) e.0 s.text (ap (text_with f.log.entries rev (chunk_in_form f.index f.chunks f.log rev t)) (sym e.1) ∙ text))
         ∙ ap (λ (p : Parents). node_hash (parent_node (nodes_of f.log.entries) p.0) (parent_node (nodes_of f.log.entries) p.1) s.text) parents
 
 -- ---- the node of one more revision
@@ -122,7 +123,7 @@ last-node revisions r =
 module _ (t : Tree) (f : OfLog) (revisions : List Revision) (r : Revision) (is : IsLogOf t f revisions) where
   -- by the place of its node
   abbrev answer : Option ℕ → Result (OfText × List Obstacle) ReadAnswer
-  answer place = and_then (revlog_answer f.index (revised f.log r (added_at f.log r (option_map (λ rev. chunk_of_rev f.chunks f.log.entries rev t) place) place))) (λ became. Ok (new_text_of f became))
+  answer place = and_then (revlog_answer f.index (revised f.log r (added_at f.log r (option_map (λ rev. chunk_in_form f.index f.chunks f.log rev t) place) place))) (λ became. Ok (new_text_of f became))
 
   abbrev Becomes : Result (OfText × List Obstacle) ReadAnswer → Type 0
   Becomes given = (y : OfText × List Obstacle) × (given ≡ Ok y) × IsTextOf f revisions r y
@@ -131,11 +132,10 @@ module _ (t : Tree) (f : OfLog) (revisions : List Revision) (r : Revision) (is :
   node = (next_entry f.log.entries r).node.0
 
   -- where a revision has the node, whether it is this one
-  found-at : (rev : ℕ) (s : Revision) → Pair t f rev s → added_at f.log r (Some (chunk_of_rev f.chunks f.log.entries rev t)) (Some rev) ≡ cond (is_as r.text r.parents s) (Ok (Old rev)) (Err (faults.Collision rev))
+  found-at : (rev : ℕ) (s : Revision) → Pair t f rev s → added_at f.log r (Some (chunk_in_form f.index f.chunks f.log rev t)) (Some rev) ≡ cond (is_as r.text r.parents s) (Ok (Old rev)) (Err (faults.Collision rev))
   found-at rev s p =
       let parents = ap parents_of p.there ∙ p.parents in
-      ap (λ (o : Option Entry). matched f.log r.text r.parents rev (text_of f.log.entries rev (chunk_at (bytes_at t f.chunks) o))) p.there
-      ∙ ap (matched f.log r.text r.parents rev) p.text
+      ap (matched f.log r.text r.parents rev) p.text
       ∙ λ i. cond (same r.text s.text && same_parents r.parents (parents i)) (Ok (Old rev)) (Err (faults.Collision rev))
 
   -- a revision with the text and the parents has the node
@@ -233,12 +233,12 @@ text-of t f revisions r is = becomes t f revisions r is (standing_in revisions r
 sum-one : (f : Revision → ℕ) (revisions : List Revision) (r : Revision) → revisions ≡ r ∷ [] → sum_by f revisions ≡ f r
 sum-one f revisions r e = ap (sum_by f) e ∙ omega arith
 
-module _ (t : Tree) (f : OfLog) (revisions : List Revision) (r : Revision) (is : IsLogOf t f revisions) (whole : length (bytes_at t f.chunks) ≡ stored_sum f.log.entries) where
+module _ (t : Tree) (f : OfLog) (revisions : List Revision) (r : Revision) (is : IsLogOf t f revisions) (whole : length (chunks_either (bytes_at t f.index) (bytes_at t f.chunks)) ≡ stored_sum f.log.entries) where
   abbrev new-node : List ℕ
   new-node = (next_entry f.log.entries r).node.0
 
   -- where the revision is new
-  new-free : HasRoomFor t f.chunks revisions (revisions ++ r ∷ []) → (x : OfText × List Obstacle) → new_text_in f r t ≡ Ok x → x.1 ≡ []
+  new-free : HasRoomFor t f.index f.chunks revisions (revisions ++ r ∷ []) → (x : OfText × List Obstacle) → new_text_in f r t ≡ Ok x → x.1 ≡ []
   new-free room x given = ap (λ (z : OfText × List Obstacle). z.1) (sym (ok-text made x (sym plain ∙ given))) ∙ ap (λ b. let os : List Obstacle = cond b (collides f.index (length f.log.entries) ∷ []) [] in os) not-null
     where
       ok-text : (a b : OfText × List Obstacle) → (let y : Result (OfText × List Obstacle) ReadAnswer = Ok a in y) ≡ Ok b → a ≡ b
@@ -283,7 +283,7 @@ module _ (t : Tree) (f : OfLog) (revisions : List Revision) (r : Revision) (is :
           ap (answer t f revisions r is) no-place
           ∙ (let a = few in let b = text in let c = end in λ i. finished t f revisions r is (cond (a i) (Err (faults.Limit limits.Changesets)) (cond (b i) (Err (faults.Limit limits.Text)) (cond (c i) (Err (faults.Limit limits.Data)) (Ok (New (entry_bytes (next_entry f.log.entries r) (new_header f.log)) (chunk_of r.text) (next_entry f.log.entries r).node))))))
 
-  pub text-free : HasRoomFor t f.chunks revisions (with_revision revisions r) → (x : OfText × List Obstacle) → new_text_in f r t ≡ Ok x → x.1 ≡ []
+  pub text-free : HasRoomFor t f.index f.chunks revisions (with_revision revisions r) → (x : OfText × List Obstacle) → new_text_in f r t ≡ Ok x → x.1 ≡ []
   unfolding when-standing
   text-free room x given = by (standing_in revisions r.text r.parents) refl
     where
@@ -292,4 +292,4 @@ module _ (t : Tree) (f : OfLog) (revisions : List Revision) (r : Revision) (is :
         where
           ok-text : (a b : OfText × List Obstacle) → (let z : Result (OfText × List Obstacle) ReadAnswer = Ok a in z) ≡ Ok b → a ≡ b
           ok-text a b h = cc
-      by None e = new-free (subst (λ (o : Option ℕ). HasRoomFor t f.chunks revisions (with_revision_at o revisions r)) e room) x given
+      by None e = new-free (subst (λ (o : Option ℕ). HasRoomFor t f.index f.chunks revisions (with_revision_at o revisions r)) e room) x given

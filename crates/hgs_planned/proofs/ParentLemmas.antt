@@ -48,7 +48,7 @@ module _ (t : Tree) (l : Loaded) (before k : History) (rev : ℕ) (c : Changeset
   change : Change
   change = changeset_text_value before c
 
-  change-read : change_in changelog_data l.changelog.entries rev t ≡ Ok change
+  change-read : change_in changelog_data l.changelog rev t ≡ Ok change
   unfolding change
   change-read =
       ap (λ (x : Result (List ℕ) ReadAnswer). and_then x (λ text. change_of_text rev (read_change text)))
@@ -73,11 +73,11 @@ module _ (t : Tree) (l : Loaded) (before k : History) (rev : ℕ) (c : Changeset
   named : same change.manifest null_node ≡ false
   named = ap (λ (n : List ℕ). same n null_node) node ∙ not-null (nodes k.manifest) number null_node (ap (among null_node) (sym manifests.nodes_are) ∙ manifests.entries.not_null) (omega (arith, below, length-nodes k.manifest))
 
-  rows-read : rows_in manifest_data entries change.manifest t ≡ and_then (rows_answer (Ok (rows_of before c))) (λ rows. Ok (Some number, rows))
+  rows-read : rows_in manifest_data l.manifest change.manifest t ≡ and_then (rows_answer (Ok (rows_of before c))) (λ rows. Ok (Some number, rows))
   unfolding entries
   rows-read =
-      ap (λ (b : Bool). cond b (Ok (None, [])) (rows_at manifest_data entries t (place_of entries change.manifest))) named
-      ∙ ap (rows_at manifest_data entries t) (ap (place_of entries) node ∙ place-of t (of_manifest l.manifest) k.manifest number manifests below)
+      ap (λ (b : Bool). cond b (Ok (None, [])) (rows_at manifest_data l.manifest t (place_of entries change.manifest))) named
+      ∙ ap (rows_at manifest_data l.manifest t) (ap (place_of entries) node ∙ place-of t (of_manifest l.manifest) k.manifest number manifests below)
       ∙ ap (λ (x : Result (List ℕ) ReadAnswer). and_then x (rows_of_text number)) (text-in t (of_manifest l.manifest) k.manifest number manifests below ∙ ap (λ x. Ok x) text)
       ∙ ap (λ (x : Result (List Row) ManifestFault). and_then (rows_answer x) (λ rows. Ok (Some number, rows))) (manifest_back (rows_of before c) (rows-good before c is.next))
 
@@ -95,7 +95,7 @@ module _ (t : Tree) (l : Loaded) (before k : History) (rev : ℕ) (c : Changeset
   files-read : (files : Files) → parent_files l (Some rev) t ≡ Ok files → files ≡ files_at k (Some rev)
   unfolding entries change
   files-read files e =
-      let read = ap (λ (x : Result Change ReadAnswer). and_then x (λ y. rows_in manifest_data entries y.manifest t)) change-read in
+      let read = ap (λ (x : Result Change ReadAnswer). and_then x (λ y. rows_in manifest_data l.manifest y.manifest t)) change-read in
       sym (within files (nat_lt most_files (length (rows_of before c))) (sym rows-read ∙ sym read ∙ e)) ∙ sym placed
 
   -- they are, where they are not too many
@@ -103,7 +103,7 @@ module _ (t : Tree) (l : Loaded) (before k : History) (rev : ℕ) (c : Changeset
   unfolding entries change
   files-there few = (
     (Some number, rows_of before c),
-    ap (λ (x : Result Change ReadAnswer). and_then x (λ y. rows_in manifest_data entries y.manifest t)) change-read ∙ rows-read
+    ap (λ (x : Result Change ReadAnswer). and_then x (λ y. rows_in manifest_data l.manifest y.manifest t)) change-read ∙ rows-read
         ∙ ap (λ b. and_then (let a : Result (List Row) ReadAnswer = cond b (Err (Limit TreeLimit)) (Ok (rows_of before c)) in a) (λ rows. Ok (Some number, rows))) few,
   )
 
@@ -111,7 +111,7 @@ module _ (t : Tree) (l : Loaded) (before k : History) (rev : ℕ) (c : Changeset
   pub files-limited : IsLimited (parent_files l (Some rev) t)
   unfolding entries change
   files-limited =
-      subst (λ (x : Result Files ReadAnswer). IsLimited x) (sym (ap (λ (x : Result Change ReadAnswer). and_then x (λ y. rows_in manifest_data entries y.manifest t)) change-read ∙ rows-read)) (by (nat_lt most_files (length (rows_of before c))))
+      subst (λ (x : Result Files ReadAnswer). IsLimited x) (sym (ap (λ (x : Result Change ReadAnswer). and_then x (λ y. rows_in manifest_data l.manifest y.manifest t)) change-read ∙ rows-read)) (by (nat_lt most_files (length (rows_of before c))))
     where
       by : (b : Bool) → IsLimited {A = Files} (and_then (let a : Result (List Row) ReadAnswer = cond b (Err (Limit TreeLimit)) (Ok (rows_of before c)) in a) (λ rows. Ok (Some number, rows)))
       by true = (TreeLimit, refl)

@@ -9,7 +9,7 @@ use Rattle.hgs_index.specs.declared.node.Node.{Node}
 use Rattle.hgs_index.specs.Node.{null_node}
 use Rattle.hgs_index.specs.Revision.{Revision}
 use Rattle.hgs_loading.specs.Found.{and_then}
-use Rattle.hgs_loading.specs.Logs.{chunk_of_rev}
+use Rattle.hgs_loading.specs.Logs.{chunk_in_form}
 use Rattle.hgs_load.specs.declared.answer.ReadAnswer.{ReadAnswer}
 use Rattle.hgs_revlog.specs.Add.{added, next_entry}
 use Rattle.hgs_revlog.specs.Load.{after, entry_behind}
@@ -22,7 +22,7 @@ use Rattle.hgs_commit.specs.declared.growth.Became.TheVariants.{New as NewRevisi
 use Rattle.hgs_commit.specs.Commit.{entries_with, with_parsed}
 use Rattle.hgs_commit.specs.Obstacles.{Obstacle}
 use Rattle.hgs_commit.specs.Revised.{revised}
-use Rattle.hgs_commit.specs.Texts.{OfGrowth, OfLog, OfText, growth_of, new_text_in, new_text_of, revlog_answer}
+use Rattle.hgs_commit.specs.Texts.{OfGrowth, OfLog, OfText, growth_as, growth_of, new_text_in, new_text_of, revlog_answer}
 use Rattle.hgs_planned.specs.StepsBelow.{StepsBelow}
 use Rattle.hgs_planned.proofs.Basics.{ok-is}
 
@@ -81,11 +81,11 @@ pub record IsPushed (f : OfLog) (r : Revision) (x : OfText) (g : OfGrowth) : Typ
 pub pushed-of : (laws : StepsBelow) (t : Tree) (f : OfLog) (r : Revision) (x : OfText × List Obstacle) (g : OfGrowth) → f.log.inline ≡ false → IfSome r.parents.0 (λ p. p < length f.log.entries) → IfSome r.parents.1 (λ p. p < length f.log.entries) → r.link < 2 ^ 31
     → new_text_in f r t ≡ Ok x → x.0.growth ≡ Some g → IsPushed f r x.0 g
 pushed-of laws t f r x g separate first second link e some =
-    let standing = option_map (λ rev. chunk_of_rev f.chunks f.log.entries rev t) (place_of f.log.entries (next_entry f.log.entries r).node.0) in
+    let standing = option_map (λ rev. chunk_in_form f.index f.chunks f.log rev t) (place_of f.log.entries (next_entry f.log.entries r).node.0) in
     let is = is-new f r (added f.log r standing) x g e some in
     let node = laws.named f.log r standing is.entry is.chunk is.node is.added_is in
     let push = laws.taken f.log r standing is.entry is.chunk is.node separate first second link (ap (λ (n : Node). same null_node n.0) node ∙ is.some_node) is.added_is in
     record {
-      entries = ap (λ (y : OfGrowth). entries_with f.log.entries y.entry.bytes) is.growth ∙ entries-after f.log (next_entry f.log.entries r) (entry_behind f.log.entries is.entry) push;
+      entries = ap (λ (y : OfGrowth). entries_with f.log.entries y.entry.bytes) is.growth ∙ ap (λ b. entries_with f.log.entries (growth_as b f is.entry is.chunk).entry.bytes) separate ∙ entries-after f.log (next_entry f.log.entries r) (entry_behind f.log.entries is.entry) push;
       node = is.node_is;
     }

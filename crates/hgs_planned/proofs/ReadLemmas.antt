@@ -5,10 +5,13 @@ use Rattle.std.specs.List.{AllByRecursion}
 use Rattle.std.proofs.lemmas.Bool.Decides.{nat_tests}
 use Rattle.std.proofs.lemmas.List.{length-map}
 use Rattle.hgs_files.specs.Tree.{Tree, bytes_at}
+use Rattle.hgs_index.specs.Either.{chunks_either}
 use Rattle.hgs_index.specs.FileText.{plain_prefix}
+use Rattle.hgs_index.specs.Inline.{index_apart, is_inline}
 use Rattle.hgs_index.specs.Revision.{Parents, Revision}
+use Rattle.hgs_index.specs.Revlog.{Holds}
 use Rattle.hgs_loading.specs.Found.{and_then}
-use Rattle.hgs_loading.specs.Logs.{data_in, log_in}
+use Rattle.hgs_loading.specs.Logs.{data_in, either_data_in, either_index_in, either_log_in}
 use Rattle.hgs_manifest.specs.Held.{found_in}
 use Rattle.hgs_model.specs.History.{History, Placed, file_parents, filelog_with as log_with, first_of, history, kept, placed_of, rev_of_file, row_of, rows_of, uses}
 use Rattle.hgs_model.specs.Repo.{Changeset, Repo, TreeFile}
@@ -25,17 +28,19 @@ use Rattle.hgs_load.specs.View.{log_answer, revlog_refusal}
 use Rattle.hgs_load.specs.declared.answer.ReadAnswer.{ReadAnswer}
 use Rattle.hgs_revlog.specs.declared.fault.RevFault.TheVariants as faults
 use Rattle.hgs_revlog.specs.declared.fault.Tail.TheVariants.{Refuse}
-use Rattle.hgs_revlog.specs.Load.{loaded, most_revisions}
+use Rattle.hgs_revlog.specs.Load.{in_form, loaded_either, most_revisions}
 use Rattle.hgs_revlog.specs.Log.{Log, stored_sum}
 use Rattle.hgs_stands.specs.Stands.{IsUsedName, Stands}
 use Rattle.hgs_stands.specs.Theorems.FilesLemmas.{name-used}
+use Rattle.hgs_loading.specs.Theorems.IndexLemmas.{inline-index, separate-index}
 use Rattle.hgs_steps.specs.Planned.{IsLoadedOf}
 use Rattle.hgs_steps.specs.declared.loaded.Loaded.{Loaded}
+use Rattle.hgs_steps.specs.Theorems.SeparateLemmas.{apart-held}
 use Rattle.hgs_commit.specs.Changeset.{of_changelog, of_manifest}
 use Rattle.hgs_commit.specs.Commit.{grown_in, manifests_of, parent_files, trees_in}
-use Rattle.hgs_commit.specs.Files.{empty_log, file_in, file_on, file_with, filelog_in, filelog_with, kept_file, kept_in, parents_by, place_in, row_with, standing_at}
+use Rattle.hgs_commit.specs.Files.{OfFile, empty_log, file_in, file_on, file_with, filelog_in, filelog_with, formed, kept_file, kept_in, parents_by, place_in, row_with, standing_at}
 use Rattle.hgs_commit.specs.Obstacles.{Obstacle}
-use Rattle.hgs_commit.specs.Texts.{OfLog, new_text_in}
+use Rattle.hgs_commit.specs.Texts.{OfLog, OfText, new_text_in}
 use Rattle.hgs_commit.specs.Tree.{with_first}
 use Rattle.hgs_commit.specs.Trees.{OfGrown, all_files_in, grown_of}
 use Rattle.hgs_commit.specs.Walk.{Told}
@@ -49,8 +54,9 @@ use Rattle.hgs_planned.specs.Trees.{AreBelow}
 use Rattle.hgs_planned.proofs.Basics.{never}
 use Rattle.hgs_planned.proofs.FileLemmas.{kept-is, parents-of, told-of}
 use Rattle.hgs_planned.proofs.FilelogLemmas.{filelog-of, listing-is}
-use Rattle.hgs_planned.proofs.GrowthLemmas.{whole-of}
+use Rattle.hgs_planned.proofs.FormLemmas.{formed-log, place-formed, separate-chunks}
 use Rattle.hgs_planned.proofs.HistoryLemmas.{added, got}
+use Rattle.hgs_planned.proofs.LogLemmas.{whole-of}
 use Rattle.hgs_planned.proofs.NewTextLemmas.{text-of}
 use Rattle.hgs_planned.proofs.ParentLemmas.{files-there, parent-files}
 
@@ -88,21 +94,27 @@ record HasFilelog (t : Tree) (l : Loaded) (path : List ℕ) : Type 0 where
   there : filelog_in (listing l.fncache) path t ≡ Ok log
   place : IsThere (place_in log t)
 
-pub log-there : (more : StepsBelow) (t : Tree) (index : List ℕ) (log : Log) → length (bytes_at t index) / 64 ≤ most_revisions → loaded Refuse (bytes_at t index) ≡ Ok log → log_in index t ≡ Ok log
-log-there more t index log short e = ap (λ bytes. log_answer index (loaded Refuse bytes)) (more.short index t short) ∙ ap (log_answer index) e
+-- an index that is inline, or has no more entries than a revlog may have
+pub log-there : (more : StepsBelow) (t : Tree) (index : List ℕ) (log : Log) → (is_inline (bytes_at t index) ≡ false → length (bytes_at t index) / 64 ≤ most_revisions) → loaded_either Refuse (bytes_at t index) ≡ Ok log → either_log_in index t ≡ Ok log
+log-there more t index log short e = ap (λ bytes. log_answer index (loaded_either Refuse bytes)) (by (is_inline (bytes_at t index)) refl) ∙ ap (log_answer index) e
+  where
+    by : (b : Bool) → is_inline (bytes_at t index) ≡ b → either_index_in index t ≡ bytes_at t index
+    by true is = inline-index index t is
+    by false is = separate-index index t is ∙ more.short index t (short is)
 
 pub place-there : (t : Tree) (f : OfLog) → IsWhole t f → IsThere (place_in f t)
 place-there t f whole = by (length f.log.entries == 0)
   where
-    whole_data : data_in f.index f.chunks f.log t ≡ Ok tt
-    whole_data = ap (λ b. cond b (Ok tt) (Err (revlog_refusal f.index (faults.Tail (length f.log.entries))))) (ends (length (bytes_at t f.chunks)) (stored_sum f.log.entries) whole.chunks)
-      where
-        ends : (a b : ℕ) → a ≡ b → (a == b) ≡ true
-        ends a b e = grind (arith, nat_tests)
+    ends : (a b : ℕ) → a ≡ b → (a == b) ≡ true
+    ends a b e = grind (arith, nat_tests)
 
-    by : (b : Bool) → IsThere (cond b (Ok (standing_at f.index t ++ standing_at f.chunks t)) (and_then (data_in f.index f.chunks f.log t) (λ x. Ok [])))
+    whole_data : (b : Bool) → f.log.inline ≡ b → cond b (Ok tt) (data_in f.index f.chunks f.log t) ≡ Ok tt
+    whole_data true is = refl
+    whole_data false is = ap (λ b. cond b (Ok tt) (Err (revlog_refusal f.index (faults.Tail (length f.log.entries))))) (ends (length (bytes_at t f.chunks)) (stored_sum f.log.entries) (separate-chunks t f is whole))
+
+    by : (b : Bool) → IsThere (cond b (Ok (standing_at f.index t ++ standing_at f.chunks t)) (and_then (either_data_in f.index f.chunks f.log t) (λ x. Ok [])))
     by true = (standing_at f.index t ++ standing_at f.chunks t, refl)
-    by false = ([], ap (λ z. and_then z (λ x. Ok [])) whole_data)
+    by false = ([], ap (λ z. and_then z (λ x. Ok [])) (whole_data f.log.inline refl))
 
 -- a name that is listed without a used path has a file without bytes
 pub unused-bytes : (laws : Below) (t : Tree) (r : Repo) (path : List ℕ) (s : Stands t r) → uses r.changesets path ≡ false → lists s.fncache.names path I ≡ true → bytes_at t (store_name path I) ≡ []
@@ -118,34 +130,38 @@ filelog-there laws more t r l path s h read = by (uses r.changesets path) (lists
     index : List ℕ
     index = store_name path I
 
-    asked : (b : Bool) → lists s.fncache.names path I ≡ b → (f : OfLog) → (let x : Result OfLog ReadAnswer = cond b (and_then (log_in index t) (λ log. Ok (filelog_with path log))) (Ok (filelog_with path empty_log)) in x) ≡ Ok f → filelog_in (listing l.fncache) path t ≡ Ok f
+    asked : (b : Bool) → lists s.fncache.names path I ≡ b → (f : OfLog) → (let x : Result OfLog ReadAnswer = cond b (and_then (either_log_in index t) (λ log. Ok (filelog_with path log))) (Ok (filelog_with path empty_log)) in x) ≡ Ok f → filelog_in (listing l.fncache) path t ≡ Ok f
     asked b listed f e =
         ap (λ (list : List ℕ → Ext → Bool). filelog_in list path t) (listing-is t r l s h)
-        ∙ ap (λ z. cond z (and_then (log_in (store_name path I) t) (λ log. Ok (filelog_with path log))) (Ok (filelog_with path empty_log))) listed ∙ e
+        ∙ ap (λ z. cond z (and_then (either_log_in (store_name path I) t) (λ log. Ok (filelog_with path log))) (Ok (filelog_with path empty_log))) listed ∙ e
 
     empty-place : IsThere (place_in (filelog_with path empty_log) t)
     empty-place = (standing_at (store_name path I) t ++ standing_at (store_name path D) t, refl)
 
-    from-index : (log : Log) → log_in index t ≡ Ok log → (let x : Result OfLog ReadAnswer = and_then (log_in index t) (λ z. Ok (filelog_with path z)) in x) ≡ Ok (filelog_with path log)
+    from-index : (log : Log) → either_log_in index t ≡ Ok log → (let x : Result OfLog ReadAnswer = and_then (either_log_in index t) (λ z. Ok (filelog_with path z)) in x) ≡ Ok (filelog_with path log)
     from-index log e = ap (λ z. and_then z (λ y. Ok (filelog_with path y))) e
 
     by : (used listed : Bool) → uses r.changesets path ≡ used → lists s.fncache.names path I ≡ listed → HasFilelog t l path
     by used false is listed = record { log = filelog_with path empty_log; there = asked false listed (filelog_with path empty_log) refl; place = empty-place }
     by false true is listed =
         let none = unused-bytes laws t r path s is listed in
-        let log = log-there more t index empty_log (subst (λ bytes. length bytes / 64 ≤ most_revisions) (sym none) (omega arith)) (ap (loaded Refuse) none) in
+        let log = log-there more t index empty_log (λ plain. subst (λ bytes. length bytes / 64 ≤ most_revisions) (sym none) (omega arith)) (ap (loaded_either Refuse) none) in
         record { log = filelog_with path empty_log; there = asked true listed (filelog_with path empty_log) (from-index empty_log log); place = empty-place }
     by true true is listed =
         let revisions = (history r.changesets).filelog path in
         let held = s.revlogs.filelogs path is in
         let within = read.filelogs path is in
-        let loads = laws.loads (bytes_at t index) (bytes_at t (store_name path D)) [] revisions held within in
+        let bytes = bytes_at t index in
+        let data_bytes = bytes_at t (store_name path D) in
+        let loads = laws.loads (index_apart bytes) (chunks_either bytes data_bytes) [] revisions (apart-held bytes data_bytes revisions held) within in
+        let found : Log = record { inline = is_inline bytes; entries = loads.0.entries } in
+        let whole_index : loaded_either Refuse bytes ≡ Ok found = ap (in_form (is_inline bytes)) loads.1 in
         let few : length revisions ≤ most_revisions = within.few in
-        let log = log-there more t index loads.0 (omega (arith, laws.index_length (bytes_at t index) (bytes_at t (store_name path D)) revisions held, few)) loads.1 in
+        let log = log-there more t index found (λ plain. omega (arith, laws.index_length bytes data_bytes revisions (subst (λ b. Holds b bytes data_bytes revisions) plain held), few)) whole_index in
         record {
-          log = filelog_with path loads.0;
-          there = asked true listed (filelog_with path loads.0) (from-index loads.0 log);
-          place = place-there t (filelog_with path loads.0) (whole-of laws t (filelog_with path loads.0) revisions held loads.1);
+          log = filelog_with path found;
+          there = asked true listed (filelog_with path found) (from-index found log);
+          place = place-there t (filelog_with path found) (whole-of laws t (filelog_with path found) revisions held whole_index);
         }
 
 -- ---- the files
@@ -158,10 +174,11 @@ module _ (laws : Below) (more : StepsBelow) (t : Tree) (r : Repo) (l : Loaded) (
   changed-there f file old ps (Some rev) is place = ((kept_file f file old rev, []), refl)
   changed-there f file old ps None is place =
       let revision : Revision = record { text = plain_prefix file.body ++ file.body; parents = ps; link = link } in
-      let text = text-of t f (h.filelog file.path) revision is in
-      then-there (new_text_in f revision t) (λ x. and_then (place_in f t) (λ obstacles. Ok (record { row = row_with file x.0.node; changed = true; growth = x.0.growth; new = length f.log.entries == 0 }, obstacles ++ x.1))) text.0 text.1
-      (then-there (place_in f t) (λ obstacles. Ok (record { row = row_with file text.0.0.node; changed = true; growth = text.0.0.growth; new = length f.log.entries == 0 }, obstacles ++ text.0.1)) place.0 place.1
-      ((record { row = row_with file text.0.0.node; changed = true; growth = text.0.0.growth; new = length f.log.entries == 0 }, place.0 ++ text.0.1), refl))
+      let now = formed f (plain_prefix file.body ++ file.body) in
+      let text = text-of t now (h.filelog file.path) revision (formed-log t f (h.filelog file.path) (plain_prefix file.body ++ file.body) is) in
+      let made : OfText × List Obstacle → List Obstacle → OfFile × List Obstacle = λ x obstacles. (record { row = row_with file x.0.node; changed = true; growth = x.0.growth; new = length f.log.entries == 0; inline = now.log.inline }, obstacles ++ x.1) in
+      then-there (new_text_in now revision t) (λ x. and_then (place_in now t) (λ obstacles. Ok (made x obstacles))) text.0 text.1
+      (then-there (place_in now t) (λ obstacles. Ok (made text.0 obstacles)) place.0 (place-formed t f (plain_prefix file.body ++ file.body) ∙ place.1) (made text.0 place.0, refl))
 
   file-there : (file : NewFile) → IsThere (file_in (listing l.fncache) link file (told_at h parents.0 file.path) (told_at h parents.1 file.path) t)
   file-there file =

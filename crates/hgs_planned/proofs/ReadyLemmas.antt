@@ -7,7 +7,10 @@ use Rattle.hgs_bytes.specs.Bytes.{among, same}
 use Rattle.hgs_bytes.specs.Text.{ascends}
 use Rattle.hgs_bytes.specs.Theorems.ByteLemmas.{same-eq, same-refl}
 use Rattle.hgs_files.specs.Tree.{Tree, bytes_at}
+use Rattle.hgs_index.specs.Either.{chunks_either}
+use Rattle.hgs_index.specs.Inline.{is_inline}
 use Rattle.hgs_index.specs.Revision.{Parents, Revision}
+use Rattle.hgs_index.specs.Theorems.EitherLemmas.{separate-holds}
 use Rattle.hgs_model.specs.History.{History, filelog_with, history, uses, with_changeset}
 use Rattle.hgs_model.specs.Repo.{Changeset, Repo, TreeFile, tree_paths}
 use Rattle.hgs_model.specs.Step.{new_changeset}
@@ -45,10 +48,11 @@ use Rattle.hgs_planned.specs.Trees.{AreTextsOf}
 use Rattle.hgs_planned.proofs.Basics.{never}
 use Rattle.hgs_planned.proofs.ClashLemmas.{clash-free, clashes-swap, new-among, none-clash}
 use Rattle.hgs_planned.proofs.FilelogLemmas.{listing-is}
+use Rattle.hgs_planned.proofs.FormLemmas.{separate-chunks, separate-entries}
 use Rattle.hgs_planned.proofs.FreshLemmas.{fresh-held}
-use Rattle.hgs_planned.proofs.GrowthLemmas.{whole-of}
 use Rattle.hgs_planned.proofs.GrownTreeLemmas.{AreFree, history-next, new-paths-of}
-use Rattle.hgs_planned.proofs.JournalLemmas.{AreShort, IsShort, journal-short}
+use Rattle.hgs_planned.proofs.JournalLemmas.{AreShort, AreShortFiles, journal-short}
+use Rattle.hgs_planned.proofs.LogLemmas.{whole-of}
 use Rattle.hgs_planned.proofs.TreeLemmas.{link-is, new-paths-are}
 
 -- ---- the file of a path
@@ -56,7 +60,7 @@ use Rattle.hgs_planned.proofs.TreeLemmas.{link-is, new-paths-are}
 -- what holds of a path's file
 pub record FileAt (t : Tree) (h : History) (c : Changeset) (path : List ℕ) : Type 0 where
   pub fresh : AreNewRevisions (h.filelog path) (filelog_with h c path)
-  pub small : (ext : Ext) → length (bytes_at t (store_name path ext)) ≤ most_data
+  pub room : length (chunks_either (bytes_at t (store_name path I)) (bytes_at t (store_name path D))) ≤ most_data
   pub free : h.filelog path ≡ [] → (ext : Ext) → bytes_at t (store_name path ext) ≡ []
 
 file-at : (t : Tree) (h : History) (c : Changeset) (tree : List TreeFile) (xs : List OfFile) (path : List ℕ) → AllZip (IsGrownFileOf t h c) tree xs → among path (tree_paths tree) ≡ true → FileAt t h c path
@@ -65,20 +69,20 @@ file-at t h c (g ∷ tree) [] path all there = absurd all
 file-at t h c (g ∷ tree) (x ∷ xs) path all there = by (bool (same path g.path)) (λ e. file-at t h c tree xs path all.1 e)
   where
     by : (same path g.path ≡ true) ⊎ (same path g.path ≡ false) → (among path (tree_paths tree) ≡ true → FileAt t h c path) → FileAt t h c path
-    by (inl here) rec = subst (FileAt t h c) (sym (same-eq path g.path here)) (record { fresh = all.0.fresh; small = all.0.small; free = all.0.free })
+    by (inl here) rec = subst (FileAt t h c) (sym (same-eq path g.path here)) (record { fresh = all.0.fresh; room = all.0.room; free = all.0.free })
     by (inr away) rec = rec (ap (λ b. b || among path (tree_paths tree)) (sym away) ∙ there)
 
 short : (n : ℕ) → n ≤ most_data → n < 2 ^ 64
 short n le = omega (arith, le)
 
-all-short : (t : Tree) (h : History) (c : Changeset) (tree : List TreeFile) (xs : List OfFile) → AllZip (IsGrownFileOf t h c) tree xs → AllByRecursion (λ q. IsShort t (store_name q I) × IsShort t (store_name q D)) (tree_paths tree)
+all-short : (t : Tree) (h : History) (c : Changeset) (tree : List TreeFile) (xs : List OfFile) → AllZip (IsGrownFileOf t h c) tree xs → AllByRecursion (AreShortFiles t h.filelog (filelog_with h c)) (tree_paths tree)
 all-short t h c [] xs all = tt
 all-short t h c (g ∷ tree) [] all = absurd all
-all-short t h c (g ∷ tree) (x ∷ xs) all = ((short (length (bytes_at t (store_name g.path I))) (all.0.small I), short (length (bytes_at t (store_name g.path D))) (all.0.small D)), all-short t h c tree xs all.1)
+all-short t h c (g ∷ tree) (x ∷ xs) all = ((all.0.index_short, all.0.data_short), all-short t h c tree xs all.1)
 
--- a whole revlog of the tree
-whole-small : (t : Tree) (f : OfLog) (revisions : List Revision) → IsLogOf t f revisions → IsWhole t f → (length (bytes_at t f.index) ≤ most_data) × (length (bytes_at t f.chunks) ≤ most_data)
-whole-small t f revisions is whole = (omega (arith, whole.entries, is.entries.few), omega (arith, whole.chunks, is.entries.data_end))
+-- a whole separate revlog of the tree
+whole-small : (t : Tree) (f : OfLog) (revisions : List Revision) → f.log.inline ≡ false → IsLogOf t f revisions → IsWhole t f → (length (bytes_at t f.index) ≤ most_data) × (length (bytes_at t f.chunks) ≤ most_data)
+whole-small t f revisions separate is whole = (omega (arith, separate-entries t f separate whole, is.entries.few), omega (arith, separate-chunks t f separate whole, is.entries.data_end))
 
 -- what holds of each item that is among them
 all-among : (P : List ℕ → Type 0) (xs : List (List ℕ)) → ((x : List ℕ) → among x xs ≡ true → P x) → AllByRecursion P xs
@@ -91,7 +95,7 @@ all-among P (x ∷ xs) each = (each x (ap (λ b. b || among x xs) (same-refl x))
 
 -- ---- the commit
 
-module _ (laws : Below) (t : Tree) (r next : Repo) (l : Loaded) (s : Stands t r) (loads : IsLoadedOf t l) (changelog : IsLogOf t (of_changelog l.changelog) (history r.changesets).changelog) (manifest : IsLogOf t (of_manifest l.manifest) (history r.changesets).manifest) (n : NewChange) (parents : Parents)
+module _ (laws : Below) (t : Tree) (r next : Repo) (l : Loaded) (s : Stands t r) (loads : IsLoadedOf t l) (changelog_separate : l.changelog.inline ≡ false) (manifest_separate : l.manifest.inline ≡ false) (manifest_form : l.manifest.inline ≡ is_inline (bytes_at t manifest_index)) (changelog : IsLogOf t (of_changelog l.changelog) (history r.changesets).changelog) (manifest : IsLogOf t (of_manifest l.manifest) (history r.changesets).manifest) (n : NewChange) (parents : Parents)
     (ordered : ascends (paths_of_files n.files) ≡ true) (with_it : next.changesets ≡ r.changesets ++ new_changeset (history r.changesets) parents n ∷ [])
     (x : OfGrown × Parents) (files : AreFree t r l n parents x) (y : OfTexts × List Obstacle) (plain : y.1 ≡ []) (texts : AreTextsOf l (history r.changesets) (new_changeset (history r.changesets) parents n) y)
     (unclashed : ClashOn l (trees_in l n parents t) None None) (needs : NeedsNoTest t r next) where
@@ -136,7 +140,7 @@ module _ (laws : Below) (t : Tree) (r next : Repo) (l : Loaded) (s : Stands t r)
 
   -- a used path is listed
   listed-path : (path : List ℕ) → uses r.changesets path ≡ true → is_path_of (listing l.fncache) path ≡ true
-  listed-path path used = ap (λ (list : List ℕ → Ext → Bool). is_path_of list path) (listing-is t r l s loads) ∙ ap (λ b. b || lists s.fncache.names path D) (s.fncache.listed path I used)
+  listed-path path used = ap (λ (list : List ℕ → Ext → Bool). is_path_of list path) (listing-is t r l s loads) ∙ ap (λ b. b || lists s.fncache.names path D) (s.fncache.listed path I used refl)
 
   no-clash : (path other : List ℕ) → among path (new_paths r next) ≡ true → uses next.changesets other ≡ true → clashes path other ≡ false
   no-clash path other there used = by (bool (uses r.changesets path)) (bool (uses r.changesets other))
@@ -172,7 +176,7 @@ module _ (laws : Below) (t : Tree) (r next : Repo) (l : Loaded) (s : Stands t r)
   fresh-file path = by (bool (among path (tree_paths c.tree))) (bool (uses r.changesets path))
     where
       held : (uses r.changesets path ≡ true) ⊎ (uses r.changesets path ≡ false) → AreNewRevisions (h.filelog path) (h.filelog path)
-      held (inl used) = fresh-held (bytes_at t (store_name path I)) (bytes_at t (store_name path D)) (h.filelog path) (s.revlogs.filelogs path used)
+      held (inl used) = fresh-held (is_inline (bytes_at t (store_name path I))) (bytes_at t (store_name path I)) (bytes_at t (store_name path D)) (h.filelog path) (s.revlogs.filelogs path used)
       held (inr unused) = subst (λ (log : List Revision). AreNewRevisions log log) (sym (laws.unused r.changesets path unused)) (record { texts = tt; different = refl; not_null = refl })
 
       by : (among path (tree_paths c.tree) ≡ true) ⊎ (among path (tree_paths c.tree) ≡ false) → (uses r.changesets path ≡ true) ⊎ (uses r.changesets path ≡ false) → AreNewRevisions (h.filelog path) (filelog_with h c path)
@@ -182,22 +186,26 @@ module _ (laws : Below) (t : Tree) (r next : Repo) (l : Loaded) (s : Stands t r)
   -- ---- sizes
 
   changelog-small : (length (bytes_at t changelog_index) ≤ most_data) × (length (bytes_at t changelog_data) ≤ most_data)
-  changelog-small = whole-small t (of_changelog l.changelog) h.changelog changelog (whole-of laws t (of_changelog l.changelog) h.changelog s.revlogs.changelog loads.changelog)
+  changelog-small =
+      whole-small t (of_changelog l.changelog) h.changelog changelog_separate changelog
+      (whole-of laws t (of_changelog l.changelog) h.changelog (separate-holds (bytes_at t changelog_index) (bytes_at t changelog_data) h.changelog s.revlogs.changelog) loads.changelog)
 
   manifest-small : (length (bytes_at t manifest_index) ≤ most_data) × (length (bytes_at t manifest_data) ≤ most_data)
-  manifest-small = whole-small t (of_manifest l.manifest) h.manifest manifest (whole-of laws t (of_manifest l.manifest) h.manifest s.revlogs.manifest loads.manifest)
+  manifest-small =
+      whole-small t (of_manifest l.manifest) h.manifest manifest_separate manifest
+      (whole-of laws t (of_manifest l.manifest) h.manifest s.revlogs.manifest loads.manifest)
 
   room : HasRoom t r next
   room = record {
     changesets = (let few = changelog.entries.few in omega (arith, few, link-is t r l s changelog, length-placed r.changesets));
     changelog = changelog-small.1;
     manifest = manifest-small.1;
-    filelogs = λ path there. (file path there).small D;
+    filelogs = λ path there. (file path there).room;
   }
 
   shorts : AreShort t r next
   shorts = record {
-    filelogs = subst (AllByRecursion (λ q. IsShort t (store_name q I) × IsShort t (store_name q D))) (sym paths) (all-short t h c c.tree files.trees.trees.files.0 files.all);
+    filelogs = subst (λ (k : History). AllByRecursion (AreShortFiles t h.filelog k.filelog) (new_paths r next)) (sym logs) (subst (AllByRecursion (AreShortFiles t h.filelog (filelog_with h c))) (sym paths) (all-short t h c c.tree files.trees.trees.files.0 files.all));
     list = needs.list;
     manifest = (short (length (bytes_at t manifest_index)) manifest-small.0, short (length (bytes_at t manifest_data)) manifest-small.1);
     changelog = (short (length (bytes_at t changelog_index)) changelog-small.0, short (length (bytes_at t changelog_data)) changelog-small.1);
@@ -206,6 +214,7 @@ module _ (laws : Below) (t : Tree) (r next : Repo) (l : Loaded) (s : Stands t r)
   unhindered : IsUnhindered t r next
   unhindered = record {
     room = room;
+    separate = sym manifest_form ∙ manifest_separate;
     changelog = subst (λ (k : History). AreNewRevisions h.changelog k.changelog) (sym logs) (texts.changesets_fresh plain);
     manifest = subst (λ (k : History). AreNewRevisions h.manifest k.manifest) (sym logs) (texts.manifests_fresh plain);
     filelogs = λ path. subst (λ (k : History). AreNewRevisions (h.filelog path) (k.filelog path)) (sym logs) (fresh-file path);

@@ -18,7 +18,7 @@ use Rattle.hgs_load.specs.declared.answer.ReadAnswer.{ReadAnswer}
 use Rattle.hgs_stands.specs.Stands.{Stands}
 use Rattle.hgs_steps.specs.Planned.{IsLoadedOf}
 use Rattle.hgs_steps.specs.declared.loaded.Loaded.{Loaded}
-use Rattle.hgs_commit.specs.Files.{OfFile, file_in, file_on, file_with, filelog_in, has_other_flag, kept_file, parents_by, place_in, row_with}
+use Rattle.hgs_commit.specs.Files.{OfFile, file_in, file_on, file_with, filelog_in, formed, has_other_flag, kept_file, parents_by, place_in, row_with}
 use Rattle.hgs_commit.specs.Obstacles.{Obstacle}
 use Rattle.hgs_commit.specs.Texts.{OfLog, OfText, new_text_in}
 use Rattle.hgs_commit.specs.Walk.{Told}
@@ -29,6 +29,7 @@ use Rattle.hgs_planned.specs.Trees.{IsFileOf}
 use Rattle.hgs_planned.proofs.Basics.{both, ok-is}
 use Rattle.hgs_planned.proofs.FileLemmas.{kept-is, parents-of}
 use Rattle.hgs_planned.proofs.FilelogLemmas.{filelog-of}
+use Rattle.hgs_planned.proofs.FormLemmas.{formed-log}
 use Rattle.hgs_planned.proofs.NewTextLemmas.{text-of}
 use Rattle.hgs_planned.proofs.TextLemmas.{node-of}
 
@@ -96,13 +97,14 @@ module _ (laws : Below) (t : Tree) (r : Repo) (l : Loaded) (s : Stands t r) (loa
       (with-row (kept_file f file old rev, []) _ (Some rev) k found refl (node-of t f log rev is) (other-flag h parents file.flag file.path))
   file-by f x is found None k e =
       let revision : Revision = record { text = plain_prefix file.body ++ file.body; parents = both_parents; link = link } in
-      let a = both (new_text_in f revision t) (λ text. and_then (place_in f t) (λ obstacles. Ok (record { row = row_with file text.0.node; changed = true; growth = text.0.growth; new = length f.log.entries == 0 }, obstacles ++ text.1))) x e in
-      let b = both (place_in f t) (λ obstacles. Ok (record { row = row_with file a.0.0.node; changed = true; growth = a.0.0.growth; new = length f.log.entries == 0 }, obstacles ++ a.0.1)) x a.2 in
-      let y = text-of t f log revision is in
+      let now = formed f (plain_prefix file.body ++ file.body) in
+      let made : OfText × List Obstacle → List Obstacle → OfFile × List Obstacle = λ text obstacles. (record { row = row_with file text.0.node; changed = true; growth = text.0.growth; new = length f.log.entries == 0; inline = now.log.inline }, obstacles ++ text.1) in
+      let a = both (new_text_in now revision t) (λ text. and_then (place_in now t) (λ obstacles. Ok (made text obstacles))) x e in
+      let b = both (place_in now t) (λ obstacles. Ok (made a.0 obstacles)) x a.2 in
+      let y = text-of t now log revision (formed-log t f log (plain_prefix file.body ++ file.body) is) in
       let text : y.0 ≡ a.0 = ok-is {E = ReadAnswer} y.0 a.0 (sym y.1 ∙ a.1) in
       let node : a.0.0.node ≡ node-by None = ap (λ (z : OfText × List Obstacle). z.0.node) (sym text) ∙ y.2.node ∙ ap (λ (z : Revision). node_at (with_revision log z) (number_of log z.text z.parents)) (new-revision k) in
-      let made : OfFile × List Obstacle = (record { row = row_with file a.0.0.node; changed = true; growth = a.0.0.growth; new = length f.log.entries == 0 }, b.0 ++ a.0.1) in
-      subst (λ (z : OfFile × List Obstacle). IsFileOf h c g z.0) (ok-is {E = ReadAnswer} made x b.2) (with-row made a.0.0.node None k found refl node refl)
+      subst (λ (z : OfFile × List Obstacle). IsFileOf h c g z.0) (ok-is {E = ReadAnswer} (made a.0 b.0) x b.2) (with-row (made a.0 b.0) a.0.0.node None k found refl node refl)
 
   -- its filelog as it is loaded, and what it becomes by the revision that is kept
   pub file-steps : (x : OfFile × List Obstacle) → file_in (listing l.fncache) link file (told_at h parents.0 file.path) (told_at h parents.1 file.path) t ≡ Ok x

@@ -1,11 +1,16 @@
 -- What is read for a commit is refused only for a limit.
 use Rattle.std.proofs.Common.{◌≡◌, ℕ, List, [], ◌∷◌, ◌++◌, Bool, true, false, ◌==◌, cond, length, take, refl, sym, ◌∙◌, ap, subst, arith}
 use Rattle.std.specs.Prelude.{◌<◌, ◌≤◌, ◌*◌, ◌/◌, Option, Some, None, IfSome, Result, Ok, Err}
+use Rattle.std.proofs.lemmas.List.{take_all}
 use Rattle.hgs_files.specs.Tree.{Tree, bytes_at}
+use Rattle.hgs_index.specs.Either.{HoldsEither, chunks_either}
 use Rattle.hgs_index.specs.FileText.{plain_prefix}
+use Rattle.hgs_index.specs.Inline.{index_apart, is_inline}
 use Rattle.hgs_index.specs.Revision.{Parents, Revision}
+use Rattle.hgs_index.specs.Revlog.{Holds}
+use Rattle.hgs_index.specs.Theorems.InlineLemmas.{fronts-separate}
 use Rattle.hgs_loading.specs.Found.{and_then}
-use Rattle.hgs_loading.specs.Logs.{log_in}
+use Rattle.hgs_loading.specs.Logs.{either_index_in, either_log_in, index_in}
 use Rattle.hgs_manifest.specs.Held.{found_in}
 use Rattle.hgs_model.specs.History.{History, file_parents, first_of, history, kept, uses}
 use Rattle.hgs_model.specs.Repo.{Repo}
@@ -20,16 +25,18 @@ use Rattle.hgs_load.specs.View.{log_answer, revlog_refusal}
 use Rattle.hgs_load.specs.declared.answer.ReadAnswer.{ReadAnswer}
 use Rattle.hgs_revlog.specs.declared.fault.RevFault.{RevFault}
 use Rattle.hgs_revlog.specs.declared.fault.Tail.TheVariants.{Refuse}
-use Rattle.hgs_revlog.specs.Load.{loaded, most_revisions}
+use Rattle.hgs_revlog.specs.Load.{in_form, loaded, loaded_either, most_revisions}
 use Rattle.hgs_revlog.specs.Log.{Log}
 use Rattle.hgs_stands.specs.Stands.{Stands}
+use Rattle.hgs_loading.specs.Theorems.IndexLemmas.{inline-index, separate-index}
 use Rattle.hgs_steps.specs.Planned.{IsLoadedOf}
 use Rattle.hgs_steps.specs.declared.loaded.Loaded.{Loaded}
+use Rattle.hgs_steps.specs.Theorems.SeparateLemmas.{apart-held}
 use Rattle.hgs_commit.specs.Changeset.{of_changelog, of_manifest}
 use Rattle.hgs_commit.specs.Commit.{grown_in, manifests_of, parent_files, trees_in}
-use Rattle.hgs_commit.specs.Files.{OfFile, empty_log, file_in, file_on, file_with, filelog_in, filelog_with, parents_by, place_in, row_with}
+use Rattle.hgs_commit.specs.Files.{OfFile, empty_log, file_in, file_on, file_with, filelog_in, filelog_with, formed, parents_by, place_in, row_with}
 use Rattle.hgs_commit.specs.Obstacles.{Obstacle}
-use Rattle.hgs_commit.specs.Texts.{OfLog, new_text_in}
+use Rattle.hgs_commit.specs.Texts.{OfLog, OfText, new_text_in}
 use Rattle.hgs_commit.specs.Tree.{OfFiles, with_first}
 use Rattle.hgs_commit.specs.Trees.{all_files_in, grown_of}
 use Rattle.hgs_commit.specs.Walk.{Told}
@@ -41,9 +48,10 @@ use Rattle.hgs_planned.specs.Trees.{AreBelow}
 use Rattle.hgs_planned.proofs.Basics.{IsLimited, both, given-limited, ok-is, then-limited}
 use Rattle.hgs_planned.proofs.FileLemmas.{kept-is, parents-of, told-of}
 use Rattle.hgs_planned.proofs.FilelogLemmas.{filelog-of, listing-is}
-use Rattle.hgs_planned.proofs.GrowthLemmas.{whole-of}
+use Rattle.hgs_planned.proofs.FormLemmas.{formed-log, place-formed}
 use Rattle.hgs_planned.proofs.HistoryLemmas.{added, got}
 use Rattle.hgs_planned.proofs.LimitLemmas.{HasOnlyLimits, held-limited}
+use Rattle.hgs_planned.proofs.LogLemmas.{whole-of}
 use Rattle.hgs_planned.proofs.NewTextLemmas.{text-of}
 use Rattle.hgs_planned.proofs.ParentLemmas.{files-limited, parent-files}
 use Rattle.hgs_planned.proofs.ReadLemmas.{log-there, place-there, unused-bytes}
@@ -66,11 +74,39 @@ module _ (laws : Below) (more : StepsBelow) (t : Tree) (r : Repo) (l : Loaded) (
   abbrev index : List ℕ
   index = store_name path I
 
-  log-limited : (used : Bool) → uses r.changesets path ≡ used → lists s.fncache.names path I ≡ true → IsLimited (log_in index t)
-  log-limited true is listed = answer-limited index (loaded Refuse (take (64 * 1000448) (bytes_at t index))) (held-limited (bytes_at t index) (bytes_at t (store_name path D)) ((history r.changesets).filelog path) 1000448 (s.revlogs.filelogs path is))
+  abbrev bytes : List ℕ
+  bytes = bytes_at t (store_name path I)
+
+  -- the index of a used path's filelog
+  either-limited : uses r.changesets path ≡ true → HasOnlyLimits (loaded_either Refuse (either_index_in index t))
+  either-limited used = by (is_inline bytes) refl
+    where
+      held : HoldsEither bytes (bytes_at t (store_name path D)) ((history r.changesets).filelog path)
+      held = s.revlogs.filelogs path used
+
+      formed-limited : (b : Bool) (x : Result Log RevFault) → HasOnlyLimits x → HasOnlyLimits (in_form b x)
+      formed-limited b (Ok log) only = tt
+      formed-limited b (Err fault) only = only
+
+      all : take (64 * length (index_apart bytes)) (index_apart bytes) ≡ index_apart bytes
+      all = take_all (64 * length (index_apart bytes)) (index_apart bytes) (omega arith)
+
+      by : (b : Bool) → is_inline bytes ≡ b → HasOnlyLimits (loaded_either Refuse (either_index_in index t))
+      by true is =
+          subst (λ x. HasOnlyLimits (loaded_either Refuse x)) (sym (inline-index index t is))
+          (formed-limited (is_inline bytes) (loaded Refuse (index_apart bytes))
+          (subst (λ x. HasOnlyLimits (loaded Refuse x)) all
+          (held-limited (index_apart bytes) (chunks_either bytes (bytes_at t (store_name path D))) ((history r.changesets).filelog path) (length (index_apart bytes)) (apart-held bytes (bytes_at t (store_name path D)) ((history r.changesets).filelog path) held))))
+      by false is =
+          subst (λ x. HasOnlyLimits (loaded_either Refuse x)) (sym (separate-index index t is))
+          (subst HasOnlyLimits (sym (laws.plain Refuse (index_in index t) (fronts-separate (64 * 1000448) bytes is)))
+          (held-limited bytes (bytes_at t (store_name path D)) ((history r.changesets).filelog path) 1000448 (subst (λ b. Holds b bytes (bytes_at t (store_name path D)) ((history r.changesets).filelog path)) is held)))
+
+  log-limited : (used : Bool) → uses r.changesets path ≡ used → lists s.fncache.names path I ≡ true → IsLimited (either_log_in index t)
+  log-limited true is listed = answer-limited index (loaded_either Refuse (either_index_in index t)) (either-limited is)
   log-limited false is listed =
       let none = unused-bytes laws t r path s is listed in
-      given-limited (log_in index t) empty_log (log-there more t index empty_log (subst (λ bytes. length bytes / 64 ≤ most_revisions) (sym none) (omega arith)) (ap (loaded Refuse) none))
+      given-limited (either_log_in index t) empty_log (log-there more t index empty_log (λ plain. subst (λ x. length x / 64 ≤ most_revisions) (sym none) (omega arith)) (ap (loaded_either Refuse) none))
 
   by-list : filelog_in (listing l.fncache) path t ≡ filelog_in (lists s.fncache.names) path t
   by-list = ap (λ (list : List ℕ → Ext → Bool). filelog_in list path t) (listing-is t r l s loads)
@@ -78,9 +114,9 @@ module _ (laws : Below) (more : StepsBelow) (t : Tree) (r : Repo) (l : Loaded) (
   filelog-limited : IsLimited (filelog_in (listing l.fncache) path t)
   filelog-limited = subst (λ (x : Result OfLog ReadAnswer). IsLimited x) (sym by-list) (by (lists s.fncache.names path I) refl)
     where
-      by : (listed : Bool) → lists s.fncache.names path I ≡ listed → IsLimited (let x : Result OfLog ReadAnswer = cond listed (and_then (log_in index t) (λ log. Ok (filelog_with path log))) (Ok (filelog_with path empty_log)) in x)
+      by : (listed : Bool) → lists s.fncache.names path I ≡ listed → IsLimited (let x : Result OfLog ReadAnswer = cond listed (and_then (either_log_in index t) (λ log. Ok (filelog_with path log))) (Ok (filelog_with path empty_log)) in x)
       by false listed = tt
-      by true listed = then-limited (log_in index t) (λ log. Ok (filelog_with path log)) (log-limited (uses r.changesets path) refl listed) (λ log e. tt)
+      by true listed = then-limited (either_log_in index t) (λ log. Ok (filelog_with path log)) (log-limited (uses r.changesets path) refl listed) (λ log e. tt)
 
   -- where a new revision stands behind those of the filelog
   place-limited : (f : OfLog) → filelog_in (listing l.fncache) path t ≡ Ok f → IsLimited (place_in f t)
@@ -89,17 +125,17 @@ module _ (laws : Below) (more : StepsBelow) (t : Tree) (r : Repo) (l : Loaded) (
       empty-place : (g : OfLog) → filelog_with path empty_log ≡ g → IsLimited (place_in g t)
       empty-place g is = subst (λ (x : OfLog). IsLimited (place_in x t)) is tt
 
-      by : (listed used : Bool) → uses r.changesets path ≡ used → lists s.fncache.names path I ≡ listed → (let x : Result OfLog ReadAnswer = cond listed (and_then (log_in index t) (λ log. Ok (filelog_with path log))) (Ok (filelog_with path empty_log)) in x) ≡ Ok f → IsLimited (place_in f t)
+      by : (listed used : Bool) → uses r.changesets path ≡ used → lists s.fncache.names path I ≡ listed → (let x : Result OfLog ReadAnswer = cond listed (and_then (either_log_in index t) (λ log. Ok (filelog_with path log))) (Ok (filelog_with path empty_log)) in x) ≡ Ok f → IsLimited (place_in f t)
       by false used is listed g = empty-place f (ok-is {E = ReadAnswer} (filelog_with path empty_log) f g)
       by true true is listed g =
-          let a = both (log_in index t) (λ log. Ok (filelog_with path log)) f g in
+          let a = both (either_log_in index t) (λ log. Ok (filelog_with path log)) f g in
           let whole = whole-of laws t (filelog_with path a.0) ((history r.changesets).filelog path) (s.revlogs.filelogs path is) (laws.whole index t a.0 a.1) in
           let place = place-there t (filelog_with path a.0) whole in
           subst (λ (x : OfLog). IsLimited (place_in x t)) (ok-is {E = ReadAnswer} (filelog_with path a.0) f a.2) (given-limited (place_in (filelog_with path a.0) t) place.0 place.1)
       by true false is listed g =
-          let a = both (log_in index t) (λ log. Ok (filelog_with path log)) f g in
+          let a = both (either_log_in index t) (λ log. Ok (filelog_with path log)) f g in
           let none = unused-bytes laws t r path s is listed in
-          let empty = ok-is {E = RevFault} empty_log a.0 (ap (loaded Refuse) (sym none) ∙ laws.whole index t a.0 a.1) in
+          let empty = ok-is {E = RevFault} empty_log a.0 (ap (loaded_either Refuse) (sym none) ∙ laws.whole index t a.0 a.1) in
           empty-place f (ap (filelog_with path) empty ∙ ok-is {E = ReadAnswer} (filelog_with path a.0) f a.2)
 
 -- ---- the files
@@ -112,9 +148,12 @@ module _ (laws : Below) (more : StepsBelow) (t : Tree) (r : Repo) (l : Loaded) (
   changed-limited f file old ps (Some rev) is place = tt
   changed-limited f file old ps None is place =
       let revision : Revision = record { text = plain_prefix file.body ++ file.body; parents = ps; link = link } in
-      let text = text-of t f (h.filelog file.path) revision is in
-      then-limited (new_text_in f revision t) (λ x. and_then (place_in f t) (λ obstacles. Ok (record { row = row_with file x.0.node; changed = true; growth = x.0.growth; new = length f.log.entries == 0 }, obstacles ++ x.1))) (given-limited (new_text_in f revision t) text.0 text.1)
-      (λ x e. then-limited (place_in f t) (λ obstacles. Ok (record { row = row_with file x.0.node; changed = true; growth = x.0.growth; new = length f.log.entries == 0 }, obstacles ++ x.1)) place (λ obstacles g. tt))
+      let now = formed f (plain_prefix file.body ++ file.body) in
+      let text = text-of t now (h.filelog file.path) revision (formed-log t f (h.filelog file.path) (plain_prefix file.body ++ file.body) is) in
+      let made : OfText × List Obstacle → List Obstacle → OfFile × List Obstacle = λ x obstacles. (record { row = row_with file x.0.node; changed = true; growth = x.0.growth; new = length f.log.entries == 0; inline = now.log.inline }, obstacles ++ x.1) in
+      let placed : IsLimited (place_in now t) = subst (λ (x : Result (List Obstacle) ReadAnswer). IsLimited x) (sym (place-formed t f (plain_prefix file.body ++ file.body))) place in
+      then-limited (new_text_in now revision t) (λ x. and_then (place_in now t) (λ obstacles. Ok (made x obstacles))) (given-limited (new_text_in now revision t) text.0 text.1)
+      (λ x e. then-limited (place_in now t) (λ obstacles. Ok (made x obstacles)) placed (λ obstacles g. tt))
 
   file-limited : (file : NewFile) → IsLimited (file_in (listing l.fncache) link file (told_at h parents.0 file.path) (told_at h parents.1 file.path) t)
   file-limited file =

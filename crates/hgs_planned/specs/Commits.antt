@@ -2,6 +2,7 @@
 use Rattle.std.specs.Prelude.{◌≡◌, ◌≤◌, ℕ, List, true, length, Option, Some, Result, Ok, Err}
 use Rattle.std.specs.List.{AllByRecursion}
 use Rattle.hgs_files.specs.Tree.{Tree, bytes_at}
+use Rattle.hgs_index.specs.Either.{chunks_either}
 use Rattle.hgs_model.specs.History.{history, uses}
 use Rattle.hgs_model.specs.Repo.{Changeset, Repo}
 use Rattle.hgs_model.specs.Step.{Next}
@@ -9,7 +10,7 @@ use Rattle.hgs_model.specs.declared.command.Command.TheVariants.{Commit}
 use Rattle.hgs_model.specs.declared.command.NewChange.{NewChange}
 use Rattle.hgs_model.specs.declared.command.Refusal.{Refusal}
 use Rattle.hgs_ops.specs.Unhindered.{IsReady}
-use Rattle.hgs_path.specs.declared.name.Ext.TheVariants.{D}
+use Rattle.hgs_path.specs.declared.name.Ext.TheVariants.{D, I}
 use Rattle.hgs_path.specs.StoreName.{store_name}
 use Rattle.hgs_index.specs.declared.kinds.Which.{Which}
 use Rattle.hgs_reader.specs.Contents.{most_files}
@@ -29,7 +30,7 @@ use Rattle.hgs_planned.specs.Ready.{NeedsNoTest}
 -- Each changeset has as few files as may be read, and each filelog is within the limits of a revlog.
 pub record CanBeRead (t : Tree) (r : Repo) : Type 0 where
   pub trees : AllByRecursion (λ (c : Changeset). length c.tree ≤ most_files) r.changesets
-  pub filelogs : (path : List ℕ) → uses r.changesets path ≡ true → AreWithinLimits ((history r.changesets).filelog path) (bytes_at t (store_name path D))
+  pub filelogs : (path : List ℕ) → uses r.changesets path ≡ true → AreWithinLimits ((history r.changesets).filelog path) (chunks_either (bytes_at t (store_name path I)) (bytes_at t (store_name path D)))
 
 -- a limit of reading
 abbrev pub IsLimit : ReadAnswer → Type 0

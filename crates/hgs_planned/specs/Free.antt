@@ -2,6 +2,8 @@
 use Rattle.std.specs.Prelude.{◌≡◌, ◌≤◌, ◌+◌, ℕ, List, [], false, true, length, drop, sum_by}
 use Rattle.hgs_bytes.specs.Bytes.{among}
 use Rattle.hgs_files.specs.Tree.{Tree, bytes_at}
+use Rattle.hgs_index.specs.Either.{chunks_either}
+use Rattle.hgs_index.specs.Inline.{is_inline}
 use Rattle.hgs_index.specs.Revision.{Revision}
 use Rattle.hgs_index.specs.Revlog.{chunk_of}
 use Rattle.hgs_model.specs.History.{history}
@@ -9,22 +11,24 @@ use Rattle.hgs_model.specs.Repo.{Repo}
 use Rattle.hgs_ops.specs.Growth.{new_paths}
 use Rattle.hgs_ops.specs.Unhindered.{AreNewRevisions}
 use Rattle.hgs_path.specs.declared.name.Ext.{Ext}
-use Rattle.hgs_path.specs.declared.name.Ext.TheVariants.{D}
+use Rattle.hgs_path.specs.declared.name.Ext.TheVariants.{D, I}
 use Rattle.hgs_path.specs.StoreName.{store_name}
 use Rattle.hgs_revlog.specs.Load.{most_data, most_revisions}
-use Rattle.hgs_stands.specs.Places.{changelog_data, manifest_data}
+use Rattle.hgs_stands.specs.Places.{changelog_data, changelog_index, manifest_data, manifest_index}
 use Rattle.hgs_steps.specs.Planned.{passes_limit}
 
 -- A revlog that grows to these revisions is within its limits, and has no node twice and not the null node.
-pub record HasRoomFor (t : Tree) (chunks : List ℕ) (old all : List Revision) : Type 0 where
+pub record HasRoomFor (t : Tree) (index chunks : List ℕ) (old all : List Revision) : Type 0 where
   pub few : length all ≤ most_revisions
-  pub data_end : length (bytes_at t chunks) + sum_by (λ (r : Revision). length (chunk_of r.text)) (drop (length old) all) ≤ most_data
+  pub data_end : length (chunks_either (bytes_at t index) (bytes_at t chunks)) + sum_by (λ (r : Revision). length (chunk_of r.text)) (drop (length old) all) ≤ most_data
   pub new : AreNewRevisions old all
 
--- The bookmarks and each revlog are within their limits with the new changeset, and where a filelog is new its files have no bytes.
+-- The manifest is separate, the bookmarks and each revlog are within their limits with the new changeset, and where a filelog is
+-- new its files have no bytes.
 pub record IsFree (t : Tree) (r next : Repo) : Type 0 where
   pub bookmarks : passes_limit r next ≡ false
-  pub changelog : HasRoomFor t changelog_data (history r.changesets).changelog (history next.changesets).changelog
-  pub manifest : HasRoomFor t manifest_data (history r.changesets).manifest (history next.changesets).manifest
-  pub filelogs : (path : List ℕ) → HasRoomFor t (store_name path D) ((history r.changesets).filelog path) ((history next.changesets).filelog path)
+  pub separate : is_inline (bytes_at t manifest_index) ≡ false
+  pub changelog : HasRoomFor t changelog_index changelog_data (history r.changesets).changelog (history next.changesets).changelog
+  pub manifest : HasRoomFor t manifest_index manifest_data (history r.changesets).manifest (history next.changesets).manifest
+  pub filelogs : (path : List ℕ) → HasRoomFor t (store_name path I) (store_name path D) ((history r.changesets).filelog path) ((history next.changesets).filelog path)
   pub files : (path : List ℕ) (ext : Ext) → among path (new_paths r next) ≡ true → (history r.changesets).filelog path ≡ [] → bytes_at t (store_name path ext) ≡ []

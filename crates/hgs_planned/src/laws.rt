@@ -1,9 +1,9 @@
 //! What the definitions of this crate imply. Each function is one law; none does anything but to call laws that it rests on.
-ghost use Rattle.std.specs.Prelude.{◌≡◌, ◌<◌, ◌++◌, ◌∷◌, [], true, ℕ, List, length, Option, Some, None, IfSome, Ok, Err};
+ghost use Rattle.std.specs.Prelude.{◌≡◌, ◌<◌, ◌++◌, ◌∷◌, [], true, false, ℕ, List, length, Option, Some, None, IfSome, Ok, Err};
 ghost use Rattle.hgs_bytes.specs.Text.{ascends};
 ghost use Rattle.hgs_files.specs.Tree.{Tree};
 ghost use Rattle.hgs_index.specs.Revision.{Parents, Revision, parent_node, standing, with_revision};
-ghost use Rattle.hgs_loading.specs.Logs.{text_in};
+ghost use Rattle.hgs_loading.specs.Logs.{text_in_form};
 ghost use Rattle.hgs_loading.specs.Parent.{Files};
 ghost use Rattle.hgs_manifest.specs.Held.{found_in};
 ghost use Rattle.hgs_model.specs.History.{History, changeset_revision, file_parents, history, kept, node_at, text_at};
@@ -22,6 +22,7 @@ ghost use Rattle.hgs_path.specs.Fncache.{listing};
 ghost use Rattle.hgs_revlog.specs.Log.{nodes_of, place_of};
 ghost use Rattle.hgs_stands.specs.Places.{fncache_path};
 ghost use Rattle.hgs_stands.specs.Stands.{Stands};
+ghost use Rattle.hgs_steps.specs.Loaded.{has_inline};
 ghost use Rattle.hgs_steps.specs.Planned.{IsLoadedOf};
 ghost use Rattle.hgs_steps.specs.Steps.{as_fault};
 ghost use Rattle.hgs_steps.specs.declared.loaded.Loaded.{Loaded};
@@ -51,7 +52,9 @@ use hgs_path::laws::{
     filelogs_have_their_own_names, listed_names_differ, listed_names_name_files,
     names_of_one_file_collide,
 };
-use hgs_revlog::laws::{entries_of_revisions, loaded_entries, new_revision, whole_index};
+use hgs_revlog::laws::{
+    either_form, entries_of_revisions, inline_index, loaded_entries, new_revision, whole_index,
+};
 use hgs_steps::laws::{
     files_of_commits_agree, loaded_entries_are_held, loaded_holds_repository, names_agree,
 };
@@ -70,7 +73,7 @@ pub fn loaded_logs_are_the_repositorys()
 pub fn logs_tell_revisions()
     ensures place { (t : Tree) (f : OfLog) (revisions : List Revision) (rev : ℕ) → IsLogOf t f revisions → rev < length revisions → place_of f.log.entries (node_at revisions rev) ≡ Some rev }
     ensures node { (t : Tree) (f : OfLog) (revisions : List Revision) (rev : ℕ) → IsLogOf t f revisions → parent_node (nodes_of f.log.entries) (Some rev) ≡ node_at revisions rev }
-    ensures text { (t : Tree) (f : OfLog) (revisions : List Revision) (rev : ℕ) → IsLogOf t f revisions → rev < length revisions → text_in f.index f.chunks f.log.entries rev t ≡ Ok (text_at revisions rev) }
+    ensures text { (t : Tree) (f : OfLog) (revisions : List Revision) (rev : ℕ) → IsLogOf t f revisions → rev < length revisions → text_in_form f.index f.chunks f.log rev t ≡ Ok (text_at revisions rev) }
 {}
 
 /// What is read of a parent is the manifest of that changeset in the repository, by its number, and its rows: of each file the
@@ -144,7 +147,7 @@ pub fn equal_changesets_are_refused()
 /// What is appended of a revision to a revlog whose files are as long as its entries say is what the list of its revisions
 /// grows by, behind what stands in the tree: nothing where it is a revision already. Changelog and manifest are as long.
 pub fn revisions_are_appended()
-    ensures grows { (t : Tree) (f : OfLog) (old : List Revision) (r : Revision) → IsLogOf t f old → IsWhole t f → AreAppends t (grown t f.index f.chunks old (with_revision old r)) (changes_of (growth_by f r (standing old r.text r.parents))) }
+    ensures grows { (t : Tree) (f : OfLog) (old : List Revision) (r : Revision) → IsLogOf t f old → IsWhole t f → AreAppends t (grown f.log.inline t f.index f.chunks old (with_revision old r)) (changes_of (growth_by f r (standing old r.text r.parents))) }
     ensures changelog { (t : Tree) (r : Repo) (l : Loaded) → Stands t r → IsLoadedOf t l → IsWhole t (of_changelog l.changelog) }
     ensures manifest { (t : Tree) (r : Repo) (l : Loaded) → Stands t r → IsLoadedOf t l → IsWhole t (of_manifest l.manifest) }
 {
@@ -163,12 +166,14 @@ pub fn filelogs_of_commits_grow()
     loaded_logs_are_the_repositorys();
 }
 
-/// A commit that nothing keeps from being written is ready: by its tests, by what was loaded, and by what needs no test.
+/// A commit that nothing keeps from being written, neither an inline log, is ready: by its tests, by what was loaded, and by what
+/// needs no test.
 pub fn free_commits_are_ready()
     ensures { (t : Tree) (r next : Repo) (l : Loaded) (n : NewChange) (parents : Parents) (x : OfGrown × Parents) (y : OfTexts) → Stands t r → IsLoadedOf t l → ascends (new_paths n.files) ≡ true → AreBelow (length r.changesets) parents → next.changesets ≡ r.changesets ++ new_changeset (history r.changesets) parents n ∷ [] →
-        grown_in l n parents t ≡ Ok (x, []) → texts_in l n parents x.0 x.1 t ≡ Ok (y, []) → ClashOn l (trees_in l n parents t) None None → NeedsNoTest t r next → IsReady t r (Commit n) next }
+        has_inline l ≡ false → grown_in l n parents t ≡ Ok (x, []) → texts_in l n parents x.0 x.1 t ≡ Ok (y, []) → ClashOn l (trees_in l n parents t) None None → NeedsNoTest t r next → IsReady t r (Commit n) next }
 {
     laws_below();
+    laws_of_steps();
     loaded_logs_are_the_repositorys();
     trees_are_the_repositorys();
     texts_of_commits_are_the_repositorys();
@@ -176,7 +181,7 @@ pub fn free_commits_are_ready()
 
 /// Where a commit is refused for nothing that was met, nothing was met, and no clash was told.
 pub fn met_obstacles_refuse()
-    ensures { (a b c : List Obstacle) (clash : Option (List ℕ)) → refusal_with (noted (noted (noted nothing_met a) b) c) clash ≡ Ok tt → (a ≡ []) × (b ≡ []) × (c ≡ []) × (clash ≡ None) }
+    ensures { (a b c d : List Obstacle) (clash : Option (List ℕ)) → refusal_with (noted (noted (noted (noted nothing_met a) b) c) d) clash ≡ Ok tt → (a ≡ []) × (b ≡ []) × (c ≡ []) × (d ≡ []) × (clash ≡ None) }
 {}
 
 /// What needs no test is there where no other name in the list has the digest of the name of a new path's file.
@@ -221,6 +226,8 @@ pub(crate) fn laws_below()
     loaded_entries_are_held();
     loaded_entries();
     whole_index();
+    either_form();
+    inline_index();
     indexes_are_read_whole();
     entries_of_revisions();
     held_index_length();

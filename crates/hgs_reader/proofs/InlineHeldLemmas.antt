@@ -1,13 +1,14 @@
--- The text with a node, where an inline index begins with bytes that hold revisions.
-use Rattle.std.proofs.Common.{◌≡◌, ◌⊎◌, ℕ, zero, suc, ◌+◌, ◌-◌, ◌*◌, ◌^◌, ◌<◌, ◌≤◌, min, Bool, true, false, cond, ◌&&◌, ◌||◌, not, List, [], ◌∷◌, ◌++◌, take, drop, length, map, Option, Some, None, Result, Ok, refl, sym, ◌∙◌, ap, inl, inr, arith, append_assoc, append-nil, length-append}
+-- The text with a node, where an inline index begins with bytes that hold revisions, whatever the moments of the reads.
+use Rattle.std.proofs.Common.{◌≡◌, ◌⊎◌, ℕ, zero, suc, ◌+◌, ◌-◌, ◌*◌, ◌^◌, ◌<◌, ◌≤◌, min, Bool, true, false, cond, ◌&&◌, ◌||◌, not, List, [], ◌∷◌, ◌++◌, take, drop, length, map, Option, Some, None, Result, Ok, refl, sym, ◌∙◌, ap, subst, inl, inr, arith, append_assoc, append-nil, length-append}
 use Rattle.std.specs.Prelude.{nat_lt, nat_le, position, slice_get, unwrap_or}
 use Rattle.std.specs.List.{position_or_len}
 use Rattle.std.specs.Option.{option_map}
 use Rattle.std.proofs.lemmas.Bool.Decides.{nat_tests}
 use Rattle.std.proofs.lemmas.List.{take-append-drop, take-take, length-take, length-drop, length-map, take_at, drop_at, take-append-le}
 use Rattle.std.proofs.Math.Seq.{take-add}
-use Rattle.hgs_bytes.specs.Bytes.{same}
-use Rattle.hgs_files.specs.Tree.{Tree, bytes_at}
+use Rattle.hgs_bytes.specs.Bytes.{IsPrefixOf, same}
+use Rattle.hgs_files.specs.declared.op.Op.{Op}
+use Rattle.hgs_files.specs.Tree.{Tree, after_all, bytes_at}
 use Rattle.hgs_index.specs.declared.entry.Header.{Header}
 use Rattle.hgs_index.specs.Entry.{entry_bytes, number_at, is_negative}
 use Rattle.hgs_index.specs.Inline.{is_cut}
@@ -30,12 +31,13 @@ use Rattle.hgs_revlog.specs.Text.{span_in, text_of}
 use Rattle.hgs_revlog.specs.Theorems.TailHeldLemmas.{front-until}
 use Rattle.hgs_revlog.specs.Theorems.TailLemmas.{until-refuse}
 use Rattle.hgs_load.specs.declared.answer.ReadAnswer.{ReadAnswer}
-use Rattle.hgs_load.specs.Asks.{Asks, answer, at_rest, part_of}
-use Rattle.hgs_load.specs.Theorems.OpenedLemmas.{rest_then}
+use Rattle.hgs_load.specs.Asks.{Asks, MayAnswer, answer, at_rest, part_of, read, then_asks}
+use Rattle.hgs_load.specs.Theorems.AskLemmas.{prefix-refl, prefix-trans}
 use Rattle.hgs_load.specs.Theorems.PartLemmas.{part_is}
 use Rattle.hgs_load.specs.View.{piece_length}
-use Rattle.hgs_reader.specs.Find.{bytes_behind, chunk_placed, has_item, inline_behind, inline_text, is_far, item_or, more_pieces, pieces_until, placed_text, separate_behind, text_answer, text_asks}
-use Rattle.hgs_reader.specs.Held.{HasInlineText}
+use Rattle.hgs_reader.specs.Find.{chunk_placed, has_item, inline_behind, inline_text, is_far, item_or, more_pieces, pieces_until, placed_text, separate_behind, text_answer, text_asks}
+use Rattle.hgs_reader.proofs.TreeLemmas.{AreHeld, FrontsAre, SaysSeparate, may-front, text-held}
+use Rattle.hgs_reader.specs.Held.{EndsInline, HasInlineText, HasText}
 use Rattle.hgs_reader.specs.Theorems.HeldLemmas.{read_length, read_there}
 
 -- ---- items before the one with the node
@@ -164,65 +166,63 @@ front-lacks node first (i ∷ j ∷ is) (suc n) m fits stored lacks less = by (n
         ∙ ap (λ b. b || has_item node n front) lacks.0
         ∙ more (omega (arith, long, less, size))
 
--- ---- what is read of the index
+-- ---- the bytes that are read, at whatever moments
 
--- the bytes that are read: a front of the file, which is all of it, or has the node, or is as long as may be
-pub record IsRead (file node : List ℕ) (from most q : ℕ) : Type 0 where
-  pub enough : (length file ≤ q) ⊎ ((has_item node (length (take q file)) (take q file) ≡ true) ⊎ (from + 65536 * most ≤ q))
+-- the bytes and the front are the same as far as both go
+abbrev Begun : List ℕ → List ℕ → Type 0
+Begun front bytes = IsPrefixOf front bytes ⊎ ((bytes ≡ take (length bytes) front) × (length bytes < length front))
 
-pub pieces-at-rest : (t : Tree) (index node : List ℕ) (left p : ℕ) → p ≤ length (bytes_at t index) → (q : ℕ) × (at_rest t (pieces_until true index node left (take p (bytes_at t index))) ≡ Ok (take q (bytes_at t index))) × IsRead (bytes_at t index) node p left q
-pieces-at-rest t index node zero p le = (p, refl, record { enough = inr (inr (omega arith)) })
-pieces-at-rest t index node (suc left) p le = by (is_far true node (take (p + 65536) file) piece) refl (pieces-at-rest t index node left (p + 65536))
+-- so are they with one more piece of a file that begins with the front; where it does not reach the front's end it is a whole one
+abbrev Reaches : List ℕ → List ℕ → List ℕ → Type 0
+Reaches front bytes piece = IsPrefixOf front (bytes ++ piece) ⊎ (((bytes ++ piece) ≡ take (length (bytes ++ piece)) front) × (length (bytes ++ piece) < length front) × (length piece ≡ 65536))
+
+front-of : (front rest : List ℕ) (q : ℕ) → length front ≤ q → take q (front ++ rest) ≡ front ++ take (q - length front) rest
+front-of front rest q le =
+    let parts : q ≡ length front + (q - length front) = omega (arith, le) in
+    ap (λ n. take n (front ++ rest)) parts ∙ take-add (length front) (q - length front) (front ++ rest)
+    ∙ (λ j. take_at front rest (length front) refl j ++ take (q - length front) (drop_at front rest (length front) refl j))
+
+one-piece : (front file bytes : List ℕ) → IsPrefixOf front file → Begun front bytes → Reaches front bytes (take 65536 (drop (length bytes) file))
+one-piece front file bytes stays (inl p) = inl (p.0 ++ take 65536 (drop (length bytes) file), ap (λ l. l ++ take 65536 (drop (length bytes) file)) p.1 ∙ append_assoc front p.0 (take 65536 (drop (length bytes) file)))
+one-piece front file bytes stays (inr b) = by (nat_le (length front) q) refl
   where
-    file : List ℕ
-    file = bytes_at t index
+    q : ℕ
+    q = length bytes + 65536
 
     piece : List ℕ
-    piece = take 65536 (drop p file)
+    piece = take 65536 (drop (length bytes) file)
 
-    front : length (take p file) ≡ p
-    front = let l = length-take p file in omega (arith, l, le)
+    rest : List ℕ
+    rest = stays.0
 
-    read : unwrap_or (part_of t index (length (take p file)) piece_length) [] ≡ piece
-    read = part_is (t index) (length (take p file)) piece_length ∙ ap (λ n. take piece_length (drop n file)) front
+    low : length bytes < length front
+    low = b.1
 
-    joined : take p file ++ piece ≡ take (p + 65536) file
-    joined = sym (take-add p 65536 file)
+    whole : length file ≡ length front + length rest
+    whole = ap length stays.1 ∙ length-append front rest
 
-    size : length piece ≡ min 65536 (length file - p)
-    size = length-take 65536 (drop p file) ∙ ap (λ n. min 65536 n) (length-drop p file)
+    bytes-in : take (length bytes) file ≡ bytes
+    bytes-in = ap (take (length bytes)) stays.1 ∙ take-append-le (length bytes) front rest (omega (arith, low)) ∙ sym b.0
 
-    behind : List ℕ → List ℕ → Asks (Result (List ℕ) ReadAnswer)
-    behind bytes new = cond (is_far true node bytes new) (answer (Ok bytes)) (pieces_until true index node left bytes)
+    joined : bytes ++ piece ≡ take q file
+    joined = ap (λ l. l ++ piece) (sym bytes-in) ∙ sym (take-add (length bytes) 65536 file)
 
-    step : at_rest t (pieces_until true index node (suc left) (take p file)) ≡ at_rest t (behind (take (p + 65536) file) piece)
-    step = ap (λ x. at_rest t (behind (take p file ++ x) x)) read ∙ ap (λ l. at_rest t (behind l piece)) joined
+    size : length piece ≡ min 65536 (length file - length bytes)
+    size = length-take 65536 (drop (length bytes) file) ∙ ap (λ n. min 65536 n) (length-drop (length bytes) file)
 
-    by : (b : Bool) → is_far true node (take (p + 65536) file) piece ≡ b → (p + 65536 ≤ length file → (q : ℕ) × (at_rest t (pieces_until true index node left (take (p + 65536) file)) ≡ Ok (take q file)) × IsRead file node (p + 65536) left q)
-        → (q : ℕ) × (at_rest t (pieces_until true index node (suc left) (take p file)) ≡ Ok (take q file)) × IsRead file node p (suc left) q
-    by true e more = (p + 65536, step ∙ ap (λ b. at_rest t (cond b (answer (Ok (take (p + 65536) file))) (pieces_until true index node left (take (p + 65536) file)))) e, record { enough = far (nat_lt (length piece) 65536) refl e })
-      where
-        far : (b : Bool) → nat_lt (length piece) 65536 ≡ b → (b || has_item node (length (take (p + 65536) file)) (take (p + 65536) file)) ≡ true → (length file ≤ p + 65536) ⊎ ((has_item node (length (take (p + 65536) file)) (take (p + 65536) file) ≡ true) ⊎ (p + 65536 * suc left ≤ p + 65536))
-        far true s k = inl (let short = below-is (length piece) 65536 s in omega (arith, short, size))
-        far false s k = inr (inl k)
-    by false e more =
-        let long = not-below (length piece) 65536 (left-false (nat_lt (length piece) 65536) (has_item node (length (take (p + 65536) file)) (take (p + 65536) file)) e) in
-        let r = more (omega (arith, long, size, le)) in
-        (r.0, step ∙ ap (λ b. at_rest t (cond b (answer (Ok (take (p + 65536) file))) (pieces_until true index node left (take (p + 65536) file)))) e ∙ r.1, record { enough = goes (r.2.enough) })
-      where
-        left-false : (a b : Bool) → (a || b) ≡ false → a ≡ false
-        left-false true b h = cc
-        left-false false b h = refl
+    most-is : (a b : ℕ) → nat_le a b ≡ true → a ≤ b
+    most-is a b h = grind (arith, nat_tests, h)
 
-        goes : {P Q : Type 0} {q : ℕ} → P ⊎ (Q ⊎ ((p + 65536) + 65536 * left ≤ q)) → P ⊎ (Q ⊎ (p + 65536 * suc left ≤ q))
-        goes (inl a) = inl a
-        goes (inr (inl a)) = inr (inl a)
-        goes (inr (inr a)) = inr (inr (omega (arith, a)))
+    above-is : (a b : ℕ) → nat_le a b ≡ false → b < a
+    above-is a b h = grind (arith, nat_tests, h)
 
--- the first of them is read to see the form
-first-piece : (t : Tree) (index node : List ℕ) (n : ℕ) → at_rest t (pieces_until true index node (suc n) (take 0 (bytes_at t index)))
-    ≡ at_rest t (cond (is_far true node (unwrap_or (part_of t index 0 piece_length) []) (unwrap_or (part_of t index 0 piece_length) [])) (answer (Ok (unwrap_or (part_of t index 0 piece_length) []))) (pieces_until true index node n (unwrap_or (part_of t index 0 piece_length) [])))
-first-piece t index node n = refl
+    by : (t : Bool) → nat_le (length front) q ≡ t → Reaches front bytes piece
+    by true e = inl (take (q - length front) rest, joined ∙ ap (take q) stays.1 ∙ front-of front rest q (most-is (length front) q e))
+    by false e =
+        let less = above-is (length front) q e in
+        let full : length piece ≡ 65536 = omega (arith, size, less, whole) in
+        let long : length (bytes ++ piece) ≡ q = length-append bytes piece ∙ ap (λ n. length bytes + n) full in
+        inr (joined ∙ ap (take q) stays.1 ∙ take-append-le q front rest (omega (arith, less)) ∙ ap (λ n. take n front) (sym long), omega (arith, long, less), full)
 
 -- ---- the whole
 
@@ -247,16 +247,7 @@ length-items offset known (s ∷ stored) = ap suc (length-items (offset + length
 abbrev pub ArePlaced : Type 0
 ArePlaced = (tail : Tail) (index : List ℕ) (log : Log) (rev : ℕ) (e : index_entry.Entry) → loaded_either tail index ≡ Ok log → log.inline ≡ true → slice_get log.entries rev ≡ Some e → take e.stored (drop (span_in true rev e).from index) ≡ chunk_in (chunks_apart index) e
 
-module _ (placed : ArePlaced) (t : Tree) (index node : List ℕ) (r : Revision) (revisions : List Revision) (last : Revision) (held : Begins true (bytes_at t index) [] (r ∷ revisions)) (ends : EndsFirstAt node (r ∷ revisions)) (limits : AreWithinLimits (r ∷ revisions) (chunks_apart held.index_front)) (is_last : slice_get (r ∷ revisions) (length (r ∷ revisions) - 1) ≡ Some last) where
-  abbrev file : List ℕ
-  file = bytes_at t index
-
-  abbrev front : List ℕ
-  front = held.index_front
-
-  abbrev holds : Holds true front held.data_front (r ∷ revisions)
-  holds = held.held
-
+module _ (placed : ArePlaced) (index front data_front node : List ℕ) (r : Revision) (revisions : List Revision) (last : Revision) (holds : Holds true front data_front (r ∷ revisions)) (ends : EndsFirstAt node (r ∷ revisions)) (limits : AreWithinLimits (r ∷ revisions) (chunks_apart front)) (is_last : slice_get (r ∷ revisions) (length (r ∷ revisions) - 1) ≡ Some last) where
   abbrev all : List Item
   all = items holds.stored
 
@@ -271,7 +262,7 @@ module _ (placed : ArePlaced) (t : Tree) (index node : List ℕ) (r : Revision) 
 
   size : length front ≡ 64 * length all + length (chunks_apart front)
   size =
-      let chunks : length (chunks_apart front) ≡ length (chunks_of_items all) = ap length (apart-chunks front held.data_front (r ∷ revisions) holds ∙ sym (item-chunks 0 [] holds.stored)) in
+      let chunks : length (chunks_apart front) ≡ length (chunks_of_items all) = ap length (apart-chunks front data_front (r ∷ revisions) holds ∙ sym (item-chunks 0 [] holds.stored)) in
       omega (arith, ap length spelled, length-inlined first_header all, length-cells first_header all holds.fits, chunks)
 
   lacks : ButLast (λ x. same x node) (map node_of_item all)
@@ -280,52 +271,26 @@ module _ (placed : ArePlaced) (t : Tree) (index node : List ℕ) (r : Revision) 
       nodes_are : map node_of_item all ≡ nodes (r ∷ revisions)
       nodes_are = nodes-of 0 [] holds.stored ∙ ap nodes holds.these
 
-  -- so much is read that all of the front stands in it
-  reached : (q : ℕ) → IsRead file node 0 (suc (more_pieces true)) q → length front ≤ q
-  reached q is = by is.enough
-    where
-      whole : length file ≡ length front + length held.index_begins.0
-      whole = ap length held.index_begins.1 ∙ length-append front held.index_begins.0
-
-      far : (nat_le (length front) q ≡ true) ⊎ (nat_le (length front) q ≡ false) → has_item node (length (take q file)) (take q file) ≡ true → length front ≤ q
-      far (inl a) k = most-is (length front) q a
-        where
-          most-is : (a b : ℕ) → nat_le a b ≡ true → a ≤ b
-          most-is a b h = grind (arith, nat_tests, h)
-      far (inr a) k =
-          let less = above-is (length front) q a in
-          let short : take q file ≡ take q (inlined first_header all) = ap (take q) held.index_begins.1 ∙ take-append-le q front held.index_begins.0 (omega (arith, less)) ∙ ap (take q) spelled in
-          absurd (clash (sym k ∙ ap (λ l. has_item node (length (take q file)) l) short ∙ front-lacks node first_header all (length (take q file)) q holds.fits (items-stored 0 [] holds.stored) lacks (omega (arith, less, ap length spelled))))
-        where
-          above-is : (a b : ℕ) → nat_le a b ≡ false → b < a
-          above-is a b h = grind (arith, nat_tests, h)
-
-          clash : true ≡ false → ⊥
-          clash h = cc
-
-      bool : (b : Bool) → (b ≡ true) ⊎ (b ≡ false)
-      bool true = inl refl
-      bool false = inr refl
-
-      by : (length file ≤ q) ⊎ ((has_item node (length (take q file)) (take q file) ≡ true) ⊎ (0 + 65536 * suc (more_pieces true) ≤ q)) → length front ≤ q
-      by (inl a) = omega (arith, a, whole)
-      by (inr (inl a)) = far (bool (nat_le (length front) q)) a
-      by (inr (inr a)) = let few = limits.few in let end = limits.data_end in let most : 65536 * 2 ^ 33 ≤ q = enough-is q a in omega (arith, most, size, count, few, end)
-        where
-          enough-is : (m : ℕ) → 0 + 65536 * suc (2 ^ 33) ≤ m → 65536 * 2 ^ 33 ≤ m
-          enough-is m h = omega (arith, h)
+  -- before the end of the front no entry has the node
+  none-before : (bytes : List ℕ) → bytes ≡ take (length bytes) front → length bytes < length front → has_item node (length bytes) bytes ≡ false
+  none-before bytes is less =
+      ap (has_item node (length bytes)) (is ∙ ap (take (length bytes)) spelled)
+      ∙ front-lacks node first_header all (length bytes) (length bytes) holds.fits (items-stored 0 [] holds.stored) lacks (omega (arith, less, ap length spelled))
 
   -- of any bytes that begin with the front, the text is the last one
-  text-of-bytes : (more : List ℕ) → inline_text index node (front ++ more) (loaded_either (Until (record { 0 = node })) (front ++ more)) ≡ Ok last.text
+  abbrev text_of_bytes : List ℕ → Result (List ℕ) ReadAnswer
+  text_of_bytes bytes = inline_text index node bytes (loaded_either (Until (record { 0 = node })) bytes)
+
+  text-of-bytes : (more : List ℕ) → text_of_bytes (front ++ more) ≡ Ok last.text
   text-of-bytes more =
       let bytes = front ++ more in
       let named : Node = record { 0 = node } in
-      let inline : is_inline bytes ≡ true = held-form true front held.data_front more r revisions holds in
-      let parts = apart-front front more held.data_front r revisions inline holds in
+      let inline : is_inline bytes ≡ true = held-form true front data_front more r revisions holds in
+      let parts = apart-front front more data_front r revisions inline holds in
       let begins : BeginsWithRevisions (index_apart bytes) (chunks_apart bytes) (r ∷ revisions) = record {
         index_front = index_apart front;
         data_front = chunks_apart front;
-        held = held-apart front held.data_front (r ∷ revisions) holds;
+        held = held-apart front data_front (r ∷ revisions) holds;
         index_begins = parts.0;
         data_begins = parts.1;
       } in
@@ -344,32 +309,107 @@ module _ (placed : ArePlaced) (t : Tree) (index node : List ℕ) (r : Revision) 
       ∙ ap (λ c. text_answer index (text_of log.entries (length log.entries - 1) c)) (placed (Until named) bytes formed (length log.entries - 1) there.0 loads refl there.1)
       ∙ ap (text_answer index) (ap (λ n. text_of log.entries n (chunk_in (chunks_apart bytes) there.0)) (sym from_first) ∙ there.2)
 
-  pub inline-held : (chunks : List ℕ) → at_rest t (text_asks index chunks node) ≡ Ok last.text
-  inline-held chunks =
-      let p = pieces-at-rest t index node (suc (more_pieces true)) 0 (omega arith) in
-      let asked : at_rest t (bytes_behind true index node (unwrap_or (part_of t index 0 piece_length) [])) ≡ Ok (take p.0 file) = sym (first-piece t index node (more_pieces true)) ∙ p.1 in
-      let far = reached p.0 p.2 in
-      let piece = unwrap_or (part_of t index 0 piece_length) [] in
-      let read : piece ≡ take piece_length file = part_is (t index) 0 piece_length in
-      let whole : length file ≡ length front + length held.index_begins.0 = ap length held.index_begins.1 ∙ length-append front held.index_begins.0 in
-      let long : 64 ≤ length (take piece_length file) = omega (arith, length-take piece_length file, whole, size, count) in
-      let says : is_inline piece ≡ true =
-      ap is_inline read ∙ sym (form-more (take piece_length file) (drop piece_length file) long) ∙ ap is_inline (take-append-drop piece_length file ∙ held.index_begins.1) ∙ held-form true front held.data_front held.index_begins.0 r revisions holds in
-      let bytes : take p.0 file ≡ front ++ take (p.0 - length front) held.index_begins.0 = front-of p.0 far in
-      ap (λ b. at_rest t (cond b (inline_behind index node piece) (separate_behind index chunks node piece))) says
-      ∙ rest_then t (bytes_behind true index node piece) (λ b. answer (inline_text index node b (loaded_either (Until (record { 0 = node })) b))) (take p.0 file) asked
-      ∙ ap (λ b. inline_text index node b (loaded_either (Until (record { 0 = node })) b)) bytes
-      ∙ text-of-bytes (take (p.0 - length front) held.index_begins.0)
-    where
-      front-of : (q : ℕ) → length front ≤ q → take q file ≡ front ++ take (q - length front) held.index_begins.0
-      front-of q le =
-          let parts : q ≡ length front + (q - length front) = omega (arith, le) in
-          ap (take q) held.index_begins.1 ∙ ap (λ n. take n (front ++ held.index_begins.0)) parts ∙ take-add (length front) (q - length front) (front ++ held.index_begins.0)
-          ∙ (λ j. take_at front held.index_begins.0 (length front) refl j ++ take (q - length front) (drop_at front held.index_begins.0 (length front) refl j))
+  module _ (start : Tree) (from to : List Op) (y : Result (List ℕ) ReadAnswer) (stays : (now : List Op) → IsPrefixOf from now → IsPrefixOf now to → IsPrefixOf front (bytes_at (after_all now start) index)) where
+    -- what is asked once so much was read, the last piece being this one
+    abbrev behind : ℕ → List ℕ → List ℕ → Asks (Result (List ℕ) ReadAnswer)
+    behind left bytes piece = then_asks (cond (is_far true node bytes piece) (answer (Ok bytes)) (pieces_until true index node left bytes)) (λ b. answer (text_of_bytes b))
+
+    ends-there : (bytes : List ℕ) → IsPrefixOf front bytes → y ≡ text_of_bytes bytes → y ≡ Ok last.text
+    ends-there bytes p e = e ∙ ap (λ b. text_of_bytes b) p.1 ∙ text-of-bytes p.0
+
+    -- once so much was read, the text is what is answered
+    abbrev Ends : ℕ → Type 0
+    Ends left = (bytes : List ℕ) (now : List Op) → IsPrefixOf from now → Begun front bytes → length front ≤ length bytes + 65536 * left → MayAnswer start now (then_asks (pieces_until true index node left bytes) (λ b. answer (text_of_bytes b))) to y → y ≡ Ok last.text
+
+    pieces-end : (left : ℕ) → Ends left
+    pieces-end zero bytes now at begun room m = by begun
+      where
+        by : Begun front bytes → y ≡ Ok last.text
+        by (inl p) = ends-there bytes p m.1
+        by (inr b) = let low = b.1 in absurd (omega (arith, low, room))
+    pieces-end (suc left) bytes now at begun room m =
+        let log = m.0 in
+        let tree = after_all log start in
+        let asked = unwrap_or (part_of tree index (length bytes) piece_length) [] in
+        let there = prefix-trans from now log at m.1 in
+        let goes = may-front (behind left (bytes ++ asked) asked) start log to y m.2 in
+        let read : asked ≡ take 65536 (drop (length bytes) (bytes_at tree index)) = part_is (tree index) (length bytes) piece_length in
+        by log there (take 65536 (drop (length bytes) (bytes_at tree index))) (one-piece front (bytes_at tree index) bytes (stays log there goes) begun) (subst (λ p. MayAnswer start log (behind left (bytes ++ p) p) to y) read m.2) (pieces-end left)
+      where
+        by : (log : List Op) → IsPrefixOf from log → (piece : List ℕ) → Reaches front bytes piece → MayAnswer start log (behind left (bytes ++ piece) piece) to y → Ends left → y ≡ Ok last.text
+        by log there piece reaches m next = far (is_far true node (bytes ++ piece) piece) refl m reaches
+          where
+            short : length piece ≡ 65536 → nat_lt (length piece) 65536 ≡ false
+            short full = ap (λ n. nat_lt n 65536) full
+
+            clash : true ≡ false → ⊥
+            clash h = cc
+
+            far : (b : Bool) → is_far true node (bytes ++ piece) piece ≡ b → MayAnswer start log (behind left (bytes ++ piece) piece) to y → Reaches front bytes piece → y ≡ Ok last.text
+            far true e m (inl p) = ends-there (bytes ++ piece) p (let k = subst (λ b. MayAnswer start log (then_asks (cond b (answer (Ok (bytes ++ piece))) (pieces_until true index node left (bytes ++ piece))) (λ b. answer (text_of_bytes b))) to y) e m in k.1)
+            far true e m (inr b) = absurd (clash (sym e ∙ ap (λ s. s || has_item node (length (bytes ++ piece)) (bytes ++ piece)) (short b.2) ∙ none-before (bytes ++ piece) b.0 b.1))
+            far false e m reached =
+                next (bytes ++ piece) log there (begun-of reached) (enough reached)
+                (subst (λ b. MayAnswer start log (then_asks (cond b (answer (Ok (bytes ++ piece))) (pieces_until true index node left (bytes ++ piece))) (λ b. answer (text_of_bytes b))) to y) e m)
+              where
+                begun-of : Reaches front bytes piece → Begun front (bytes ++ piece)
+                begun-of (inl p) = inl p
+                begun-of (inr b) = inr (b.0, b.1)
+
+                enough : Reaches front bytes piece → length front ≤ length (bytes ++ piece) + 65536 * left
+                enough (inl p) = let long = ap length p.1 in omega (arith, long, length-append front p.0)
+                enough (inr b) = let full = b.2 in omega (arith, room, full, length-append bytes piece)
+
+    -- the first piece is read to see the form
+    first-piece : (n : ℕ) (log : List Op) → IsPrefixOf from log → length front ≤ 65536 * suc n
+        → MayAnswer start log (behind n (unwrap_or (part_of (after_all log start) index 0 piece_length) []) (unwrap_or (part_of (after_all log start) index 0 piece_length) [])) to y → y ≡ Ok last.text
+    first-piece n log there room m = pieces-end (suc n) [] from (prefix-refl from) nothing (omega (arith, room)) (log, there, m)
+      where
+        nothing : Begun front []
+        nothing = inr (refl, let some = size in let many = count in omega (arith, some, many))
+
+    pub inline-at-moments : (chunks : List ℕ) → MayAnswer start from (text_asks index chunks node) to y → y ≡ Ok last.text
+    inline-at-moments chunks m =
+        let log = m.0 in
+        let tree = after_all log start in
+        let piece = unwrap_or (part_of tree index 0 piece_length) [] in
+        let goes = may-front (cond (is_inline piece) (inline_behind index node piece) (separate_behind index chunks node piece)) start log to y m.2 in
+        let p = stays log m.1 goes in
+        let file = bytes_at tree index in
+        let whole : length file ≡ length front + length p.0 = ap length p.1 ∙ length-append front p.0 in
+        let long : 64 ≤ length (take piece_length file) = omega (arith, length-take piece_length file, whole, size, count) in
+        let says : is_inline piece ≡ true =
+        ap is_inline (part_is (tree index) 0 piece_length) ∙ sym (form-more (take piece_length file) (drop piece_length file) long) ∙ ap is_inline (take-append-drop piece_length file ∙ p.1) ∙ held-form true front data_front p.0 r revisions holds in
+        first-piece (more_pieces true) log m.1 (room (more_pieces true) refl) (subst (λ b. MayAnswer start log (cond b (inline_behind index node piece) (separate_behind index chunks node piece)) to y) says m.2)
+      where
+        room : (n : ℕ) → n ≡ 2 ^ 33 → length front ≤ 65536 * suc n
+        room n is = let few = limits.few in let end = limits.data_end in omega (arith, is, size, count, few, end)
+
+pub ends-inline : ArePlaced → (start : Tree) (from to : List Op) (index chunks front node text : List ℕ) (y : Result (List ℕ) ReadAnswer) → EndsInline front node text → ((now : List Op) → IsPrefixOf from now → IsPrefixOf now to → IsPrefixOf front (bytes_at (after_all now start) index))
+    → MayAnswer start from (text_asks index chunks node) to y → y ≡ Ok text
+ends-inline placed start from to index chunks front node text y h stays m = by h.revisions h.held h.ends h.limits h.is_last
+  where
+    by : (revisions : List Revision) → Holds true front [] revisions → EndsFirstAt node revisions → AreWithinLimits revisions (chunks_apart front) → slice_get revisions (length revisions - 1) ≡ Some h.last → y ≡ Ok text
+    by [] held ends limits is_last = cc
+    by (r ∷ revisions) held ends limits is_last = inline-at-moments placed index front [] node r revisions h.last held ends limits is_last start from to y stays chunks m ∙ ap (λ x. let a : Result (List ℕ) ReadAnswer = Ok x in a) h.text_is
+
+-- ---- files at rest
+
+rest-answers : {A : Type 0} (t : Tree) (q : Asks A) → MayAnswer t [] q [] (at_rest t q)
+rest-answers t (answer x) = (([], refl), refl)
+rest-answers t (read path at most rest) = ([], ([], refl), rest-answers t (rest (part_of t path at most)))
+
+nothing-before : (now : List Op) → IsPrefixOf now [] → now ≡ []
+nothing-before [] p = refl
+nothing-before (op ∷ now) p = let e = p.1 in cc
 
 pub inline-text-held : ArePlaced → (t : Tree) (index chunks node text : List ℕ) → HasInlineText t index node text → at_rest t (text_asks index chunks node) ≡ Ok text
-inline-text-held placed t index chunks node text h = by h.revisions h.held h.ends h.limits h.is_last
-  where
-    by : (revisions : List Revision) (held : Begins true (bytes_at t index) [] revisions) → EndsFirstAt node revisions → AreWithinLimits revisions (chunks_apart held.index_front) → slice_get revisions (length revisions - 1) ≡ Some h.last → at_rest t (text_asks index chunks node) ≡ Ok text
-    by [] held ends limits is_last = cc
-    by (r ∷ revisions) held ends limits is_last = inline-held placed t index node r revisions h.last held ends limits is_last chunks ∙ ap (λ x. let a : Result (List ℕ) ReadAnswer = Ok x in a) h.text_is
+inline-text-held placed t index chunks node text h =
+    ends-inline placed t [] [] index chunks h.0 node text (at_rest t (text_asks index chunks node)) h.2
+    (λ now begins ends. subst (λ l. IsPrefixOf h.0 (bytes_at (after_all l t) index)) (sym (nothing-before now ends)) h.1)
+    (rest-answers t (text_asks index chunks node))
+
+-- in either form
+pub either-text-held : SaysSeparate → FrontsAre → ArePlaced → AreHeld
+either-text-held says fronts placed t index chunks node text (inl h) = text-held says fronts t index chunks node text h
+either-text-held says fronts placed t index chunks node text (inr h) = inline-text-held placed t index chunks node text h

@@ -24,7 +24,7 @@ use Rattle.hgs_load.specs.declared.answer.ReadAnswer.TheVariants.{Limit, Unknown
 use Rattle.hgs_load.specs.Asks.{Asks, answer, read, part_of, at_rest, then_asks, MayAnswer}
 use Rattle.hgs_reader.specs.Contents.{manifest_index, manifest_data, most_files, most_file_text, rows_answer, rows_asks, tree_asks, files_text, files_asks, tracked_node, file_node, body_answer, body_asks, cat_asks}
 use Rattle.hgs_reader.specs.Find.{inline_behind, separate_asks, separate_behind, text_asks}
-use Rattle.hgs_reader.specs.Held.{HasText}
+use Rattle.hgs_reader.specs.Held.{HasSeparateText, HasText}
 use Rattle.hgs_reader.specs.Line.{change_asks}
 use Rattle.hgs_load.specs.View.{View, piece_length}
 use Rattle.hgs_reader.specs.Theorems.HeldLemmas.{held-text}
@@ -50,7 +50,7 @@ separate-at-rest fronts t index chunks node plain =
     ap (λ b. at_rest t (cond b (inline_behind index node first) (separate_behind index chunks node first))) (ap is_inline (part_is (t index) 0 piece_length) ∙ fronts piece_length (bytes_at t index) plain)
 
 -- the questions end on a longer list
-may-front : {A : Type 0} (q : Asks A) (start : Tree) (from last : List Op) (y : A) → MayAnswer start from q last y → IsPrefixOf from last
+pub may-front : {A : Type 0} (q : Asks A) (start : Tree) (from last : List Op) (y : A) → MayAnswer start from q last y → IsPrefixOf from last
 may-front (answer x) start from last y m = m.0
 may-front (read path at most rest) start from last y m = prefix-trans from m.0 last m.1 (may-front (rest (part_of (after_all m.0 start) path at most)) start m.0 last y m.2)
 
@@ -63,39 +63,43 @@ separate-at-moments fronts start from last index chunks node y plain m =
     let says : is_inline first ≡ false = ap is_inline (part_is (t index) 0 piece_length) ∙ fronts piece_length (bytes_at t index) (plain m.0 m.1 goes) in
     (m.0, m.1, subst (λ b. MayAnswer start m.0 (cond b (inline_behind index node first) (separate_behind index chunks node first)) last y) says m.2)
 
-pub separate-held : (t : Tree) (index chunks node text : List ℕ) → HasText t index chunks node text → at_rest t (separate_asks index chunks node) ≡ Ok text
+pub separate-held : (t : Tree) (index chunks node text : List ℕ) → HasSeparateText t index chunks node text → at_rest t (separate_asks index chunks node) ≡ Ok text
 separate-held t index chunks node text h =
     held-text t index chunks h.revisions h.last node h.held h.ends h.limits h.is_last ∙ ap (λ x. let a : Result (List ℕ) ReadAnswer = Ok x in a) h.text_is
 
-pub text-held : SaysSeparate → FrontsAre → (t : Tree) (index chunks node text : List ℕ) → HasText t index chunks node text → at_rest t (text_asks index chunks node) ≡ Ok text
+pub text-held : SaysSeparate → FrontsAre → (t : Tree) (index chunks node text : List ℕ) → HasSeparateText t index chunks node text → at_rest t (text_asks index chunks node) ≡ Ok text
 text-held says fronts t index chunks node text h =
     separate-at-rest fronts t index chunks node (begins-separate says (bytes_at t index) (bytes_at t chunks) h.revisions h.last h.held h.is_last)
     ∙ separate-held t index chunks node text h
 
+-- where a revlog has a text, in either form, it is what is found
+abbrev pub AreHeld : Type 0
+AreHeld = (t : Tree) (index chunks node text : List ℕ) → HasText t index chunks node text → at_rest t (text_asks index chunks node) ≡ Ok text
+
 not_above : (most n : ℕ) → n ≤ most → nat_lt most n ≡ false
 not_above most n h = grind (arith, nat_tests, h)
 
-pub tree-held : SaysSeparate → FrontsAre → (t : Tree) (view : View) (rev : ℕ) (change : Change) (rows : List Row) → at_rest t (change_asks view rev) ≡ Ok change → same change.manifest null_node ≡ false → HasText t manifest_index manifest_data change.manifest (manifest_text rows) → AreRows rows
+pub tree-held : AreHeld → (t : Tree) (view : View) (rev : ℕ) (change : Change) (rows : List Row) → at_rest t (change_asks view rev) ≡ Ok change → same change.manifest null_node ≡ false → HasText t manifest_index manifest_data change.manifest (manifest_text rows) → AreRows rows
     → length rows ≤ most_files → at_rest t (tree_asks view rev) ≡ Ok rows
-tree-held says fronts t view rev change rows c named h are few =
+tree-held texts_held t view rev change rows c named h are few =
     let texts = text_asks manifest_index manifest_data change.manifest in
     let rows_of : List ℕ → Asks (Result (List Row) ReadAnswer) = λ text. answer (rows_answer (read_manifest text)) in
     rest_then t (change_asks view rev) (λ (c : Change). rows_asks c.manifest) change c
     ∙ ap (λ b. at_rest t (cond b (answer (Ok [])) (then_asks texts rows_of))) named
-    ∙ rest_then t texts rows_of (manifest_text rows) (text-held says fronts t manifest_index manifest_data change.manifest (manifest_text rows) h)
+    ∙ rest_then t texts rows_of (manifest_text rows) (texts_held t manifest_index manifest_data change.manifest (manifest_text rows) h)
     ∙ ap rows_answer (manifest_back rows are)
     ∙ ap (λ b. cond b (Err (Limit TooMany)) (Ok rows)) (not_above most_files (length rows) few)
 
 pub files-held : (t : Tree) (view : View) (rev : ℕ) (rows : List Row) → at_rest t (tree_asks view rev) ≡ Ok rows → at_rest t (files_asks view rev) ≡ Ok (files_text rows)
 files-held t view rev rows h = rest_then t (tree_asks view rev) (λ (rows : List Row). answer (Ok (files_text rows))) rows h
 
-pub body-held : SaysSeparate → FrontsAre → (t : Tree) (view : View) (rev : ℕ) (rows : List Row) (path node text : List ℕ) (flag : Flag) → at_rest t (tree_asks view rev) ≡ Ok rows → checked path ≡ Ok tt → found_in path rows ≡ Some (node, flag)
+pub body-held : AreHeld → (t : Tree) (view : View) (rev : ℕ) (rows : List Row) (path node text : List ℕ) (flag : Flag) → at_rest t (tree_asks view rev) ≡ Ok rows → checked path ≡ Ok tt → found_in path rows ≡ Some (node, flag)
     → HasText t (store_name path I) (store_name path D) node text → length (body_of text) ≤ most_file_text → at_rest t (cat_asks view rev path) ≡ Ok (body_of text)
-body-held says fronts t view rev rows path node text flag r tracked found h few =
+body-held texts_held t view rev rows path node text flag r tracked found h few =
     let named : file_node path rows ≡ Ok node = ap (λ o. tracked_node (checked path) o) found ∙ ap (λ q. tracked_node q (Some (node, flag))) tracked in
     rest_then t (tree_asks view rev) (λ (rows : List Row). then_asks (answer (file_node path rows)) (λ node. body_asks path node)) rows r
     ∙ ap (λ (q : Result (List ℕ) ReadAnswer). at_rest t (then_asks (answer q) (λ node. body_asks path node))) named
-    ∙ rest_then t (text_asks (store_name path I) (store_name path D) node) (λ text. answer (body_answer text)) text (text-held says fronts t (store_name path I) (store_name path D) node text h)
+    ∙ rest_then t (text_asks (store_name path I) (store_name path D) node) (λ text. answer (body_answer text)) text (texts_held t (store_name path I) (store_name path D) node text h)
     ∙ ap (λ b. cond b (Err (Limit FileText)) (Ok (body_of text))) (not_above most_file_text (length (body_of text)) few)
 
 pub path-lacks : (t : Tree) (view : View) (rev : ℕ) (rows : List Row) (path : List ℕ) → at_rest t (tree_asks view rev) ≡ Ok rows → checked path ≡ Ok tt → found_in path rows ≡ None → at_rest t (cat_asks view rev path) ≡ Err UnknownPath

@@ -1,15 +1,17 @@
 -- The line that `log` writes of a changeset.
-use Rattle.std.specs.Prelude.{ℕ, List, [], ◌∷◌, ◌++◌, codes, decimal, Option, Some, None, Result, Ok, Err, slice_get, unwrap_or}
+use Rattle.std.specs.Prelude.{ℕ, Bool, true, false, List, [], ◌∷◌, ◌++◌, codes, decimal, Option, Some, None, Result, Ok, Err, slice_get, unwrap_or}
 use Rattle.std.specs.Fmt.{signed_decimal}
+use Rattle.std.specs.Option.{option_map}
 use Rattle.hgs_bytes.specs.Text.{split}
 use Rattle.hgs_index.specs.declared.entry.Entry.{Entry}
+use Rattle.hgs_index.specs.declared.kinds.Span.{Span}
 use Rattle.hgs_index.specs.declared.texts.ChangeFault.{ChangeFault}
 use Rattle.hgs_index.specs.declared.texts.ChangeFault.TheVariants as change_faults
 use Rattle.hgs_index.specs.ChangeText.{Change, read_change}
 use Rattle.hgs_index.specs.Hex.{hex}
 use Rattle.hgs_plan.specs.declared.damage.Part.TheVariants as parts
 use Rattle.hgs_revlog.specs.declared.fault.RevFault.{RevFault}
-use Rattle.hgs_revlog.specs.Text.{text_of}
+use Rattle.hgs_revlog.specs.Text.{span_in, text_of}
 use Rattle.hgs_load.specs.declared.answer.ReadAnswer.{ReadAnswer}
 use Rattle.hgs_load.specs.declared.answer.ReadAnswer.TheVariants.{Memory}
 use Rattle.hgs_load.specs.Asks.{Asks, answer, read}
@@ -81,10 +83,25 @@ abbrev pub chunk_asks : {A : Type 0} → List ℕ → Option Entry → (List ℕ
 chunk_asks path None given = answer (given [])
 chunk_asks path (Some e) given = read path e.offset e.stored (λ chunk. answer (given (unwrap_or chunk [])))
 
+-- the file in which the chunks of a changelog stand
+abbrev pub chunks_path : Bool → List ℕ
+chunks_path false = changelog_data
+chunks_path true = changelog_index
+
+-- one read of these bytes of a file
+abbrev pub span_asks : {A : Type 0} → List ℕ → Option Span → (List ℕ → Result A ReadAnswer) → Asks (Result A ReadAnswer)
+span_asks path None given = answer (given [])
+span_asks path (Some span) given = read path span.from span.len (λ chunk. answer (given (unwrap_or chunk [])))
+
+-- One read of the chunk of a changeset's entry: in the data file, or in the index behind the entry, where the changelog is inline.
+abbrev pub changeset_asks : {A : Type 0} → Bool → ℕ → Option Entry → (List ℕ → Result A ReadAnswer) → Asks (Result A ReadAnswer)
+changeset_asks false rev entry given = chunk_asks changelog_data entry given
+changeset_asks true rev entry given = span_asks changelog_index (option_map (span_in true rev) entry) given
+
 -- what the line of a revision asks
 abbrev pub line_asks : View → ℕ → Asks (Result (List ℕ) ReadAnswer)
-line_asks view rev = chunk_asks changelog_data (slice_get view.changelog.entries rev) (line_at view rev)
+line_asks view rev = changeset_asks view.changelog.inline rev (slice_get view.changelog.entries rev) (line_at view rev)
 
 -- what the changeset of a revision asks
 abbrev pub change_asks : View → ℕ → Asks (Result Change ReadAnswer)
-change_asks view rev = chunk_asks changelog_data (slice_get view.changelog.entries rev) (change_at view rev)
+change_asks view rev = changeset_asks view.changelog.inline rev (slice_get view.changelog.entries rev) (change_at view rev)

@@ -8,6 +8,7 @@ use crate::refusal::of_change;
 use crate::shown::{mark_lines, parent_lines};
 use hgs_changelog::text::ChangeText;
 use hgs_files::files::Reads;
+use hgs_files::path::StorePath;
 use hgs_load::answer::ReadAnswer;
 use hgs_load::ask::{bytes_of, read_part};
 use hgs_load::loaded::Loaded;
@@ -46,7 +47,7 @@ impl Session {
     ghost use Rattle.hgs_load.specs.Given.{Takes, TakesText, TakesView};
     ghost use Rattle.hgs_reader.specs.Contents.{tree_asks, files_asks, cat_asks};
     ghost use Rattle.hgs_reader.specs.Heads.{heads_text};
-    ghost use Rattle.hgs_reader.specs.Line.{change_at, change_asks, line_at, line_asks};
+    ghost use Rattle.hgs_reader.specs.Line.{change_at, change_asks, chunks_path, line_at, line_asks};
     ghost use Rattle.hgs_load.specs.Load.{Refreshes};
     ghost use Rattle.hgs_load.specs.Marks.{working_of};
     ghost use Rattle.hgs_load.specs.Refresh.{refresh_asks, GivenFew};
@@ -93,7 +94,7 @@ impl Session {
     }
 
     /// Loads again what may have changed, which is all but `requires`, and of the changelog's index what stands from the last
-    /// loaded entry on. A refusal changes nothing; it is damage of the changelog where the history does not begin with the one
+    /// loaded entry on, or the whole where it was inline. A refusal changes nothing; it is damage of the changelog where the history does not begin with the one
     /// that was loaded.
     pub fn refresh<R: Reads>(&mut self, files: &mut R) -> Result<(), ReadAnswer>
         ensures answer { Refreshes (R.seen files.old) (R.start files.old) (R.seen files.new) (refresh_asks self.old) self.old self.new result }
@@ -134,6 +135,17 @@ impl Session {
             self.loaded.working().first,
             name,
         )
+    }
+
+    // The file in which the chunks of the changesets stand.
+    fn chunks(&self) -> &StorePath
+        ensures { result.now ≡ chunks_path self.now.changelog.inline }
+    {
+        if self.loaded.changelog().is_inline() {
+            self.paths.index()
+        } else {
+            self.paths.chunks()
+        }
     }
 
     // The changeset of a revision whose chunk was read.
@@ -186,8 +198,8 @@ impl Session {
         ensures still { R.alone ≡ true → R.seen files.new ≡ R.seen files.old }
         ensures cause { HasFaultCause (R.faults files.old) (R.faults files.new) (R.denied files.old) (R.denied files.new) result }
     {
-        let span = self.loaded.changelog().text_span(rev);
-        let part = read_part(self.alloc, files, self.paths.chunks(), span.from, span.len)?;
+        let span = self.loaded.changelog().span_in_file(rev);
+        let part = read_part(self.alloc, files, self.chunks(), span.from, span.len)?;
         let line = match self.line_from(rev, bytes_of(&part)) {
             Ok(line) => line,
             Err(refusal) => return Err(refusal),
@@ -206,8 +218,8 @@ impl Session {
         ensures still { R.alone ≡ true → R.seen files.new ≡ R.seen files.old }
         ensures cause { HasFaultCause (R.faults files.old) (R.faults files.new) (R.denied files.old) (R.denied files.new) result }
     {
-        let span = self.loaded.changelog().text_span(rev);
-        let part = read_part(self.alloc, files, self.paths.chunks(), span.from, span.len)?;
+        let span = self.loaded.changelog().span_in_file(rev);
+        let part = read_part(self.alloc, files, self.chunks(), span.from, span.len)?;
         self.change_from(rev, bytes_of(&part))
     }
 

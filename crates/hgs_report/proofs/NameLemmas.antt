@@ -10,25 +10,25 @@ use Rattle.hgs_path.specs.ListedNames.{listed_file}
 use Rattle.hgs_path.specs.StoreName.{store_name}
 use Rattle.hgs_findings.specs.Findings.{Finding}
 use Rattle.hgs_report.specs.Lines.{file_if, has_key}
-use Rattle.hgs_report.specs.Names.{IsSetOf, lacks, is_taken, of_name, of_names, unused_files}
+use Rattle.hgs_report.specs.Names.{IsSetOf, is_lacking, is_taken, of_name, of_names, unused_files}
 
 -- those that are left, behind those that were entered
-pub record Went (listed : Option (BTreeSet (Vec ℕ Global))) (ext : Ext) (all left : List (List ℕ)) (start now : List Finding) (taken : List (Vec ℕ Global)) : Type 0 where
+pub record Went (listed : Option (BTreeSet (Vec ℕ Global))) (inline : List (Vec ℕ Global)) (ext : Ext) (all left : List (List ℕ)) (start now : List Finding) (taken : List (Vec ℕ Global)) : Type 0 where
   pub before : List (List ℕ)
   pub files : (file : List ℕ) → has_key taken file ≡ is_taken before ext file
-  pub goes : (names : Option (List (List ℕ))) → IsSetOf names listed → now ++ of_names names ext before left ≡ start ++ of_names names ext [] all
+  pub goes : (names : Option (List (List ℕ))) → IsSetOf names listed → now ++ of_names (is_lacking names inline ext) ext before left ≡ start ++ of_names (is_lacking names inline ext) ext [] all
 
-pub went-on : (listed : Option (BTreeSet (Vec ℕ Global))) (ext : Ext) (all left : List (List ℕ)) (path : List ℕ) (start now next : List Finding) (taken more : List (Vec ℕ Global)) → Went listed ext all (path ∷ left) start now taken
-    → ((names : Option (List (List ℕ))) (before : List (List ℕ)) → IsSetOf names listed → ((file : List ℕ) → has_key taken file ≡ is_taken before ext file) → next ≡ now ++ of_name names ext before path)
-    → ((file : List ℕ) → has_key more file ≡ (same file (store_name path ext) || has_key taken file)) → Went listed ext all left start next more
-went-on listed ext all left path start now next taken more w found entered = record {
+pub went-on : (listed : Option (BTreeSet (Vec ℕ Global))) (inline : List (Vec ℕ Global)) (ext : Ext) (all left : List (List ℕ)) (path : List ℕ) (start now next : List Finding) (taken more : List (Vec ℕ Global)) → Went listed inline ext all (path ∷ left) start now taken
+    → ((names : Option (List (List ℕ))) (before : List (List ℕ)) → IsSetOf names listed → ((file : List ℕ) → has_key taken file ≡ is_taken before ext file) → next ≡ now ++ of_name (is_lacking names inline ext path) ext before path)
+    → ((file : List ℕ) → has_key more file ≡ (same file (store_name path ext) || has_key taken file)) → Went listed inline ext all left start next more
+went-on listed inline ext all left path start now next taken more w found entered = record {
   before = path ∷ w.before;
   files = λ file. entered file ∙ ap (λ b. same file (store_name path ext) || b) (w.files file);
-  goes = λ names is. ap (λ l. l ++ of_names names ext (path ∷ w.before) left) (found names w.before is w.files) ∙ append_assoc now (of_name names ext w.before path) (of_names names ext (path ∷ w.before) left) ∙ w.goes names is;
+  goes = λ names is. ap (λ l. l ++ of_names (is_lacking names inline ext) ext (path ∷ w.before) left) (found names w.before is w.files) ∙ append_assoc now (of_name (is_lacking names inline ext path) ext w.before path) (of_names (is_lacking names inline ext) ext (path ∷ w.before) left) ∙ w.goes names is;
 }
 
-pub all-went : (listed : Option (BTreeSet (Vec ℕ Global))) (ext : Ext) (all : List (List ℕ)) (start now : List Finding) (taken : List (Vec ℕ Global)) → Went listed ext all [] start now taken → (names : Option (List (List ℕ))) → IsSetOf names listed → now ≡ start ++ of_names names ext [] all
-all-went listed ext all start now taken w names is = sym (append-nil now) ∙ w.goes names is
+pub all-went : (listed : Option (BTreeSet (Vec ℕ Global))) (inline : List (Vec ℕ Global)) (ext : Ext) (all : List (List ℕ)) (start now : List Finding) (taken : List (Vec ℕ Global)) → Went listed inline ext all [] start now taken → (names : Option (List (List ℕ))) → IsSetOf names listed → now ≡ start ++ of_names (is_lacking names inline ext) ext [] all
+all-went listed inline ext all start now taken w names is = sym (append-nil now) ∙ w.goes names is
 
 or-nothing : (a : Bool) → (a || false) ≡ a
 or-nothing true = refl
@@ -71,13 +71,13 @@ all-at {A = A} P (y ∷ xs) zero x all e = subst P (some-same y x e) all.0
     some-same a b h = ap (elim [ None ↦ a | Some z ↦ z ]) h
 all-at P (y ∷ xs) (suc i) x all e = all-at P xs i x all.1 e
 
-pub name-found : (names : Option (List (List ℕ))) (ext : Ext) (before : List (List ℕ)) (path file key : List ℕ) (lacking new : Bool) (keys : List (Vec ℕ Global)) (old first last : List Finding) → file ≡ store_name path ext → lacking ≡ lacks names path ext → new ≡ not (has_key keys key) → key ≡ file
-    → ((f : List ℕ) → has_key keys f ≡ is_taken before ext f) → first ≡ old ++ file_if lacking file 10 → last ≡ first ++ file_if (not new) file 11 → last ≡ old ++ of_name names ext before path
-name-found names ext before path file key lacking new keys old first last is lack fresh same_key entered one two =
+pub name-found : (names : Option (List (List ℕ))) (inline : List (Vec ℕ Global)) (ext : Ext) (before : List (List ℕ)) (path file key : List ℕ) (lacking new : Bool) (keys : List (Vec ℕ Global)) (old first last : List Finding) → file ≡ store_name path ext → lacking ≡ is_lacking names inline ext path → new ≡ not (has_key keys key) → key ≡ file
+    → ((f : List ℕ) → has_key keys f ≡ is_taken before ext f) → first ≡ old ++ file_if lacking file 10 → last ≡ first ++ file_if (not new) file 11 → last ≡ old ++ of_name (is_lacking names inline ext path) ext before path
+name-found names inline ext before path file key lacking new keys old first last is lack fresh same_key entered one two =
     two ∙ ap (λ l. l ++ file_if (not new) file 11) one ∙ append_assoc old (file_if lacking file 10) (file_if (not new) file 11)
     ∙ ap (λ b. old ++ (file_if b file 10 ++ file_if (not new) file 11)) lack
-    ∙ ap (λ b. old ++ (file_if (lacks names path ext) file 10 ++ file_if b file 11)) (ap not fresh ∙ twice (has_key keys key) ∙ ap (has_key keys) same_key ∙ entered file)
-    ∙ ap (λ f. old ++ (file_if (lacks names path ext) f 10 ++ file_if (is_taken before ext f) f 11)) is
+    ∙ ap (λ b. old ++ (file_if (is_lacking names inline ext path) file 10 ++ file_if b file 11)) (ap not fresh ∙ twice (has_key keys key) ∙ ap (has_key keys) same_key ∙ entered file)
+    ∙ ap (λ f. old ++ (file_if (is_lacking names inline ext path) f 10 ++ file_if (is_taken before ext f) f 11)) is
   where
     twice : (b : Bool) → not (not b) ≡ b
     twice true = refl

@@ -92,19 +92,19 @@ IsParents entries revs = parents_in entries ≡ history.parents_in revs
 abbrev IsLinks : List Entry → List Revision → Type 0
 IsLinks entries revs = links_in entries ≡ links_of revs
 
-log-parents : (t : Tree) (log : Log) (r : ReadLog) → IsLogOf (index_path log) (data_path log) r t → IsParents r.reading.log.entries (revs_of t log)
+log-parents : (t : Tree) (log : Log) (r : ReadLog) → IsLogOf log r t → IsParents r.reading.log.entries (revs_of t log)
 log-parents t log r is = is.read.are.parents ∙ ap history.parents_in is.read.revisions
 
-log-links : (t : Tree) (log : Log) (r : ReadLog) → IsLogOf (index_path log) (data_path log) r t → IsLinks r.reading.log.entries (revs_of t log)
+log-links : (t : Tree) (log : Log) (r : ReadLog) → IsLogOf log r t → IsLinks r.reading.log.entries (revs_of t log)
 log-links t log r is = is.read.are.links ∙ ap links_of is.read.revisions
 
-log-count : (t : Tree) (log : Log) (r : ReadLog) → IsLogOf (index_path log) (data_path log) r t → length r.reading.log.entries ≡ length (revs_of t log)
+log-count : (t : Tree) (log : Log) (r : ReadLog) → IsLogOf log r t → length r.reading.log.entries ≡ length (revs_of t log)
 log-count t log r is = sym (length-map r.reading.log.entries (λ (e : Entry). e.link)) ∙ ap length (log-links t log r is) ∙ length-map (revs_of t log) (λ (x : Revision). x.link)
 
 abbrev Found : Tree → List Finding → Type 0
 Found t list = (file : List ℕ) (rev : Option ℕ) (kind : ℕ) → list_any (is_finding file rev kind) list ≡ true → IsFinding t file rev kind
 
-log-are : (t : Tree) (log : Log) (r : ReadLog) → is_looked_at (sight_of t) log ≡ true → IsLogOf (index_path log) (data_path log) r t → Found t (of_read_log (index_path log) (data_path log) r)
+log-are : (t : Tree) (log : Log) (r : ReadLog) → is_looked_at (sight_of t) log ≡ true → IsLogOf log r t → Found t (of_read_log (index_path log) (data_path log) r)
 log-are t log r looked is file rev kind h = by (split-any p (one_if r.reading.broken index count 3) rests h)
   where
     p : Finding → Bool
@@ -134,7 +134,7 @@ log-are t log r looked is file rev kind h = by (split-any p (one_if r.reading.br
     by (inr e) = behind (split-any p (one_if r.index_rest index count 17) (one_if r.data_rest chunks count 17) e)
 
 -- the three of a revlog
-one-counted : (t : Tree) (log : Log) (r : ReadLog) → IsLogOf (index_path log) (data_path log) r t → (is : Bool) (path : List ℕ) (kind : ℕ) → is ≡ true
+one-counted : (t : Tree) (log : Log) (r : ReadLog) → IsLogOf log r t → (is : Bool) (path : List ℕ) (kind : ℕ) → is ≡ true
     → list_any (is_finding path (Some (length (revs_of t log))) kind) (one_if is path (length r.reading.log.entries) kind) ≡ true
 one-counted t log r of is path kind h =
     ap (λ n. list_any (is_finding path (Some n) kind) (one_if is path (length r.reading.log.entries) kind)) (sym (log-count t log r of)) ∙ is-one is path (length r.reading.log.entries) kind h

@@ -1,5 +1,5 @@
 -- What is added of the names of files is what is found of them.
-use Rattle.std.proofs.Common.{◌≡◌, ◌⊎◌, ℕ, List, [], ◌∷◌, ◌++◌, Bool, true, false, cond, ◌||◌, not, map, refl, sym, ◌∙◌, ap, subst, inl, inr}
+use Rattle.std.proofs.Common.{◌≡◌, ◌⊎◌, ℕ, List, [], ◌∷◌, ◌++◌, Bool, true, false, cond, ◌&&◌, ◌||◌, not, map, refl, sym, ◌∙◌, ap, subst, inl, inr}
 use Rattle.std.specs.Prelude.{Option, Some, None, Result, Ok, Err, Vec, IfSome, is_some, is_none, filter, flat_map}
 use Rattle.std.specs.List.{AllByRecursion, list_any}
 use Rattle.std.specs.Cmp.Lexicographic.{bytes_decides, slice_cmp, texts_ties}
@@ -17,6 +17,7 @@ use Rattle.hgs_path.specs.Fncache.{lists}
 use Rattle.hgs_path.specs.ListedNames.{listed_file, names_of}
 use Rattle.hgs_path.specs.StoreName.{listed_name, store_name}
 use Rattle.hgs_stands.specs.Places.{fncache_path}
+use Rattle.hgs_stands.specs.Stands.{has_file}
 use Rattle.hgs_findings.specs.Findings as findings
 use Rattle.hgs_findings.specs.Findings.{Finding, IsFinding, is_finding, is_name_used, names_in}
 use Rattle.hgs_findings.specs.Reading.{sight_of}
@@ -24,7 +25,7 @@ use Rattle.hgs_findings.specs.Regular.{rows_of_seen, used_paths, is_used}
 use Rattle.hgs_findings.specs.Sight.{value, row_paths, seen}
 use Rattle.hgs_report.specs.Adds.{Adds}
 use Rattle.hgs_report.specs.Lines.{file_if, has_key}
-use Rattle.hgs_report.specs.Names.{IsBadList, IsNameOf, bad_list, not_listed, one_name, lacks, is_named, is_taken, of_name, of_names, unused_files, unused_in}
+use Rattle.hgs_report.specs.Names.{AreInline, IsBadList, IsNameOf, bad_list, has_name, is_lacking, not_listed, one_name, lacks, is_named, is_taken, of_name, of_names, unused_files, unused_in}
 use Rattle.hgs_report.proofs.EachLemmas.{never, in-front, in-back, split-any, IsOne}
 use Rattle.hgs_report.proofs.PartLemmas.{below-less, less-differs, same-itself}
 use Rattle.hgs_report.proofs.StoreLemmas.{list-added, moved}
@@ -109,16 +110,16 @@ any-holds f (y ∷ xs) x e h = by (same x y) refl e (any-holds f xs x)
     by true s g rec = ap (λ b. b || list_any f xs) (ap f (sym ((bytes_decides x y).0 s)) ∙ h)
     by false s g rec = or-true (f y) (rec g h)
 
--- a name that the list lacks, or that two paths share
-abbrev NameFound : Option (List (List ℕ)) → Ext → (List ℕ → Bool) → List ℕ → Option ℕ → ℕ → Type 0
-NameFound names ext uses file rev k =
-    ((path : List ℕ) × (uses path ≡ true) × (lacks names path ext ≡ true) × IsOne (store_name path ext) None 10 file rev k)
+-- a name that is lacking, or that two paths share
+abbrev NameFound : (List ℕ → Bool) → Ext → (List ℕ → Bool) → List ℕ → Option ℕ → ℕ → Type 0
+NameFound lacking ext uses file rev k =
+    ((path : List ℕ) × (uses path ≡ true) × (lacking path ≡ true) × IsOne (store_name path ext) None 10 file rev k)
     ⊎ ((path : List ℕ) × (other : List ℕ) × (uses path ≡ true) × (uses other ≡ true) × (same other path ≡ false) × (same (store_name other ext) (store_name path ext) ≡ true) × IsOne (store_name path ext) None 11 file rev k)
 
-names-are : (names : Option (List (List ℕ))) (ext : Ext) (uses : List ℕ → Bool) (before left : List (List ℕ)) → Sorted left → AllByRecursion (λ y. uses y ≡ true) left → ((y : List ℕ) → among y before ≡ true → uses y ≡ true) → AllByRecursion (λ y. among y before ≡ false) left
-    → (file : List ℕ) (rev : Option ℕ) (k : ℕ) → list_any (is_finding file rev k) (of_names names ext before left) ≡ true → NameFound names ext uses file rev k
-names-are names ext uses before [] s u v a file rev k h = never (sym h)
-names-are names ext uses before (path ∷ left) s u v a file rev k h = by (split-any p (of_name names ext before path) (of_names names ext (path ∷ before) left) h) (names-are names ext uses (path ∷ before) left s.1 u.1 more (apart left s.0 a.1) file rev k)
+names-are : (lacking : List ℕ → Bool) (ext : Ext) (uses : List ℕ → Bool) (before left : List (List ℕ)) → Sorted left → AllByRecursion (λ y. uses y ≡ true) left → ((y : List ℕ) → among y before ≡ true → uses y ≡ true) → AllByRecursion (λ y. among y before ≡ false) left
+    → (file : List ℕ) (rev : Option ℕ) (k : ℕ) → list_any (is_finding file rev k) (of_names lacking ext before left) ≡ true → NameFound lacking ext uses file rev k
+names-are lacking ext uses before [] s u v a file rev k h = never (sym h)
+names-are lacking ext uses before (path ∷ left) s u v a file rev k h = by (split-any p (of_name (lacking path) ext before path) (of_names lacking ext (path ∷ before) left) h) (names-are lacking ext uses (path ∷ before) left s.1 u.1 more (apart left s.0 a.1) file rev k)
   where
     p : Finding → Bool
     p = is_finding file rev k
@@ -134,7 +135,7 @@ names-are names ext uses before (path ∷ left) s u v a file rev k h = by (split
     apart [] l b = tt
     apart (y ∷ ys) l b = (ap (λ z. z || among y before) (same-turned y path ∙ less-differs path y l.0) ∙ b.0, apart ys l.1 b.1)
 
-    shared : list_any p (file_if (is_taken before ext (store_name path ext)) (store_name path ext) 11) ≡ true → NameFound names ext uses file rev k
+    shared : list_any p (file_if (is_taken before ext (store_name path ext)) (store_name path ext) 11) ≡ true → NameFound lacking ext uses file rev k
     shared e =
         let one = file-is (is_taken before ext (store_name path ext)) (store_name path ext) 11 file rev k e in
         let o = holds-at (λ q. same (store_name path ext) (store_name q ext)) before one.0 in
@@ -144,31 +145,31 @@ names-are names ext uses before (path ∷ left) s u v a file rev k h = by (split
         differs x t true g = never (sym t ∙ ap (λ y. among y before) ((bytes_decides x path).0 g) ∙ a.0)
         differs x t false g = g
 
-    here : (list_any p (file_if (lacks names path ext) (store_name path ext) 10) ≡ true) ⊎ (list_any p (file_if (is_taken before ext (store_name path ext)) (store_name path ext) 11) ≡ true) → NameFound names ext uses file rev k
-    here (inl e) = let one = file-is (lacks names path ext) (store_name path ext) 10 file rev k e in inl (path, u.0, one.0, one.1)
+    here : (list_any p (file_if (lacking path) (store_name path ext) 10) ≡ true) ⊎ (list_any p (file_if (is_taken before ext (store_name path ext)) (store_name path ext) 11) ≡ true) → NameFound lacking ext uses file rev k
+    here (inl e) = let one = file-is (lacking path) (store_name path ext) 10 file rev k e in inl (path, u.0, one.0, one.1)
     here (inr e) = shared e
 
-    by : (list_any p (of_name names ext before path) ≡ true) ⊎ (list_any p (of_names names ext (path ∷ before) left) ≡ true) → (list_any p (of_names names ext (path ∷ before) left) ≡ true → NameFound names ext uses file rev k) → NameFound names ext uses file rev k
-    by (inl e) rec = here (split-any p (file_if (lacks names path ext) (store_name path ext) 10) (file_if (is_taken before ext (store_name path ext)) (store_name path ext) 11) e)
+    by : (list_any p (of_name (lacking path) ext before path) ≡ true) ⊎ (list_any p (of_names lacking ext (path ∷ before) left) ≡ true) → (list_any p (of_names lacking ext (path ∷ before) left) ≡ true → NameFound lacking ext uses file rev k) → NameFound lacking ext uses file rev k
+    by (inl e) rec = here (split-any p (file_if (lacking path) (store_name path ext) 10) (file_if (is_taken before ext (store_name path ext)) (store_name path ext) 11) e)
     by (inr e) rec = rec e
 
-name-lacks : (names : Option (List (List ℕ))) (ext : Ext) (before left : List (List ℕ)) (path : List ℕ) → among path left ≡ true → lacks names path ext ≡ true → list_any (is_finding (store_name path ext) None 10) (of_names names ext before left) ≡ true
-name-lacks names ext before [] path e h = never (sym e)
-name-lacks names ext before (x ∷ left) path e h = by (same path x) refl e (λ g. name-lacks names ext (x ∷ before) left path g h)
+name-lacks : (lacking : List ℕ → Bool) (ext : Ext) (before left : List (List ℕ)) (path : List ℕ) → among path left ≡ true → lacking path ≡ true → list_any (is_finding (store_name path ext) None 10) (of_names lacking ext before left) ≡ true
+name-lacks lacking ext before [] path e h = never (sym e)
+name-lacks lacking ext before (x ∷ left) path e h = by (same path x) refl e (λ g. name-lacks lacking ext (x ∷ before) left path g h)
   where
     p : Finding → Bool
     p = is_finding (store_name path ext) None 10
 
-    by : (b : Bool) → same path x ≡ b → (b || among path left) ≡ true → (among path left ≡ true → list_any p (of_names names ext (x ∷ before) left) ≡ true) → list_any p (of_name names ext before x ++ of_names names ext (x ∷ before) left) ≡ true
+    by : (b : Bool) → same path x ≡ b → (b || among path left) ≡ true → (among path left ≡ true → list_any p (of_names lacking ext (x ∷ before) left) ≡ true) → list_any p (of_name (lacking x) ext before x ++ of_names lacking ext (x ∷ before) left) ≡ true
     by true s g rec =
-        in-front p (of_name names ext before x) (of_names names ext (x ∷ before) left)
-        (ap (λ y. list_any p (of_name names ext before y)) (sym ((bytes_decides path x).0 s))
-        ∙ in-front p (file_if (lacks names path ext) (store_name path ext) 10) _ (is-file (lacks names path ext) (store_name path ext) 10 h))
-    by false s g rec = in-back p (of_name names ext before x) (of_names names ext (x ∷ before) left) (rec g)
+        in-front p (of_name (lacking x) ext before x) (of_names lacking ext (x ∷ before) left)
+        (ap (λ y. list_any p (of_name (lacking y) ext before y)) (sym ((bytes_decides path x).0 s))
+        ∙ in-front p (file_if (lacking path) (store_name path ext) 10) _ (is-file (lacking path) (store_name path ext) 10 h))
+    by false s g rec = in-back p (of_name (lacking x) ext before x) (of_names lacking ext (x ∷ before) left) (rec g)
 
-name-taken : (names : Option (List (List ℕ))) (ext : Ext) (before left : List (List ℕ)) (q y : List ℕ) → among q before ≡ true → among y left ≡ true → same (store_name y ext) (store_name q ext) ≡ true → list_any (is_finding (store_name y ext) None 11) (of_names names ext before left) ≡ true
-name-taken names ext before [] q y b e h = never (sym e)
-name-taken names ext before (x ∷ left) q y b e h = by (same y x) refl e (λ g. name-taken names ext (x ∷ before) left q y (or-true (same q x) b) g h)
+name-taken : (lacking : List ℕ → Bool) (ext : Ext) (before left : List (List ℕ)) (q y : List ℕ) → among q before ≡ true → among y left ≡ true → same (store_name y ext) (store_name q ext) ≡ true → list_any (is_finding (store_name y ext) None 11) (of_names lacking ext before left) ≡ true
+name-taken lacking ext before [] q y b e h = never (sym e)
+name-taken lacking ext before (x ∷ left) q y b e h = by (same y x) refl e (λ g. name-taken lacking ext (x ∷ before) left q y (or-true (same q x) b) g h)
   where
     p : Finding → Bool
     p = is_finding (store_name y ext) None 11
@@ -177,17 +178,17 @@ name-taken names ext before (x ∷ left) q y b e h = by (same y x) refl e (λ g.
     or-true true k = refl
     or-true false k = k
 
-    by : (c : Bool) → same y x ≡ c → (c || among y left) ≡ true → (among y left ≡ true → list_any p (of_names names ext (x ∷ before) left) ≡ true) → list_any p (of_name names ext before x ++ of_names names ext (x ∷ before) left) ≡ true
+    by : (c : Bool) → same y x ≡ c → (c || among y left) ≡ true → (among y left ≡ true → list_any p (of_names lacking ext (x ∷ before) left) ≡ true) → list_any p (of_name (lacking x) ext before x ++ of_names lacking ext (x ∷ before) left) ≡ true
     by true s g rec =
-        in-front p (of_name names ext before x) (of_names names ext (x ∷ before) left)
-        (ap (λ z. list_any p (of_name names ext before z)) (sym ((bytes_decides y x).0 s))
-        ∙ in-back p (file_if (lacks names y ext) (store_name y ext) 10) _ (is-file (is_taken before ext (store_name y ext)) (store_name y ext) 11 (any-holds (λ z. same (store_name y ext) (store_name z ext)) before q b h)))
-    by false s g rec = in-back p (of_name names ext before x) (of_names names ext (x ∷ before) left) (rec g)
+        in-front p (of_name (lacking x) ext before x) (of_names lacking ext (x ∷ before) left)
+        (ap (λ z. list_any p (of_name (lacking z) ext before z)) (sym ((bytes_decides y x).0 s))
+        ∙ in-back p (file_if (lacking y) (store_name y ext) 10) _ (is-file (is_taken before ext (store_name y ext)) (store_name y ext) 11 (any-holds (λ z. same (store_name y ext) (store_name z ext)) before q b h)))
+    by false s g rec = in-back p (of_name (lacking x) ext before x) (of_names lacking ext (x ∷ before) left) (rec g)
 
-name-shared : (names : Option (List (List ℕ))) (ext : Ext) (before left : List (List ℕ)) (path other : List ℕ) → among path left ≡ true → among other left ≡ true → same other path ≡ false → same (store_name other ext) (store_name path ext) ≡ true
-    → list_any (is_finding (store_name path ext) None 11) (of_names names ext before left) ≡ true
-name-shared names ext before [] path other a b d h = never (sym a)
-name-shared names ext before (x ∷ left) path other a b d h = by (same path x) refl a (same other x) refl b (λ e f. name-shared names ext (x ∷ before) left path other e f d h)
+name-shared : (lacking : List ℕ → Bool) (ext : Ext) (before left : List (List ℕ)) (path other : List ℕ) → among path left ≡ true → among other left ≡ true → same other path ≡ false → same (store_name other ext) (store_name path ext) ≡ true
+    → list_any (is_finding (store_name path ext) None 11) (of_names lacking ext before left) ≡ true
+name-shared lacking ext before [] path other a b d h = never (sym a)
+name-shared lacking ext before (x ∷ left) path other a b d h = by (same path x) refl a (same other x) refl b (λ e f. name-shared lacking ext (x ∷ before) left path other e f d h)
   where
     p : Finding → Bool
     p = is_finding (store_name path ext) None 11
@@ -195,17 +196,17 @@ name-shared names ext before (x ∷ left) path other a b d h = by (same path x) 
     first : (y : List ℕ) → y ≡ x → (same y x || among y before) ≡ true
     first y e = ap (λ c. c || among y before) ((bytes_decides y x).1 e)
 
-    by : (c : Bool) → same path x ≡ c → (c || among path left) ≡ true → (e : Bool) → same other x ≡ e → (e || among other left) ≡ true → (among path left ≡ true → among other left ≡ true → list_any p (of_names names ext (x ∷ before) left) ≡ true)
-        → list_any p (of_name names ext before x ++ of_names names ext (x ∷ before) left) ≡ true
+    by : (c : Bool) → same path x ≡ c → (c || among path left) ≡ true → (e : Bool) → same other x ≡ e → (e || among other left) ≡ true → (among path left ≡ true → among other left ≡ true → list_any p (of_names lacking ext (x ∷ before) left) ≡ true)
+        → list_any p (of_name (lacking x) ext before x ++ of_names lacking ext (x ∷ before) left) ≡ true
     by true s f true u g rec = never (sym ((bytes_decides other path).1 ((bytes_decides other x).0 u ∙ sym ((bytes_decides path x).0 s))) ∙ d)
     by true s f false u g rec =
-        in-back p (of_name names ext before x) (of_names names ext (x ∷ before) left)
-        (ap (λ z. list_any (is_finding z None 11) (of_names names ext (x ∷ before) left)) (sym ((bytes_decides (store_name other ext) (store_name path ext)).0 h))
-        ∙ name-taken names ext (x ∷ before) left path other (first path ((bytes_decides path x).0 s)) g h)
+        in-back p (of_name (lacking x) ext before x) (of_names lacking ext (x ∷ before) left)
+        (ap (λ z. list_any (is_finding z None 11) (of_names lacking ext (x ∷ before) left)) (sym ((bytes_decides (store_name other ext) (store_name path ext)).0 h))
+        ∙ name-taken lacking ext (x ∷ before) left path other (first path ((bytes_decides path x).0 s)) g h)
     by false s f true u g rec =
-        in-back p (of_name names ext before x) (of_names names ext (x ∷ before) left)
-        (name-taken names ext (x ∷ before) left other path (first other ((bytes_decides other x).0 u)) f (same-turned (store_name path ext) (store_name other ext) ∙ h))
-    by false s f false u g rec = in-back p (of_name names ext before x) (of_names names ext (x ∷ before) left) (rec f g)
+        in-back p (of_name (lacking x) ext before x) (of_names lacking ext (x ∷ before) left)
+        (name-taken lacking ext (x ∷ before) left other path (first other ((bytes_decides other x).0 u)) f (same-turned (store_name path ext) (store_name other ext) ∙ h))
+    by false s f false u g rec = in-back p (of_name (lacking x) ext before x) (of_names lacking ext (x ∷ before) left) (rec f g)
 
 -- ---- the parts
 
@@ -221,9 +222,9 @@ none-before : (ys : List (List ℕ)) → AllByRecursion (λ y. among y [] ≡ fa
 none-before [] = tt
 none-before (y ∷ ys) = (refl, none-before ys)
 
-lacking-so : (t : Tree) (path : List ℕ) (ext : Ext) (o : Option (List (List ℕ))) → value (names_of (bytes_at t fncache_path)) ≡ o → lacks o path ext ≡ true → is_used (sight_of t) path ≡ true → IsFinding t (store_name path ext) None 10
-lacking-so t path ext None e h u = never (sym h)
-lacking-so t path ext (Some xs) e h u = by (names_of (bytes_at t fncache_path)) refl e
+lacking-so : (t : Tree) (path : List ℕ) (ext : Ext) (o : Option (List (List ℕ))) → value (names_of (bytes_at t fncache_path)) ≡ o → lacks o path ext ≡ true → has_file t path ext ≡ true → is_used (sight_of t) path ≡ true → IsFinding t (store_name path ext) None 10
+lacking-so t path ext None e h f u = never (sym h)
+lacking-so t path ext (Some xs) e h f u = by (names_of (bytes_at t fncache_path)) refl e
   where
     not-so : (b : Bool) → not b ≡ true → b ≡ false
     not-so true g = never (sym g)
@@ -233,29 +234,43 @@ lacking-so t path ext (Some xs) e h u = by (names_of (bytes_at t fncache_path)) 
     same-names a b g = ap (elim [ None ↦ a | Some z ↦ z ]) g
 
     by : (r : Result (List (List ℕ)) _) → names_of (bytes_at t fncache_path) ≡ r → value r ≡ Some xs → IsFinding t (store_name path ext) None 10
-    by (Ok ys) is g = findings.not_listed path ext ys u is (ap (λ l. lists l path ext) (same-names ys xs g) ∙ not-so (lists xs path ext) h)
-    by (Err f) is g = absurd (clash g)
+    by (Ok ys) is g = findings.not_listed path ext ys u f is (ap (λ l. lists l path ext) (same-names ys xs g) ∙ not-so (lists xs path ext) h)
+    by (Err fault) is g = absurd (clash g)
       where
         clash : (let o : Option (List (List ℕ)) = None in o) ≡ Some xs → ⊥
         clash k = cc
 
-pub names-added : (t : Tree) (ext : Ext) (old new : List Finding) → new ≡ old ++ of_names (value (names_of (bytes_at t fncache_path))) ext [] (used_paths (sight_of t)) → Adds t (IsNameOf t ext) old new
-names-added t ext old new e = list-added t (IsNameOf t ext) old new (of_names (value (names_of (bytes_at t fncache_path))) ext [] (used_paths (sight_of t))) e are all
+-- a used path's filelog has a file where it is not one of the inline ones
+has-same : (t : Tree) (inline : List (Vec ℕ Global)) (path : List ℕ) (ext : Ext) → AreInline t inline → is_used (sight_of t) path ≡ true → has_name inline ext path ≡ has_file t path ext
+has-same t inline path I are u = refl
+has-same t inline path D are u = ap not (are path u)
+
+both : (a b : Bool) → (a && b) ≡ true → (a ≡ true) × (b ≡ true)
+both true b h = (refl, h)
+both false b h = never (sym h)
+
+pub names-added : (t : Tree) (inline : List (Vec ℕ Global)) (ext : Ext) (old new : List Finding) → AreInline t inline → new ≡ old ++ of_names (is_lacking (value (names_of (bytes_at t fncache_path))) inline ext) ext [] (used_paths (sight_of t)) → Adds t (IsNameOf t ext) old new
+names-added t inline ext old new inlined e = list-added t (IsNameOf t ext) old new (of_names lacking ext [] (used_paths (sight_of t))) e are all
   where
-    to_finding : (file : List ℕ) (rev : Option ℕ) (k : ℕ) → NameFound (value (names_of (bytes_at t fncache_path))) ext (is_used (sight_of t)) file rev k → IsFinding t file rev k
-    to_finding file rev k (inl f) = moved t (store_name f.0 ext) None 10 file rev k f.3 (lacking-so t f.0 ext (value (names_of (bytes_at t fncache_path))) refl f.2 f.1)
+    lacking : List ℕ → Bool
+    lacking = is_lacking (value (names_of (bytes_at t fncache_path))) inline ext
+
+    to_finding : (file : List ℕ) (rev : Option ℕ) (k : ℕ) → NameFound lacking ext (is_used (sight_of t)) file rev k → IsFinding t file rev k
+    to_finding file rev k (inl f) =
+        let two = both (has_name inline ext f.0) (lacks (value (names_of (bytes_at t fncache_path))) f.0 ext) f.2 in
+        moved t (store_name f.0 ext) None 10 file rev k f.3 (lacking-so t f.0 ext (value (names_of (bytes_at t fncache_path))) refl two.1 (sym (has-same t inline f.0 ext inlined f.1) ∙ two.0) f.1)
     to_finding file rev k (inr f) = moved t (store_name f.0 ext) None 11 file rev k f.6 (findings.one_name f.0 f.1 ext f.2 f.3 f.4 f.5)
 
-    are : (file : List ℕ) (rev : Option ℕ) (k : ℕ) → list_any (is_finding file rev k) (of_names (value (names_of (bytes_at t fncache_path))) ext [] (used_paths (sight_of t))) ≡ true → IsFinding t file rev k
+    are : (file : List ℕ) (rev : Option ℕ) (k : ℕ) → list_any (is_finding file rev k) (of_names lacking ext [] (used_paths (sight_of t))) ≡ true → IsFinding t file rev k
     are file rev k h =
         to_finding file rev k
-        (names-are (value (names_of (bytes_at t fncache_path))) ext (is_used (sight_of t)) [] (used_paths (sight_of t)) (ordered-sorted (flat_map (λ c. row_paths (rows_of_seen c)) (seen (sight_of t)))) (all-among (used_paths (sight_of t)) (used_paths (sight_of t)) (λ y g. g)) (λ y g. never (sym g)) (none-before (used_paths (sight_of t))) file rev k h)
+        (names-are lacking ext (is_used (sight_of t)) [] (used_paths (sight_of t)) (ordered-sorted (flat_map (λ c. row_paths (rows_of_seen c)) (seen (sight_of t)))) (all-among (used_paths (sight_of t)) (used_paths (sight_of t)) (λ y g. g)) (λ y g. never (sym g)) (none-before (used_paths (sight_of t))) file rev k h)
 
-    all : (file : List ℕ) (rev : Option ℕ) (k : ℕ) → IsNameOf t ext file rev k → list_any (is_finding file rev k) (of_names (value (names_of (bytes_at t fncache_path))) ext [] (used_paths (sight_of t))) ≡ true
-    all _ _ _ (not_listed path listed u is lack) =
-        ap (λ r. list_any (is_finding (store_name path ext) None 10) (of_names (value r) ext [] (used_paths (sight_of t)))) is
-        ∙ name-lacks (Some listed) ext [] (used_paths (sight_of t)) path u (ap not lack)
-    all _ _ _ (one_name path other a b d h) = name-shared (value (names_of (bytes_at t fncache_path))) ext [] (used_paths (sight_of t)) path other a b d h
+    all : (file : List ℕ) (rev : Option ℕ) (k : ℕ) → IsNameOf t ext file rev k → list_any (is_finding file rev k) (of_names lacking ext [] (used_paths (sight_of t))) ≡ true
+    all _ _ _ (not_listed path listed u f is lack) =
+        name-lacks lacking ext [] (used_paths (sight_of t)) path u
+        (ap (λ b. b && lacks (value (names_of (bytes_at t fncache_path))) path ext) (has-same t inline path ext inlined u ∙ f) ∙ ap (λ r. lacks (value r) path ext) is ∙ ap not lack)
+    all _ _ _ (one_name path other a b d h) = name-shared lacking ext [] (used_paths (sight_of t)) path other a b d h
 
 pub list-read : (t : Tree) (old new : List Finding) → new ≡ old ++ file_if (is_none (value (names_of (bytes_at t fncache_path)))) fncache_path 4 → Adds t (IsBadList t) old new
 list-read t old new e = list-added t (IsBadList t) old new (file_if (is_none (value (names_of (bytes_at t fncache_path)))) fncache_path 4) e are all

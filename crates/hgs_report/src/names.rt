@@ -13,7 +13,7 @@ ghost use Rattle.hgs_judge.specs.Report.{findings_in};
 ghost use Rattle.hgs_report.specs.Adds.{Adds};
 ghost use Rattle.hgs_bytes.specs.Bytes.{same};
 ghost use Rattle.hgs_report.specs.Lines.{has_key};
-ghost use Rattle.hgs_report.specs.Names.{IsOfNames, IsSetOf, is_named, is_taken, lacks, of_name, of_names, unused_files, unused_in};
+ghost use Rattle.hgs_report.specs.Names.{AreInline, IsOfNames, IsSetOf, has_name, is_lacking, is_named, is_taken, lacks, of_name, of_names, unused_files, unused_in};
 
 use crate::lines::add_file;
 use crate::sets::{enter, set_of};
@@ -56,22 +56,46 @@ struct Seen {
     taken: BTreeSet<Vec<u8>>,
 }
 
+// Whether a filelog has this file, where those of the given paths are inline.
+fn has_name(inline: &BTreeSet<Vec<u8>>, path: &Bytes, ext: &Ext) -> bool
+    ensures { result ≡ has_name inline.now.keys ext.now path.now }
+{
+    match ext {
+        Ext::I => true,
+        Ext::D => !inline.contains(path.as_slice()),
+    }
+}
+
+// Whether the list can be read and lacks the name of a file that a path's filelog has.
+fn is_lacking(
+    listed: &Option<BTreeSet<Vec<u8>>>,
+    inline: &BTreeSet<Vec<u8>>,
+    path: &Bytes,
+    ext: &Ext,
+    name: &[u8],
+) -> bool
+    ensures { (names : Option (List (List ℕ))) → IsSetOf names listed.now → name.now ≡ listed_name path.now ext.now → result ≡ is_lacking names inline.now.keys ext.now path.now }
+{
+    has_name(inline, path, ext) && lacks(listed, name)
+}
+
 // Adds what is found of the name of a path's file, and enters it.
 fn add_name(
     alloc: Global,
-    path: &[u8],
+    path: &Bytes,
     ext: Ext,
     listed: &Option<BTreeSet<Vec<u8>>>,
+    inline: &BTreeSet<Vec<u8>>,
     seen: &mut Seen,
     into: &mut Vec<Finding>,
 ) -> Result<(), AllocError>
-    ensures found { OnOk result ((names : Option (List (List ℕ))) (before : List (List ℕ)) → IsSetOf names listed.now → ((file : List ℕ) → has_key seen.old.taken.keys file ≡ is_taken before ext file) → findings_in into.new.items ≡ findings_in into.old.items ++ of_name names ext before path.now) }
+    ensures found { OnOk result ((names : Option (List (List ℕ))) (before : List (List ℕ)) → IsSetOf names listed.now → ((file : List ℕ) → has_key seen.old.taken.keys file ≡ is_taken before ext file) → findings_in into.new.items ≡ findings_in into.old.items ++ of_name (is_lacking names inline.now.keys ext path.now) ext before path.now) }
     ensures taken { OnOk result ((file : List ℕ) → has_key seen.new.taken.keys file ≡ (same file (store_name path.now ext) || has_key seen.old.taken.keys file)) }
     ensures named { OnOk result ((name : List ℕ) → has_key seen.new.named.keys name ≡ (same name (listed_name path.now ext) || has_key seen.old.named.keys name)) }
 {
-    let name = listed_name(alloc, path, ext)?;
-    let file = store_name(alloc, path, ext)?;
-    let is_lacking = lacks(listed, &name);
+    let name = listed_name(alloc, path.as_slice(), ext)?;
+    let file = store_name(alloc, path.as_slice(), ext)?;
+    let is_lacking = is_lacking(listed, inline, path, &ext, &name);
     let is_new = enter(&mut seen.taken, Vec::from_slice(alloc, file.bytes())?)?;
     enter(&mut seen.named, name)?;
     add_file(alloc, is_lacking, &file, 10, into)?;
@@ -80,15 +104,18 @@ fn add_name(
 }
 
 /// Adds what is found of the names of these paths' files of one kind, and enters the names that the list is to have.
+///
+/// The list need not have the data file of a path whose filelog is inline.
 pub fn add_names(
     alloc: Global,
     paths: &BTreeSet<Bytes>,
     ext: Ext,
     listed: &Option<BTreeSet<Vec<u8>>>,
+    inline: &BTreeSet<Vec<u8>>,
     named: BTreeSet<Vec<u8>>,
     into: &mut Vec<Finding>,
 ) -> Result<BTreeSet<Vec<u8>>, AllocError>
-    ensures found { OnOk result ((names : Option (List (List ℕ))) → IsSetOf names listed.now → findings_in into.new.items ≡ findings_in into.old.items ++ of_names names ext [] paths.now.keys) }
+    ensures found { OnOk result ((names : Option (List (List ℕ))) → IsSetOf names listed.now → findings_in into.new.items ≡ findings_in into.old.items ++ of_names (is_lacking names inline.now.keys ext) ext [] paths.now.keys) }
     ensures named { IfOk result (λ all. (name : List ℕ) → has_key all.keys name ≡ (is_named paths.now.keys ext name || has_key named.keys name)) }
 {
     let mut seen = Seen {
@@ -96,7 +123,7 @@ pub fn add_names(
         taken: BTreeSet::new(alloc),
     };
     for path in paths {
-        add_name(alloc, path.as_slice(), ext, listed, &mut seen, into)?;
+        add_name(alloc, path, ext, listed, inline, &mut seen, into)?;
     }
     Ok(seen.named)
 }
@@ -161,25 +188,34 @@ fn files_lacking(
     }
 }
 
-/// Adds what is found of the list, whose path and text these are, and of the names of the used paths' files, and hands back
-/// the files of the listed names that no path uses.
+/// Adds what is found of the list, whose path and text these are, and of the names of the used paths' files, of which some
+/// have inline filelogs, and hands back the files of the listed names that no path uses.
 pub fn add_used_names(
     alloc: Global,
     path: &StorePath,
     text: &[u8],
     used: &BTreeSet<Bytes>,
+    inline: &BTreeSet<Vec<u8>>,
     into: &mut Vec<Finding>,
 ) -> Result<Vec<StorePath>, AllocError>
     requires { path.now ≡ fncache_path }
-    ensures found { OnOk result ((t : Tree) → text.now ≡ bytes_at t fncache_path → used.now.keys ≡ used_paths (sight_of t) → Adds t (IsOfNames t) (findings_in into.old.items) (findings_in into.new.items)) }
+    ensures found { OnOk result ((t : Tree) → text.now ≡ bytes_at t fncache_path → used.now.keys ≡ used_paths (sight_of t) → AreInline t inline.now.keys → Adds t (IsOfNames t) (findings_in into.old.items) (findings_in into.new.items)) }
     ensures unused { IfOk result (λ files. (t : Tree) → text.now ≡ bytes_at t fncache_path → used.now.keys ≡ used_paths (sight_of t) → files.items ≡ unused_in t) }
 {
     listed_names_name_files();
     let names = names_in(alloc, text)?;
     add_file(alloc, names.is_none(), path, 4, into)?;
     let listed = set_in(alloc, &names)?;
-    let indexes = add_names(alloc, used, Ext::I, &listed, BTreeSet::new(alloc), into)?;
-    let named = add_names(alloc, used, Ext::D, &listed, indexes, into)?;
+    let indexes = add_names(
+        alloc,
+        used,
+        Ext::I,
+        &listed,
+        inline,
+        BTreeSet::new(alloc),
+        into,
+    )?;
+    let named = add_names(alloc, used, Ext::D, &listed, inline, indexes, into)?;
     let files = files_lacking(alloc, &names, &named)?;
     Ok(files)
 }

@@ -20,7 +20,7 @@ use std::alloc::{AllocError, Global};
 /// Revisions and changesets have numbers below this.
 const MOST: usize = 0x1_0000_0000;
 
-/// A revlog that was read, with the bytes of its data file, none where that isn't there.
+/// A revlog that was read, with the bytes of its chunks, none where its data file isn't there.
 #[derive(Drop)]
 pub struct ReadLog {
     pub reading: Reading,

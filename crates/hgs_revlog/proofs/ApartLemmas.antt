@@ -21,6 +21,7 @@ use Rattle.hgs_revlog.specs.Load.{entry_behind, ends_at, at_end, after, load_fro
 use Rattle.hgs_revlog.specs.Loaded.{AreEntries, HaveNodes}
 use Rattle.hgs_revlog.specs.Log.{Log, with_entry, place_of, stored_sum}
 use Rattle.hgs_revlog.proofs.FormLemmas.{loads-apart, marked-first, marked-length, marked-number, marked-rest}
+use Rattle.hgs_revlog.specs.Theorems.ApartBytes.{apart-bytes}
 use Rattle.hgs_revlog.specs.Theorems.LoadLemmas.{taken_entry, faultless}
 use Rattle.hgs_revlog.proofs.LoadedLemmas.{end_is, entry-read, get-kept, load_holds, loaded-entries, loaded-nodes}
 use Rattle.hgs_revlog.specs.Theorems.LogLemmas.{sum_push}
@@ -34,36 +35,6 @@ form-entries tail index log load = loaded-entries tail (index_apart index) (reco
 
 pub form-is : (tail : tails.Tail) (index : List ℕ) (log : Log) → loaded_either tail index ≡ Ok log → log.inline ≡ is_inline index
 form-is tail index log load = (loads-apart tail index log load).0
-
-bytes-append : (xs ys : List ℕ) → IsBytes xs → IsBytes ys → IsBytes (xs ++ ys)
-bytes-append [] ys a b i = b i
-bytes-append (x ∷ xs) ys a b zero = a 0
-bytes-append (x ∷ xs) ys a b (suc i) = bytes-append xs ys (λ k. a (suc k)) b i
-
-bytes-none : IsBytes []
-bytes-none i = omega arith
-
-entries-bytes : (n : ℕ) (bytes : List ℕ) → IsBytes bytes → IsBytes (entries_in n bytes)
-entries-bytes zero bytes are = bytes-none
-entries-bytes (suc n) bytes are = by (is_cut bytes) (entries-bytes n (drop (64 + number_at 8 bytes) bytes) (bytes_drop (64 + number_at 8 bytes) bytes are))
-  where
-    by : (b : Bool) → IsBytes (entries_in n (drop (64 + number_at 8 bytes) bytes)) → IsBytes (cond b (take 63 bytes) (take 64 bytes ++ entries_in n (drop (64 + number_at 8 bytes) bytes)))
-    by true more = bytes_take 63 bytes are
-    by false more = bytes-append (take 64 bytes) (entries_in n (drop (64 + number_at 8 bytes) bytes)) (bytes_take 64 bytes are) more
-
-cleared-bytes : (bytes : List ℕ) → IsBytes bytes → IsBytes (without_inline bytes)
-cleared-bytes [] are i = are i
-cleared-bytes (a ∷ []) are i = are i
-cleared-bytes (a ∷ b ∷ bytes) are zero = are 0
-cleared-bytes (a ∷ b ∷ bytes) are (suc zero) = let small = are 1 in omega (arith, small)
-cleared-bytes (a ∷ b ∷ bytes) are (suc (suc i)) = are (suc (suc i))
-
-apart-bytes : (index : List ℕ) → IsBytes index → IsBytes (index_apart index)
-apart-bytes index are = by (is_inline index)
-  where
-    by : (b : Bool) → IsBytes (cond b (without_inline (entries_in (length index) index)) index)
-    by true = cleared-bytes (entries_in (length index) index) (entries-bytes (length index) index are)
-    by false = are
 
 pub form-nodes : (tail : tails.Tail) (index : List ℕ) (log : Log) → IsBytes index → loaded_either tail index ≡ Ok log → HaveNodes log.entries
 form-nodes tail index log are load = loaded-nodes tail (index_apart index) (record { inline = false; entries = log.entries }) (apart-bytes index are) (loads-apart tail index log load).1

@@ -3,6 +3,7 @@
 pub mod AddLemmas
 pub mod AddedLemmas
 pub mod BehindLemmas
+pub mod ApartBytes
 pub mod HeldLemmas
 pub mod LoadLemmas
 pub mod LogLemmas

@@ -9,6 +9,7 @@ use hgs_mem::yard::MemYard;
 use hgs_top::run::run;
 use std::alloc::Global;
 use std::test::Fail;
+use std::thread::Threads;
 
 const MANIFEST: &[u8; 64] =
     b"\x00\x00\x00\x01\x00\x00\x00\x00\x00\x00\x00,\x00\x00\x00+\x00\x00\x00\x00\x00\x00\x00\x00\xff\xff\xff\xff\xff\xff\xff\xff\xa0\xc8\xbc\xbb\xb4\x5cc\xb9\x0bp\xad\x00{\xf3\x89a\xf6O*\xf0\x00\x00\x00\x00\x00\x00\x00\x00\x00\x00\x00\x00";
@@ -35,8 +36,8 @@ fn one_file(alloc: Global) -> Result<MemFiles, Fail> {
 }
 
 /// What `run` answers to these words.
-pub(crate) fn asked(
-    rt: &HostRuntime,
+pub(crate) fn asked<R: Alloc<A = Global> + Threads + Sync>(
+    rt: &R,
     files: MemFiles,
     words: &[&str],
     mut sink: MemSink,
@@ -79,7 +80,11 @@ fn what_fails_outside_is_told(rt: HostRuntime) -> Result<(), Fail> {
 }
 
 /// How many calls on the files a run makes.
-fn calls_of(rt: &HostRuntime, files: MemFiles, words: &[&str]) -> Result<u64, Fail> {
+fn calls_of<R: Alloc<A = Global> + Threads + Sync>(
+    rt: &R,
+    files: MemFiles,
+    words: &[&str],
+) -> Result<u64, Fail> {
     let alloc = rt.alloc();
     let before = files.calls();
     let mut owned = Vec::new(alloc);

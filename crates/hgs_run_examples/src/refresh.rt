@@ -137,3 +137,76 @@ fn a_refused_refresh_changes_nothing(rt: HostRuntime) -> Result<(), Fail> {
     }
     Ok(())
 }
+
+/// The store of the first changeset, or of both, whose changelog is inline. What stands beside it is no part of it.
+fn inline_store(alloc: Global, whole: bool) -> Result<MemFiles, Fail> {
+    let first: &[u8] = FIRST;
+    let mut index = Vec::from_slice(alloc, b"\x00\x01")?;
+    index.extend_from_slice(&first[2..])?;
+    index.extend_from_slice(FIRST_CHUNK)?;
+    if whole {
+        index.extend_from_slice(SECOND)?;
+        index.extend_from_slice(SECOND_CHUNK)?;
+    }
+    store(alloc, &index, b"no chunk")
+}
+
+/// The line of the newest changeset.
+fn newest(alloc: Global, session: &mut Session, files: &mut MemFiles) -> Result<Vec<u8>, Fail> {
+    let mut line = Vec::new(alloc);
+    let count = session.len();
+    if count > 0 {
+        session.log_line(files, count - 1, &mut line)?;
+    }
+    Ok(line)
+}
+
+const FIRST_LINE: &[u8] = b"0\tcb9a9f314b8b07ba71012fcdbc544b5a4d82ff5b\t-1\t-1\t0\t0\ttest\ta\n";
+
+const SECOND_LINE: &[u8] = b"1\t37bdf19219c0e69b87d6371fabfaf5c3a63794d9\t0\t-1\t60\t0\ttest\tb\n";
+
+/// The newest lines of a session over the first files, and once it was refreshed from the second.
+fn lines_around(
+    alloc: Global,
+    first: &mut MemFiles,
+    second: &mut MemFiles,
+) -> Result<[Vec<u8>; 2], Fail> {
+    let mut session = Session::open(alloc, first)?;
+    let before = newest(alloc, &mut session, first)?;
+    session.refresh(second)?;
+    let after = newest(alloc, &mut session, second)?;
+    Ok([before, after])
+}
+
+// It has grown; or Mercurial has split it meanwhile, which it never takes back.
+#[test]
+fn an_inline_changelog_is_read_again(rt: HostRuntime) -> Result<(), Fail> {
+    let alloc = rt.alloc();
+    let mut grown = inline_store(alloc, true)?;
+    let mut split = store_of(alloc, true)?;
+    let mut first = inline_store(alloc, false)?;
+    let [before, after] = lines_around(alloc, &mut first, &mut grown)?;
+    assert_eq!(rt; before.as_slice(), FIRST_LINE);
+    assert_eq!(rt; after.as_slice(), SECOND_LINE);
+    let [before, after] = lines_around(alloc, &mut first, &mut split)?;
+    assert_eq!(rt; before.as_slice(), FIRST_LINE);
+    assert_eq!(rt; after.as_slice(), SECOND_LINE);
+    let [before, after] = lines_around(alloc, &mut store_of(alloc, false)?, &mut grown)?;
+    assert_eq!(rt; before.as_slice(), FIRST_LINE);
+    assert_eq!(rt; after.as_slice(), SECOND_LINE);
+    Ok(())
+}
+
+#[test]
+fn a_shorter_inline_changelog_is_refused(rt: HostRuntime) -> Result<(), Fail> {
+    let alloc = rt.alloc();
+    let mut first = inline_store(alloc, true)?;
+    let [before, refusal, after] = around(alloc, &mut first, &mut inline_store(alloc, false)?)?;
+    assert_eq!(rt; before.as_slice(), PLAIN_TOLD);
+    assert_eq!(rt;
+        refusal.as_slice(),
+        b"abort: damaged store/00changelog.i: shrunk 1 1\n".as_slice()
+    );
+    assert_eq!(rt; after.as_slice(), PLAIN_TOLD);
+    Ok(())
+}

@@ -5,7 +5,9 @@ use hgs_mem::mem::MemFiles;
 use hgs_mem::streams::{MemSink, MemSource};
 use hgs_mem::yard::MemYard;
 use hgs_top::run::{Ran, run};
+use std::alloc::Global;
 use std::test::Fail;
+use std::thread::Threads;
 
 const FIRST: &[u8] = b"commit\nuser test\ndate 0 0\ndesc 1\na\nfile - 2 a\na\n\nend\n";
 
@@ -29,7 +31,12 @@ struct Came {
     files: MemFiles,
 }
 
-fn run_word(rt: &HostRuntime, files: MemFiles, word: &str, given: &[u8]) -> Result<Came, Fail> {
+fn run_word<R: Alloc<A = Global> + Threads + Sync>(
+    rt: &R,
+    files: MemFiles,
+    word: &str,
+    given: &[u8],
+) -> Result<Came, Fail> {
     let alloc = rt.alloc();
     let mut words = Vec::new(alloc);
     words.push(String::from_str(alloc, word)?)?;
@@ -53,20 +60,20 @@ fn run_word(rt: &HostRuntime, files: MemFiles, word: &str, given: &[u8]) -> Resu
 }
 
 /// A repository with the first changeset.
-fn committed(rt: &HostRuntime) -> Result<MemFiles, Fail> {
+fn committed<R: Alloc<A = Global> + Threads + Sync>(rt: &R) -> Result<MemFiles, Fail> {
     let made = run_word(rt, MemFiles::new(rt.alloc())?, "init", b"")?;
     let first = run_word(rt, made.files, "commit", FIRST)?;
     Ok(first.files.restart())
 }
 
 /// Recovers, and gives the lines of the history.
-fn lines(rt: &HostRuntime, files: MemFiles) -> Result<Vec<u8>, Fail> {
+fn lines<R: Alloc<A = Global> + Threads + Sync>(rt: &R, files: MemFiles) -> Result<Vec<u8>, Fail> {
     let recovered = run_word(rt, files.restart(), "recover", b"")?;
     Ok(run_word(rt, recovered.files, "log", b"")?.text)
 }
 
 /// Whether the lines behind a commit that came to this are those before or those after, and those after where it was answered.
-fn is_right(rt: &HostRuntime, left: Came) -> Result<bool, Fail> {
+fn is_right<R: Alloc<A = Global> + Threads + Sync>(rt: &R, left: Came) -> Result<bool, Fail> {
     let Came { status, files, .. } = left;
     let lines = lines(rt, files)?;
     Ok(lines.as_slice() == AFTER || status != 0 && lines.as_slice() == BEFORE)

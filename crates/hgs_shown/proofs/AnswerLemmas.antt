@@ -11,35 +11,33 @@ use Rattle.hgs_index.specs.declared.entry.Entry.{Entry}
 use Rattle.hgs_index.specs.Hex.{hex}
 use Rattle.hgs_index.specs.Manifest.{Row}
 use Rattle.hgs_index.specs.Node.{null_node}
-use Rattle.hgs_index.specs.Revision.{Parents, nodes}
+use Rattle.hgs_index.specs.Revision.{Parents}
 use Rattle.hgs_index.specs.Revlog.{all_different}
 use Rattle.hgs_model.specs.Held.{Tells}
-use Rattle.hgs_model.specs.History.{changeset_nodes, history, parents_in}
+use Rattle.hgs_model.specs.History.{changeset_nodes, history}
 use Rattle.hgs_model.specs.IsRepo.{IsRepo}
 use Rattle.hgs_model.specs.Phase.{phase_name, phase_number}
 use Rattle.hgs_model.specs.declared.phase.Phase.{Phase}
 use Rattle.hgs_model.specs.declared.phase.Phase.TheVariants.{Public, Draft, Secret}
 use Rattle.hgs_model.specs.Repo.{Repo, Changeset, Bookmark, TreeFile, all_parents, tree_at, tree_paths}
-use Rattle.hgs_phases.specs.Phases.{history_of}
-use Rattle.hgs_revlog.specs.Held.{Agrees}
 use Rattle.hgs_revlog.specs.Log.{nodes_of, place_of}
 use Rattle.hgs_load.specs.declared.answer.ReadAnswer.{ReadAnswer}
 use Rattle.hgs_load.specs.declared.answer.ReadAnswer.TheVariants.{UnknownPath}
 use Rattle.hgs_load.specs.Asks.{at_rest, part_of}
 use Rattle.hgs_reader.specs.Contents.{cat_asks, files_asks}
 use Rattle.hgs_reader.specs.Heads as reader_heads
-use Rattle.hgs_reader.specs.Line.{change_asks, change_at, chunk_asks, first_line, field, line_asks, line_at, line_of_change, line_of_entry, line_text, parent_text}
+use Rattle.hgs_reader.specs.Line.{change_asks, change_at, changeset_asks, chunk_asks, first_line, field, line_asks, line_at, line_of_change, line_of_entry, line_text, parent_text}
 use Rattle.hgs_reader.specs.Names.{named}
 use Rattle.hgs_load.specs.Open.{open_asks}
 use Rattle.hgs_reader.specs.Shown as reader_shown
 use Rattle.hgs_load.specs.View.{View, changelog_data, changelog_index}
-use Rattle.hgs_stands.specs.Stands.{Stands, mark_of}
+use Rattle.hgs_stands.specs.Stands.{mark_of}
 use Rattle.hgs_model.specs.Names.{named as model_named}
 use Rattle.hgs_shown.specs.Answers.{IsReadable, tree_text, node_in, log_line, changeset_line, is_number, is_one_of, has_child, head_lines, heads_text, working_line, parents_text, bookmark_line, bookmarks_text, phase_word, body_answer, body_at}
 use Rattle.hgs_shown.specs.Shown.{IsFileShown, IsShown, IsViewOf}
 use Rattle.hgs_shown.proofs.ContentLemmas.{contents, lines-of, loaded-view}
 use Rattle.hgs_shown.proofs.NameLemmas.{same-names}
-use Rattle.hgs_shown.proofs.OpenLemmas.{shown}
+use Rattle.hgs_shown.proofs.OpenLemmas.{Loads, shown}
 use Rattle.hgs_shown.specs.Below.{Below}
 use Rattle.hgs_shown.proofs.Basics.{same-eq, same-refl}
 
@@ -235,11 +233,12 @@ phase-of view r rev e low =
 
 -- ---- the line of a changeset whose text was read
 
-line-asked : (t : Tree) (view : View) (rev : ℕ) (e : Entry) (change : Change) → slice_get view.changelog.entries rev ≡ Some e → at_rest t (change_asks view rev) ≡ Ok change → at_rest t (line_asks view rev) ≡ Ok (line_text rev e change)
-line-asked t view rev e change at reads =
-    ap (λ o. at_rest t (chunk_asks changelog_data o (line_at view rev))) at
+line-asked : (t : Tree) (view : View) (rev : ℕ) (e : Entry) (change : Change) → view.changelog.inline ≡ false → slice_get view.changelog.entries rev ≡ Some e → at_rest t (change_asks view rev) ≡ Ok change → at_rest t (line_asks view rev) ≡ Ok (line_text rev e change)
+line-asked t view rev e change separate at reads =
+    ap (λ b. at_rest t (changeset_asks b rev (slice_get view.changelog.entries rev) (line_at view rev))) separate
+    ∙ ap (λ o. at_rest t (chunk_asks changelog_data o (line_at view rev))) at
     ∙ ap (λ o. line_of_entry view rev (unwrap_or (part_of t changelog_data e.offset e.stored) []) o) at
-    ∙ ap (line_of_change rev e) (sym (ap (λ o. at_rest t (chunk_asks changelog_data o (change_at view rev))) at) ∙ reads)
+    ∙ ap (line_of_change rev e) (sym (ap (λ b. at_rest t (changeset_asks b rev (slice_get view.changelog.entries rev) (change_at view rev))) separate ∙ ap (λ o. at_rest t (chunk_asks changelog_data o (change_at view rev))) at) ∙ reads)
 
 tree-there : (changesets : List Changeset) (rev : ℕ) (c : Changeset) → slice_get changesets rev ≡ Some c → tree_at changesets rev ≡ c.tree
 tree-there [] rev c e = cc
@@ -309,15 +308,18 @@ module _ (laws : Below) (t : Tree) (r : Repo) (view : View) (s : IsReadable t r)
     contents-are : IsShown t view rev c
     contents-are = contents laws t r view rev c s.stands s.opens s.reads answered found
 
+    loads-are : Loads t (history r.changesets).changelog view.changelog
+    loads-are = loaded-view laws t r r r view (laws.shows t r s.stands) is is ([], sym (append-nil r.changesets)) s.opens answered
+
     pub line-is : at_rest t (line_asks view rev) ≡ Ok (log_line r rev c)
     line-is =
         let i = contents-are in
         let e = entry-of view r rev c all found in
-        line-asked t view rev e.entry i.change e.there i.text
+        line-asked t view rev e.entry i.change loads-are.separate e.there i.text
         ∙ ap (λ l. let a : Result (List ℕ) ReadAnswer = Ok l in a) (line-of t r view rev c i.change all found i.tells e)
 
     pub files-are : at_rest t (files_asks view rev) ≡ Ok (tree_text r rev (Some c))
-    files-are = lines-of laws t r view rev c is (laws.shows t r s.stands).revlogs s.reads (loaded-view laws t r r r view (laws.shows t r s.stands) is is ([], sym (append-nil r.changesets)) s.opens answered) found
+    files-are = lines-of laws t r view rev c is (laws.shows t r s.stands).revlogs s.reads loads-are found
 
     pub body-is : (path : List ℕ) → at_rest t (cat_asks view rev path) ≡ body_answer (body_at r rev path)
     body-is path =

@@ -1,5 +1,5 @@
 -- Each changeset, its files and their bodies.
-use Rattle.std.proofs.Common.{◌≡◌, ℕ, zero, suc, ◌+◌, ◌≤◌, List, [], ◌∷◌, true, false, cond, length, take, Some, None, Result, Ok, Err, refl, sym, ◌∙◌, ap, subst, inl, inr, arith, Bool, ◌||◌, append-nil}
+use Rattle.std.proofs.Common.{◌≡◌, ℕ, zero, suc, ◌≤◌, List, [], ◌∷◌, true, false, cond, length, take, Some, None, Result, Ok, Err, refl, sym, ◌∙◌, ap, subst, inl, inr, arith, Bool, ◌||◌, append-nil}
 use Rattle.std.specs.Prelude.{slice_get, is_ok}
 use Rattle.std.specs.Cmp.Lexicographic.{nat_list_cmp_total}
 use Rattle.std.specs.List.{AllByRecursion, AllZip, list_all}
@@ -9,6 +9,7 @@ use Rattle.std.proofs.lemmas.Slice.Zip.{AllZip-long}
 use Rattle.hgs_bytes.specs.Bytes.{same, among, is_below, IsPrefixOf}
 use Rattle.hgs_files.specs.Tree.{Tree, bytes_at}
 use Rattle.hgs_index.specs.ChangeText.{read_change}
+use Rattle.hgs_index.specs.Either.{chunks_either}
 use Rattle.hgs_index.specs.FileText.{unpacked, body_of}
 use Rattle.hgs_index.specs.Manifest.{Row, AscendFrom, manifest_text}
 use Rattle.hgs_index.specs.TrackedPath.{is_tracked}
@@ -23,13 +24,12 @@ use Rattle.hgs_path.specs.Check.{checked}
 use Rattle.hgs_path.specs.StoreName.{store_name}
 use Rattle.hgs_revlog.specs.Held.{AreWithinLimits}
 use Rattle.hgs_load.specs.declared.answer.ReadAnswer.{ReadAnswer}
-use Rattle.hgs_load.specs.declared.answer.ReadAnswer.TheVariants.{UnknownPath}
-use Rattle.hgs_load.specs.Asks.{answer, at_rest, then_asks}
-use Rattle.hgs_reader.specs.Contents.{most_file_text, tree_asks, cat_asks, tracked_node, file_node, files_asks, files_text, body_asks}
-use Rattle.hgs_reader.specs.Line.{chunk_asks, change_asks, change_at, change_of_chunk, change_of_text}
+use Rattle.hgs_load.specs.Asks.{at_rest}
+use Rattle.hgs_reader.specs.Contents.{most_file_text, tree_asks, files_asks, files_text}
+use Rattle.hgs_reader.specs.Line.{change_asks}
 use Rattle.hgs_load.specs.Open.{open_asks}
 use Rattle.hgs_load.specs.View.{View}
-use Rattle.hgs_stands.specs.Places.{changelog_data, manifest_index, manifest_data}
+use Rattle.hgs_stands.specs.Places.{manifest_index, manifest_data}
 use Rattle.hgs_stands.specs.Stands.{Stands}
 use Rattle.hgs_stands.specs.Shows.{BeginsAt, BeginsChangesets, Shows}
 use Rattle.hgs_index.specs.Revision.{Revision}
@@ -89,7 +89,7 @@ no-fault laws path t = by (checked path) (laws.tested path ∙ t)
 -- the filelogs of used paths, within the limits
 pub record HasLogs (t : Tree) (changesets : List Changeset) : Type 0 where
   pub begin : (path : List ℕ) → uses changesets path ≡ true → BeginsAt t (store_name path I) (store_name path D) ((history changesets).filelog path)
-  pub within : (path : List ℕ) → uses changesets path ≡ true → AreWithinLimits ((history changesets).filelog path) (bytes_at t (store_name path D))
+  pub within : (path : List ℕ) → uses changesets path ≡ true → AreWithinLimits ((history changesets).filelog path) (chunks_either (bytes_at t (store_name path I)) (bytes_at t (store_name path D)))
 
 file-shown : (laws : Below) (t : Tree) (changesets : List Changeset) (view : View) (rev : ℕ) (rows : List Row) (f : TreeFile) (row : Row) → HasLogs t changesets → at_rest t (tree_asks view rev) ≡ Ok rows → uses changesets f.path ≡ true → is_tracked f.path ≡ true
     → unpacked (file_text f) ≡ (f.prefix, f.body) → length f.body ≤ most_file_text → IsFound rows row → IsPlacedIn (history changesets).filelog f row → IsFileShown t view rev f row
@@ -100,7 +100,7 @@ file-shown laws t changesets view rev rows f row w tree used tracked unpacks few
     let path : row.path ≡ f.path = ap (λ (x : Row). x.path) is.row_is in
     let body : body_of (file_text f) ≡ f.body = ap (λ x. x.1) unpacks in
     let at : found_in f.path rows ≡ Some (row.node, row.flag) = ap (λ x. found_in x rows) (sym path) ∙ found in
-    let text = has-text laws t index chunks log is.rev row.node (file_text f) (w.begin f.path used) (w.within f.path used) is.below (sym (ap (λ (x : Row). x.node) is.row_is)) is.text in
+    let text = has-text laws log is.rev row.node (file_text f) is.below (sym (ap (λ (x : Row). x.node) is.row_is)) is.text t index chunks (w.begin f.path used) (w.within f.path used) in
     record {
       path = path;
       flag = ap (λ (x : Row). x.flag) is.row_is;
@@ -156,7 +156,7 @@ module _ (laws : Below) (t : Tree) (r : Repo) (view : View) (rev : ℕ) (c : Cha
   h = laws.held r.changesets is.changesets rev c found
 
   text-of : at_rest t (change_asks view rev) ≡ Ok h.change
-  text-of = laws.changeset t view rev (history r.changesets).changelog h.revision h.change loads.texts h.there (ap read_change h.text_is ∙ laws.change h.change h.in_form)
+  text-of = laws.changeset t view rev (history r.changesets).changelog h.revision h.change loads.separate loads.texts h.there (ap read_change h.text_is ∙ laws.change h.change h.in_form)
 
   tree-of : at_rest t (tree_asks view rev) ≡ Ok h.rows
   tree-of =
@@ -165,7 +165,7 @@ module _ (laws : Below) (t : Tree) (r : Repo) (view : View) (rev : ℕ) (c : Cha
       let count : length h.rows ≡ length c.tree = AllZip-long (IsPlacedIn k.filelog) c.tree h.rows h.files in
       let node_is : node_at k.manifest h.manifest_rev ≡ h.change.manifest = sym h.node_is in
       laws.tree t view rev h.change h.rows text-of (named laws t manifest_index manifest_data k.manifest h.manifest_rev h.change.manifest s.manifest h.below node_is)
-      (has-text laws t manifest_index manifest_data k.manifest h.manifest_rev h.change.manifest (manifest_text h.rows) s.manifest reads.manifest h.below node_is h.manifest_text_is) h.ascend
+      (has-text laws k.manifest h.manifest_rev h.change.manifest (manifest_text h.rows) h.below node_is h.manifest_text_is t manifest_index manifest_data s.manifest reads.manifest) h.ascend
       (let few = small.files in omega (arith, count, few))
 
   -- the lines of its files

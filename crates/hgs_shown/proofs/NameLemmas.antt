@@ -1,5 +1,5 @@
 -- A name names the same in a view and in its repository.
-use Rattle.std.proofs.Common.{◌≡◌, ℕ, suc, ◌+◌, ◌<◌, List, [], ◌∷◌, Bool, true, false, cond, not, nat_lt, length, map, Option, Some, None, refl, sym, ◌∙◌, ap, subst, arith}
+use Rattle.std.proofs.Common.{◌≡◌, ℕ, ◌<◌, List, [], ◌∷◌, Bool, true, false, cond, length, map, Option, Some, None, refl, sym, ◌∙◌, ap, subst}
 use Rattle.std.specs.Prelude.{codes, find, option_map, position, slice_index_or}
 use Rattle.std.specs.List.{AllByRecursion}
 use Rattle.hgs_bytes.specs.Bytes.{same}
@@ -20,7 +20,7 @@ use Rattle.hgs_shown.specs.Shown.{IsViewOf, IsViewOver, shown_repo}
 use Rattle.hgs_shown.proofs.OpenLemmas.{parent-goes-on, below-all}
 use Rattle.hgs_bytes.specs.Bytes.{IsPrefixOf}
 use Rattle.hgs_model.specs.IsRepo.{IsRepo}
-use Rattle.hgs_shown.proofs.Basics.{never, none-some, same-eq, same-refl, some-same}
+use Rattle.hgs_shown.proofs.Basics.{never, same-eq, same-refl}
 use Rattle.hgs_shown.specs.Below.{Below}
 
 -- ---- nodes

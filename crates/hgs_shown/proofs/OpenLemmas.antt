@@ -23,9 +23,11 @@ use Rattle.hgs_load.specs.Open.{requires_path, most_requires, requires_asks, boo
 use Rattle.hgs_load.specs.Refresh.{first_changed, refresh_asks}
 use Rattle.hgs_load.specs.Requirements.{requires_answer, requirement_answer, first_lacking, known_requirements, needed_requirements, words_of}
 use Rattle.hgs_load.specs.View.{View, changelog_index, changelog_data, log_answer}
+use Rattle.hgs_load.specs.Theorems.FormLemmas.{begins-plain}
+use Rattle.hgs_revlog.specs.Theorems.BehindLemmas.{loaded-count}
 use Rattle.hgs_stands.specs.Requires.{IsInProfile}
 use Rattle.hgs_stands.specs.Stands.{Stands, mark_of}
-use Rattle.hgs_stands.specs.Shows.{BeginsAt, Shows}
+use Rattle.hgs_stands.specs.Shows.{BeginsApart, Shows}
 use Rattle.hgs_index.specs.Node.{null_node}
 use Rattle.hgs_bytes.specs.Bytes.{IsPrefixOf}
 use Rattle.std.proofs.lemmas.List.{get_or_append_left}
@@ -71,11 +73,12 @@ pub record Loads (t : Tree) (revisions : List Revision) (log : Log) : Type 0 whe
   pub nodes_are : nodes_of log.entries ≡ nodes revisions
   pub parents_are : history_of log.entries ≡ parents_in revisions
   pub texts : read_all log.entries (bytes_at t changelog_data) ≡ Ok revisions
+  pub separate : log.inline ≡ false
 
 abbrev AgreesFront : Tree → List Revision → Log → Type 0
-AgreesFront t revisions log = (begins : BeginsAt t changelog_index changelog_data revisions) × Agrees begins.index_front begins.data_front log.entries revisions
+AgreesFront t revisions log = (begins : BeginsApart t changelog_index changelog_data revisions) × Agrees begins.index_front begins.data_front log.entries revisions
 
-log-over : (laws : Below) (t : Tree) (revisions : List Revision) → BeginsAt t changelog_index changelog_data revisions → length revisions ≡ length (bytes_at t changelog_index) / 64 → AreWithinLimits revisions (bytes_at t changelog_data)
+log-over : (laws : Below) (t : Tree) (revisions : List Revision) → BeginsApart t changelog_index changelog_data revisions → length revisions ≡ length (bytes_at t changelog_index) / 64 → AreWithinLimits revisions (bytes_at t changelog_data)
     → (log : Log) × (at_rest t log_asks ≡ Ok log) × Loads t revisions log × AgreesFront t revisions log
 log-over laws t revisions begins whole within =
     let index = bytes_at t changelog_index in
@@ -83,8 +86,8 @@ log-over laws t revisions begins whole within =
     let h = laws.loads index data_bytes revisions begins whole within in
     let few = within.few in (
       h.0,
-      laws.index_file t (omega (arith, whole, few)) ∙ ap (log_answer changelog_index) h.1,
-      record { nodes_are = laws.entry_nodes begins.index_front begins.data_front h.0.entries revisions h.3; parents_are = laws.entry_parents begins.index_front begins.data_front h.0.entries revisions h.3; texts = h.2 },
+      laws.index_file t (begins-plain index data_bytes revisions begins whole) (omega (arith, whole, few)) ∙ ap (log_answer changelog_index) h.1,
+      record { nodes_are = laws.entry_nodes begins.index_front begins.data_front h.0.entries revisions h.3; parents_are = laws.entry_parents begins.index_front begins.data_front h.0.entries revisions h.3; texts = h.2; separate = (loaded-count index h.0 h.1).2 },
       (begins, h.3),
     )
 
@@ -97,7 +100,9 @@ log-whole laws t revisions log held within asked =
     let h = laws.loads_whole index data_bytes revisions held within in
     let len = laws.index_length index data_bytes revisions held in
     let few = within.few in
-    let again : at_rest t log_asks ≡ Ok h.0 = laws.index_file t (omega (arith, len, few)) ∙ ap (log_answer changelog_index) h.1 in
+    let begins : BeginsApart t changelog_index changelog_data revisions = record { index_front = index; data_front = data_bytes; held = held; index_begins = ([], sym (append-nil index)); data_begins = ([], sym (append-nil data_bytes)) } in
+    let plain = begins-plain index data_bytes revisions begins (omega (arith, len)) in
+    let again : at_rest t log_asks ≡ Ok h.0 = laws.index_file t plain (omega (arith, len, few)) ∙ ap (log_answer changelog_index) h.1 in
     subst (λ (l : Log). Agrees index data_bytes l.entries revisions) (log-is h.0 log (sym again ∙ asked)) h.2
   where
     log-is : (x y : Log) → (let a : Result Log ReadAnswer = Ok x in a) ≡ Ok y → x ≡ y
@@ -149,7 +154,7 @@ opened laws t marked worked r s is working_is goes_on w =
         answered = laws.opened t marks (working_nodes worked) log s.phases.roots worked.working (requires-read laws t s.requires w.requires) (bookmarks-read laws t marked worked r s w) (dirstate-read laws t marked worked r s w) l.1 (roots-read laws t marked worked r s w) working;
         loads = l.2;
         is_view = record { begins = l.3.0; entries = l.3.1; bookmarks = refl; working = refl; phases = laws.phases r log.entries s.phases.roots r.phases is l.2.nodes_are (l.2.parents_are ∙ laws.parents r is) s.phases.phases };
-        refreshed = λ before unchanged. laws.refreshed t before marks (working_nodes worked) log s.phases.roots worked.working (bookmarks-read laws t marked worked r s w) (dirstate-read laws t marked worked r s w) l.1 (roots-read laws t marked worked r s w) working unchanged;
+        refreshed = λ before unchanged. laws.refreshed t before marks (working_nodes worked) log s.phases.roots worked.working (bookmarks-read laws t marked worked r s w) (dirstate-read laws t marked worked r s w) l.1 (roots-read laws t marked worked r s w) working unchanged (λ was. l.2.separate);
       },
     )
 

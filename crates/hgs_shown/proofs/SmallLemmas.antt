@@ -7,8 +7,9 @@ use Rattle.hex.specs.Hex.{encode_with}
 use Rattle.sha1.specs.Sha1.{sha1, first_words, schedule, rounds, compress, hash_after, digest_bytes}
 use Rattle.hgs_bytes.specs.Bytes.{same}
 use Rattle.hgs_files.specs.Tree.{Tree, bytes_at}
+use Rattle.hgs_index.specs.Either.{chunks_either}
 use Rattle.hgs_model.specs.History.{history, uses}
-use Rattle.hgs_path.specs.declared.name.Ext.TheVariants.{D}
+use Rattle.hgs_path.specs.declared.name.Ext.TheVariants.{I, D}
 use Rattle.hgs_path.specs.StoreName.{store_name}
 use Rattle.hgs_revlog.specs.Held.{AreWithinLimits}
 use Rattle.hgs_stands.specs.Samples.{third_begun_files, two_drafts, two_drafts_files}
@@ -27,7 +28,7 @@ used-path path e = by (same path (codes "a")) refl (same path (codes "b")) refl 
     by false x false y h = never (sym h)
 
 abbrev Small : Tree → List ℕ → Type 0
-Small t path = AreWithinLimits ((history two_drafts.changesets).filelog path) (bytes_at t (store_name path D))
+Small t path = AreWithinLimits ((history two_drafts.changesets).filelog path) (chunks_either (bytes_at t (store_name path I)) (bytes_at t (store_name path D)))
 
 filelogs : (t : Tree) → Small t (codes "a") → Small t (codes "b") → (path : List ℕ) → uses two_drafts.changesets path ≡ true → Small t path
 filelogs t a b path used = elim (used-path path used) [

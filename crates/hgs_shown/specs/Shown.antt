@@ -18,7 +18,7 @@ use Rattle.hgs_load.specs.Marks.{Nodes}
 use Rattle.hgs_load.specs.View.{View}
 use Rattle.hgs_stands.specs.Committed.{Tells}
 use Rattle.hgs_stands.specs.Places.{changelog_index, changelog_data}
-use Rattle.hgs_stands.specs.Shows.{BeginsAt}
+use Rattle.hgs_stands.specs.Shows.{BeginsApart}
 use Rattle.hgs_stands.specs.Stands.{mark_of}
 
 -- The view has the index entries of the repository's changesets, its bookmarks, its working parents and its phases.
@@ -38,7 +38,7 @@ working_nodes r = (parent_node (changeset_nodes r.changesets) r.working.0, paren
 
 -- The view has index entries of the changesets of r, the bookmarks of marked, the working parents of worked and the phases of r.
 pub record IsViewOver (view : View) (t : Tree) (marked worked r : Repo) : Type 0 where
-  pub begins : BeginsAt t changelog_index changelog_data (history r.changesets).changelog
+  pub begins : BeginsApart t changelog_index changelog_data (history r.changesets).changelog
   pub entries : Agrees begins.index_front begins.data_front view.changelog.entries (history r.changesets).changelog
   pub bookmarks : view.bookmarks ≡ map (mark_of (changeset_nodes marked.changesets)) marked.bookmarks
   pub working : view.working ≡ worked.working

@@ -5,10 +5,12 @@ ghost use Rattle.std.specs.List.{AllByRecursion, AllZip, list_all};
 ghost use Rattle.hgs_files.specs.Tree.{Tree, bytes_at};
 ghost use Rattle.hgs_index.specs.declared.entry.Entry.{Entry};
 ghost use Rattle.hgs_index.specs.ChangeText.{Change, read_change};
+ghost use Rattle.hgs_index.specs.Either.{chunks_either};
+ghost use Rattle.hgs_index.specs.Inline.{chunks_apart};
 ghost use Rattle.hgs_index.specs.Manifest.{Row, AscendFrom};
 ghost use Rattle.hgs_index.specs.Node.{null_node};
 ghost use Rattle.hgs_index.specs.Revision.{Revision};
-ghost use Rattle.hgs_index.specs.Revlog.{all_different};
+ghost use Rattle.hgs_index.specs.Revlog.{Begins, all_different};
 ghost use Rattle.hgs_index.specs.TrackedPath.{is_tracked};
 ghost use Rattle.hgs_manifest.specs.Held.{found_in};
 ghost use Rattle.hgs_model.specs.History.{EachChangeset, changeset_nodes, no_history, node_at, parents_in, text_at};
@@ -16,7 +18,7 @@ ghost use Rattle.hgs_model.specs.Repo.{Repo, Changeset, TreeFile, tree_paths};
 ghost use Rattle.hgs_path.specs.Check.{checked};
 ghost use Rattle.hgs_phases.specs.Phases.{history_of};
 ghost use Rattle.hgs_load.specs.Asks.{at_rest};
-ghost use Rattle.hgs_reader.specs.Held.{HasText};
+ghost use Rattle.hgs_reader.specs.Held.{EndsInline, HasSeparateText, HasText};
 ghost use Rattle.hgs_reader.specs.Line.{change_asks};
 ghost use Rattle.hgs_load.specs.Marks.{working_answer};
 ghost use Rattle.hgs_revlog.specs.Held.{Agrees, AreWithinLimits, chunk_in};
@@ -35,11 +37,11 @@ ghost use Rattle.hgs_bytes.specs.Bytes.{IsPrefixOf, among, same};
 ghost use Rattle.hgs_model.specs.IsRepo.{IsNextChangeset, IsRepo};
 ghost use Rattle.hgs_stands.specs.Places.{changelog_data};
 ghost use Rattle.hgs_stands.specs.Requires.{IsInProfile};
-ghost use Rattle.hgs_stands.specs.Shows.{BeginsAt, Shows};
+ghost use Rattle.hgs_stands.specs.Shows.{BeginsApart, BeginsAt, Shows};
 ghost use Rattle.hgs_stands.specs.Stands.{Stands, mark_of};
 
 use hgs_index::laws::{
-    held_index_length, lists_begin, nodes_are_counted, nodes_have_places, nodes_written_then_read,
+    held_index_length, nodes_are_counted, nodes_have_places, nodes_written_then_read,
 };
 use hgs_index::texts::change_prints_then_reads;
 use hgs_load::laws::{files_are_read_whole, parts_make_views};
@@ -130,17 +132,20 @@ pub fn parents_of_entries()
     entries_of_revisions();
 }
 
-/// Where two files begin with revisions, each of these is what a search by its node finds, and its node is not null.
+/// Where two files begin with revisions, in the form that the index says, each of these is what a search by its node finds, and
+/// its node is not null. Of an inline index some bytes at its front end with the text.
 pub fn texts_are_found()
-    ensures text { (t : Tree) (index chunks : List ℕ) (revisions : List Revision) (rev : ℕ) (node text : List ℕ) → BeginsAt t index chunks revisions → AreWithinLimits revisions (bytes_at t chunks) → rev < length revisions → node_at revisions rev ≡ node → text_at revisions rev ≡ text → HasText t index chunks node text }
+    ensures text { (t : Tree) (index chunks : List ℕ) (revisions : List Revision) (rev : ℕ) (node text : List ℕ) → BeginsAt t index chunks revisions → AreWithinLimits revisions (chunks_either (bytes_at t index) (bytes_at t chunks)) → rev < length revisions → node_at revisions rev ≡ node → text_at revisions rev ≡ text → HasText t index chunks node text }
+    ensures apart { (t : Tree) (index chunks : List ℕ) (revisions : List Revision) (rev : ℕ) (node text : List ℕ) → BeginsApart t index chunks revisions → AreWithinLimits revisions (bytes_at t chunks) → rev < length revisions → node_at revisions rev ≡ node → text_at revisions rev ≡ text → HasSeparateText t index chunks node text }
+    ensures inline { (index data_bytes : List ℕ) (revisions : List Revision) (rev : ℕ) (node text : List ℕ) → Begins true index data_bytes revisions → AreWithinLimits revisions (chunks_apart index) → rev < length revisions → node_at revisions rev ≡ node → text_at revisions rev ≡ text → (front : List ℕ) × IsPrefixOf front index × EndsInline front node text }
     ensures not_null { (t : Tree) (index chunks : List ℕ) (revisions : List Revision) (rev : ℕ) (node : List ℕ) → BeginsAt t index chunks revisions → rev < length revisions → node_at revisions rev ≡ node → same node null_node ≡ false }
 {
     laws_below();
 }
 
-/// The changeset of a revision is what the text in its chunk says.
+/// The changeset of a revision of a separate changelog is what the text in its chunk says.
 pub fn changeset_is_read()
-    ensures { (t : Tree) (view : View) (rev : ℕ) (entry : Entry) (text : List ℕ) (change : Change) → slice_get view.changelog.entries rev ≡ Some entry → text_of view.changelog.entries rev (chunk_in (bytes_at t changelog_data) entry) ≡ Ok text → read_change text ≡ Ok change → at_rest t (change_asks view rev) ≡ Ok change }
+    ensures { (t : Tree) (view : View) (rev : ℕ) (entry : Entry) (text : List ℕ) (change : Change) → view.changelog.inline ≡ false → slice_get view.changelog.entries rev ≡ Some entry → text_of view.changelog.entries rev (chunk_in (bytes_at t changelog_data) entry) ≡ Ok text → read_change text ≡ Ok change → at_rest t (change_asks view rev) ≡ Ok change }
 {
     changesets_are_read();
 }
@@ -166,7 +171,6 @@ pub(crate) fn laws_below()
     nodes_are_counted();
     nodes_have_places();
     held_index_length();
-    lists_begin();
     changesets_are_held();
     histories_go_on();
     revisions_stay();

@@ -1,6 +1,5 @@
 -- Bookmarks by revision and by node.
 use Rattle.std.proofs.Common.{◌≡◌, ℕ, List, [], ◌∷◌, Bool, true, false, cond, ◌&&◌, not, map, refl, sym, ◌∙◌, ap}
-use Rattle.std.specs.Prelude.{filter}
 use Rattle.std.specs.List.{AllByRecursion}
 use Rattle.std.specs.Cmp.Lexicographic.{slice_cmp, nat_list_cmp_total, lists_ties}
 use Rattle.std.specs.Cmp.{unsigned_ties}
@@ -10,7 +9,7 @@ use Rattle.std.specs.declared.cmp.Ordering.TheVariants.{Less, Equal, Greater}
 use Rattle.std.proofs.lemmas.Slice.Eq.{bytes_eq-Decides}
 use Rattle.hgs_bytes.specs.Bytes.{same, is_below}
 use Rattle.hgs_bytes.specs.Text.{ascends}
-use Rattle.hgs_marks.specs.Bookmarks.{Mark, with_mark as with_node, without}
+use Rattle.hgs_marks.specs.Bookmarks.{with_mark as with_node, without}
 use Rattle.hgs_model.specs.Repo.{Bookmark}
 use Rattle.hgs_model.specs.Step.{with_mark, without_mark}
 use Rattle.hgs_stands.specs.Stands.{mark_of}

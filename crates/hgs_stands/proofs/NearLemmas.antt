@@ -64,7 +64,7 @@ tracked-stands laws =
       repository = (sample-stands laws).repository;
       requires = record { text = _; there = refl; known = refl; whole = refl };
       revlogs = revlogs-stay two_drafts_files t two_drafts.changesets (record { changelog = refl; changelog_chunks = refl; manifest = refl; manifest_chunks = refl; filelogs = filelogs-same t (refl, refl, refl, refl) }) (sample-stands laws).revlogs;
-      fncache = record { names = sample_names; text = refl; listed = listed-in; used = (inr (codes "a", I, refl, refl), (inr (codes "a", D, refl, refl), (inr (codes "b", I, refl, refl), (inr (codes "b", D, refl, refl), tt)))) };
+      fncache = record { names = sample_names; text = refl; listed = λ path ext used has. listed-in path ext used; used = (inr (codes "a", I, refl, refl), (inr (codes "a", D, refl, refl), (inr (codes "b", I, refl, refl), (inr (codes "b", D, refl, refl), tt)))) };
       phases = record { roots = sample_roots; text = roots-read laws; known = refl; phases = refl };
       bookmarks = record { lines = record { name = codes "main"; node = first_node } ∷ []; text = lines-read laws; known = refl; marks = refl };
       dirstate = record { dirstate = record { p1 = sample_node 1; p2 = null_node; paths = codes "b" ∷ codes "a" ∷ codes "b" ∷ [] }; text = refl; first = refl; second = refl; paths = either-order };
@@ -89,7 +89,7 @@ listed-stands laws =
       repository = (sample-stands laws).repository;
       requires = record { text = _; there = refl; known = refl; whole = refl };
       revlogs = revlogs-stay two_drafts_files t two_drafts.changesets (record { changelog = refl; changelog_chunks = refl; manifest = refl; manifest_chunks = refl; filelogs = filelogs-same t (refl, refl, refl, refl) }) (sample-stands laws).revlogs;
-      fncache = record { names = longer_names; text = refl; listed = longer-lists; used = (inl refl, (inr (codes "a", I, refl, refl), (inr (codes "a", D, refl, refl), (inr (codes "b", I, refl, refl), (inr (codes "b", D, refl, refl), tt))))) };
+      fncache = record { names = longer_names; text = refl; listed = λ path ext used has. longer-lists path ext used; used = (inl refl, (inr (codes "a", I, refl, refl), (inr (codes "a", D, refl, refl), (inr (codes "b", I, refl, refl), (inr (codes "b", D, refl, refl), tt))))) };
       phases = record { roots = sample_roots; text = roots-read laws; known = refl; phases = refl };
       bookmarks = record { lines = record { name = codes "main"; node = first_node } ∷ []; text = lines-read laws; known = refl; marks = refl };
       dirstate = record { dirstate = record { p1 = sample_node 1; p2 = null_node; paths = codes "a" ∷ codes "b" ∷ [] }; text = refl; first = refl; second = refl; paths = λ path. refl };
@@ -126,7 +126,7 @@ names-are x y e = ap (elim [ Ok z ↦ z | Err f ↦ x ]) e
 pub unlisted : Stands (with_bytes two_drafts_files fncache_path (codes "data/a.i\ndata/a.d\ndata/b.i\n")) two_drafts → ⊥
 unlisted s =
     let names : codes "data/a.i" ∷ codes "data/a.d" ∷ codes "data/b.i" ∷ [] ≡ s.fncache.names = names-are (codes "data/a.i" ∷ codes "data/a.d" ∷ codes "data/b.i" ∷ []) s.fncache.names s.fncache.text in
-    never (sym (ap (λ x. lists x (codes "b") D) names ∙ s.fncache.listed (codes "b") D refl))
+    never (sym (ap (λ x. lists x (codes "b") D) names ∙ s.fncache.listed (codes "b") D refl refl))
 
 pub foreign-file : Stands (with_bytes (with_bytes two_drafts_files fncache_path (lines longer_names)) (codes "store/data/c.i") (zero ∷ [])) two_drafts → ⊥
 foreign-file s = by (subst (AllByRecursion (IsUsedName t two_drafts.changesets)) (sym (names-are longer_names s.fncache.names s.fncache.text)) s.fncache.used).0

@@ -42,11 +42,11 @@ changesets-same texts laws t xs ys next_x next_y a b = lists-same xs ys counts e
     changelog = texts.once (bytes_at t changelog_index) (bytes_at t changelog_data) (history xs).changelog (history ys).changelog a.changelog b.changelog
 
     manifest : (history xs).manifest ≡ (history ys).manifest
-    manifest = texts.once (bytes_at t manifest_index) (bytes_at t manifest_data) (history xs).manifest (history ys).manifest a.manifest b.manifest
+    manifest = texts.either_once (bytes_at t manifest_index) (bytes_at t manifest_data) (history xs).manifest (history ys).manifest a.manifest b.manifest
 
     logs : SameLogs (history xs).filelog (history ys).filelog (uses xs) (uses ys)
     logs = record {
-      same_log = λ path used used_there. texts.once (bytes_at t (store_name path I)) (bytes_at t (store_name path D)) ((history xs).filelog path) ((history ys).filelog path) (a.filelogs path used) (b.filelogs path used_there);
+      same_log = λ path used used_there. texts.either_once (bytes_at t (store_name path I)) (bytes_at t (store_name path D)) ((history xs).filelog path) ((history ys).filelog path) (a.filelogs path used) (b.filelogs path used_there);
       different = λ path used. (a.filelogs path used).different;
     }
 

@@ -32,7 +32,7 @@ use Rattle.hgs_path.specs.Fncache.{clashes, lists}
 use Rattle.hgs_path.specs.StoreName.{store_name}
 use Rattle.hgs_stands.specs.Places.{bookmarks_path, dirstate_path, roots_path, changelog_index, changelog_data, manifest_index, manifest_data}
 use Rattle.hgs_stands.specs.Samples.{first_draft, sample_names, second_draft, two_drafts, two_drafts_files}
-use Rattle.hgs_stands.specs.Stands.{HoldsAt, ListsFilelogs, Stands, IsClean}
+use Rattle.hgs_stands.specs.Stands.{HoldsApart, HoldsAt, ListsFilelogs, Stands, IsClean}
 use Rattle.hgs_stands.specs.Theorems.Basics.{and-both, and-left, and-right, never, none-some, same-eq, some-same}
 use Rattle.hgs_stands.specs.Theorems.Below.{SampleLaws}
 
@@ -54,7 +54,7 @@ texts-are laws (r ∷ revisions) = (laws.chunk r.text, texts-are laws revisions)
 
 holds : (laws : SampleLaws) (t : Tree) (index data_path : List ℕ) (revisions : List Revision) → ParentsBefore 0 (map (λ r. r.parents) revisions) → AllByRecursion (λ (i : Item). Fits i.entry None) (items (stored_of revisions))
     → all_different (nodes revisions) ≡ true → among null_node (nodes revisions) ≡ false
-    → bytes_at t index ≡ index_bytes plain_header (items (stored_of revisions)) → bytes_at t data_path ≡ concat (map (λ s. s.chunk) (stored_of revisions)) → HoldsAt t index data_path revisions
+    → bytes_at t index ≡ index_bytes plain_header (items (stored_of revisions)) → bytes_at t data_path ≡ concat (map (λ s. s.chunk) (stored_of revisions)) → HoldsApart t index data_path revisions
 holds laws t index data_path revisions before fits different none i d = record {
   header = plain_header;
   stored = stored_of revisions;
@@ -100,23 +100,23 @@ fit e offset flags stored size base link p1 p2 node = record {
 
 -- ---- those of the sample; their nodes are computed
 
-pub changelog-holds : (laws : SampleLaws) → HoldsAt two_drafts_files changelog_index changelog_data (history two_drafts.changesets).changelog
+pub changelog-holds : (laws : SampleLaws) → HoldsApart two_drafts_files changelog_index changelog_data (history two_drafts.changesets).changelog
 unfolding encode_with sha1 first_words schedule rounds compress hash_after digest_bytes digits
 changelog-holds laws = holds laws two_drafts_files changelog_index changelog_data (history two_drafts.changesets).changelog (tt, tt, (small 0 1 refl, tt, tt))
     (fit _ refl refl refl refl refl refl refl refl refl, (fit _ refl refl refl refl refl refl refl refl refl, tt)) refl refl refl refl
 
 pub manifest-holds : (laws : SampleLaws) → HoldsAt two_drafts_files manifest_index manifest_data (history two_drafts.changesets).manifest
 unfolding encode_with sha1 first_words schedule rounds compress hash_after digest_bytes digits
-manifest-holds laws = holds laws two_drafts_files manifest_index manifest_data (history two_drafts.changesets).manifest (tt, tt, (small 0 1 refl, tt, tt))
-    (fit _ refl refl refl refl refl refl refl refl refl, (fit _ refl refl refl refl refl refl refl refl refl, tt)) refl refl refl refl
+manifest-holds laws = laws.separate _ _ _ (holds laws two_drafts_files manifest_index manifest_data (history two_drafts.changesets).manifest (tt, tt, (small 0 1 refl, tt, tt))
+    (fit _ refl refl refl refl refl refl refl refl refl, (fit _ refl refl refl refl refl refl refl refl refl, tt)) refl refl refl refl)
 
 pub a-holds : (laws : SampleLaws) → HoldsAt two_drafts_files (store_name (codes "a") I) (store_name (codes "a") D) ((history two_drafts.changesets).filelog (codes "a"))
 unfolding encode_with sha1 first_words schedule rounds compress hash_after digest_bytes digits
-a-holds laws = holds laws two_drafts_files (store_name (codes "a") I) (store_name (codes "a") D) ((history two_drafts.changesets).filelog (codes "a")) (tt, tt, tt) (fit _ refl refl refl refl refl refl refl refl refl, tt) refl refl refl refl
+a-holds laws = laws.separate _ _ _ (holds laws two_drafts_files (store_name (codes "a") I) (store_name (codes "a") D) ((history two_drafts.changesets).filelog (codes "a")) (tt, tt, tt) (fit _ refl refl refl refl refl refl refl refl refl, tt) refl refl refl refl)
 
 pub b-holds : (laws : SampleLaws) → HoldsAt two_drafts_files (store_name (codes "b") I) (store_name (codes "b") D) ((history two_drafts.changesets).filelog (codes "b"))
 unfolding encode_with sha1 first_words schedule rounds compress hash_after digest_bytes digits
-b-holds laws = holds laws two_drafts_files (store_name (codes "b") I) (store_name (codes "b") D) ((history two_drafts.changesets).filelog (codes "b")) (tt, tt, tt) (fit _ refl refl refl refl refl refl refl refl refl, tt) refl refl refl refl
+b-holds laws = laws.separate _ _ _ (holds laws two_drafts_files (store_name (codes "b") I) (store_name (codes "b") D) ((history two_drafts.changesets).filelog (codes "b")) (tt, tt, tt) (fit _ refl refl refl refl refl refl refl refl refl, tt) refl refl refl refl)
 
 -- the used paths
 pub used-path : (path : List ℕ) → uses two_drafts.changesets path ≡ true → (path ≡ codes "a") ⊎ (path ≡ codes "b")
@@ -155,7 +155,7 @@ pub names-listed : ListsFilelogs two_drafts_files two_drafts.changesets
 names-listed = record {
   names = sample_names;
   text = refl;
-  listed = listed-in;
+  listed = λ path ext used has. listed-in path ext used;
   used = (inr (codes "a", I, refl, refl), (inr (codes "a", D, refl, refl), (inr (codes "b", I, refl, refl), (inr (codes "b", D, refl, refl), tt))));
 }
 

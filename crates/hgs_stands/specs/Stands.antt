@@ -1,9 +1,11 @@
 -- Which repository a tree of files stands for.
-use Rattle.std.specs.Prelude.{◌≡◌, ◌⊎◌, ℕ, List, [], true, false, map, None, Ok, slice_index_or}
+use Rattle.std.specs.Prelude.{◌≡◌, ◌⊎◌, ℕ, List, [], Bool, true, false, not, map, None, Ok, slice_index_or}
 use Rattle.std.specs.List.{AllByRecursion, list_all}
 use Rattle.hgs_bytes.specs.Bytes.{among}
 use Rattle.hgs_files.specs.Tree.{Tree, bytes_at}
 use Rattle.hgs_index.specs.declared.entry.Entry.{Entry}
+use Rattle.hgs_index.specs.Either.{HoldsEither}
+use Rattle.hgs_index.specs.Inline.{is_inline}
 use Rattle.hgs_index.specs.Node.{null_node}
 use Rattle.hgs_index.specs.Revision.{Revision, parent_node}
 use Rattle.hgs_index.specs.Revlog.{HoldsRevisions, chunk_of, items}
@@ -28,14 +30,19 @@ use Rattle.hgs_stands.specs.Requires.{IsInProfile}
 
 -- ---- revlogs
 
--- The two files at these paths hold these revisions and nothing else; an absent file counts as an empty one.
+-- The two files at these paths hold these revisions and nothing else, in the form that the index says; an absent file counts
+-- as an empty one. Of a data file beside an inline index nothing is said.
 abbrev pub HoldsAt : Tree → List ℕ → List ℕ → List Revision → Type 0
-HoldsAt t index data_path revisions = HoldsRevisions (bytes_at t index) (bytes_at t data_path) revisions
+HoldsAt t index data_path revisions = HoldsEither (bytes_at t index) (bytes_at t data_path) revisions
+
+-- the same of a separate revlog
+abbrev pub HoldsApart : Tree → List ℕ → List ℕ → List Revision → Type 0
+HoldsApart t index data_path revisions = HoldsRevisions (bytes_at t index) (bytes_at t data_path) revisions
 
 -- Changelog, manifest and the filelog of each used path hold exactly the revisions of these changesets, and the files of
--- used paths have different names.
+-- used paths have different names. The changelog is separate: an inline one is not read.
 pub record HoldsChangesets (t : Tree) (changesets : List Changeset) : Type 0 where
-  pub changelog : HoldsAt t changelog_index changelog_data (history changesets).changelog
+  pub changelog : HoldsApart t changelog_index changelog_data (history changesets).changelog
   pub manifest : HoldsAt t manifest_index manifest_data (history changesets).manifest
   pub filelogs : (path : List ℕ) → uses changesets path ≡ true → HoldsAt t (store_name path I) (store_name path D) ((history changesets).filelog path)
   pub names : (path other : List ℕ) → uses changesets path ≡ true → uses changesets other ≡ true → clashes path other ≡ false
@@ -48,11 +55,16 @@ IsUsedName t changesets name =
     (bytes_at t (listed_file name) ≡ [])
     ⊎ ((path : List ℕ) × (ext : Ext) × (uses changesets path ≡ true) × (listed_name path ext ≡ name))
 
--- Both files of each used path are listed, and a listed file that has bytes is a used path's.
+-- whether a filelog has this file: one that is inline has no data file
+abbrev pub has_file : Tree → List ℕ → Ext → Bool
+has_file t path I = true
+has_file t path D = not (is_inline (bytes_at t (store_name path I)))
+
+-- The files of each used path's filelog are listed, and a listed file that has bytes is a used path's.
 pub record ListsFilelogs (t : Tree) (changesets : List Changeset) : Type 0 where
   pub names : List (List ℕ)
   pub text : names_of (bytes_at t fncache_path) ≡ Ok names
-  pub listed : (path : List ℕ) (ext : Ext) → uses changesets path ≡ true → lists names path ext ≡ true
+  pub listed : (path : List ℕ) (ext : Ext) → uses changesets path ≡ true → has_file t path ext ≡ true → lists names path ext ≡ true
   pub used : AllByRecursion (IsUsedName t changesets) names
 
 -- ---- phases, bookmarks and working parents

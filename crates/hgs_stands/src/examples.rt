@@ -13,7 +13,7 @@ ghost use Rattle.hgs_stands.specs.Samples.{other_node, sample_names, sample_node
 ghost use Rattle.hgs_stands.specs.Shows.{Shows};
 ghost use Rattle.hgs_stands.specs.Stands.{IsClean, Stands};
 
-use hgs_index::laws::{chunk_then_text, lists_begin, nodes_written_then_read};
+use hgs_index::laws::{chunk_then_text, either_form_holds, lists_begin, nodes_written_then_read};
 use hgs_marks::laws::bookmark_lines_written_then_read;
 use hgs_model::history_laws::nodes_name_revisions;
 use hgs_phases::laws::read_texts;
@@ -24,6 +24,7 @@ pub fn two_drafts_stand()
 {
     chunk_then_text();
     lists_begin();
+    either_form_holds();
     nodes_written_then_read();
     nodes_name_revisions();
     read_texts();
@@ -37,6 +38,7 @@ pub fn other_files_stand()
 {
     chunk_then_text();
     lists_begin();
+    either_form_holds();
     nodes_written_then_read();
     nodes_name_revisions();
     read_texts();
@@ -60,6 +62,7 @@ pub fn near_misses_do_not_stand()
 {
     chunk_then_text();
     lists_begin();
+    either_form_holds();
     nodes_written_then_read();
     nodes_name_revisions();
     read_texts();
@@ -74,6 +77,7 @@ pub fn begun_commit_is_open()
 {
     chunk_then_text();
     lists_begin();
+    either_form_holds();
     nodes_written_then_read();
     nodes_name_revisions();
     read_texts();

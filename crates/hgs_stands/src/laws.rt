@@ -29,10 +29,11 @@ ghost use Rattle.hgs_stands.specs.Places.{fncache_path, own_files, requires_path
 ghost use Rattle.hgs_stands.specs.Requires.{IsInProfile};
 ghost use Rattle.hgs_stands.specs.Same.{AreStrays, SameFiles, SameList, SameRevlogs, is_stray};
 ghost use Rattle.hgs_stands.specs.Shows.{BeginsChangesets, Shows};
-ghost use Rattle.hgs_stands.specs.Stands.{HasBookmarks, HasDirstate, HasPhases, HoldsChangesets, IsUsedName, ListsFilelogs, Stands, changeset_entries, entries_of, listed_file};
+ghost use Rattle.hgs_stands.specs.Stands.{HasBookmarks, HasDirstate, HasPhases, HoldsChangesets, IsUsedName, ListsFilelogs, Stands, changeset_entries, entries_of, has_file, listed_file};
 
 use hgs_index::laws::{
-    held_index_length, held_once, lists_begin, nodes_are_counted, nodes_have_places,
+    either_form_holds, held_index_length, held_once, lists_begin, nodes_are_counted,
+    nodes_have_places,
 };
 use hgs_index::texts::{change_prints_then_reads, manifest_prints_then_reads};
 use hgs_model::history_laws::{
@@ -47,6 +48,7 @@ pub fn stands_for_one()
     ensures { (t : Tree) (r s : Repo) → Stands t r → Stands t s → r ≡ s }
 {
     held_once();
+    either_form_holds();
     lists_begin();
     held_index_length();
     nodes_are_counted();
@@ -69,6 +71,7 @@ pub fn parts_say_one()
     ensures working { (t : Tree) (r s : Repo) → IsRepo r → IsRepo s → r.changesets ≡ s.changesets → all_different (changeset_nodes r.changesets) ≡ true → among null_node (changeset_nodes r.changesets) ≡ false → HasDirstate t r → HasDirstate t s → r.working ≡ s.working }
 {
     held_once();
+    either_form_holds();
     lists_begin();
     held_index_length();
     nodes_are_counted();
@@ -99,6 +102,7 @@ pub fn standing_trees_show()
     ensures whole { (t : Tree) (r : Repo) → Stands t r → Shows t r r r }
 {
     held_once();
+    either_form_holds();
     lists_begin();
     held_index_length();
     nodes_are_counted();
@@ -129,7 +133,7 @@ pub fn phases_of_entries()
 pub fn files_of_standing_trees()
     ensures apart { (t : Tree) (r : Repo) (path other : List ℕ) (ext : Ext) → Stands t r → uses r.changesets path ≡ true → uses r.changesets other ≡ true → same path other ≡ false → same (store_name path ext) (store_name other ext) ≡ false }
     ensures used { (t : Tree) (r : Repo) (names : List (List ℕ)) (name : List ℕ) → Stands t r → names_of (bytes_at t fncache_path) ≡ Ok names → among name names ≡ true → IsUsedName t r.changesets name }
-    ensures listed { (t : Tree) (r : Repo) (names : List (List ℕ)) (path : List ℕ) (ext : Ext) → Stands t r → names_of (bytes_at t fncache_path) ≡ Ok names → uses r.changesets path ≡ true → lists names path ext ≡ true }
+    ensures listed { (t : Tree) (r : Repo) (names : List (List ℕ)) (path : List ℕ) (ext : Ext) → Stands t r → names_of (bytes_at t fncache_path) ≡ Ok names → uses r.changesets path ≡ true → has_file t path ext ≡ true → lists names path ext ≡ true }
     ensures not_open { (strays : List (List ℕ)) (t : Tree) (r s : Repo) → Stands t r → IsOpen strays t s → ⊥ }
 {}
 
@@ -157,7 +161,7 @@ pub fn requires_alone()
 /// agrees in the files of the repository, and so does each part of it.
 pub fn other_files_do_not_matter()
     ensures revlogs { (t u : Tree) (changesets : List Changeset) → SameRevlogs t u changesets → HoldsChangesets t changesets → HoldsChangesets u changesets }
-    ensures list { (t u : Tree) (changesets : List Changeset) → SameList t u → ListsFilelogs t changesets → ListsFilelogs u changesets }
+    ensures list { (t u : Tree) (changesets : List Changeset) → SameRevlogs t u changesets → SameList t u → ListsFilelogs t changesets → ListsFilelogs u changesets }
     ensures whole { (t u : Tree) (r : Repo) → SameFiles t u r → Stands t r → Stands u r }
     ensures loose { (strays : List (List ℕ)) (t u : Tree) (r : Repo) → AreStrays strays → ((path : List ℕ) → is_loose strays path ≡ false → u path ≡ t path) → Stands t r → Stands u r }
 {
@@ -200,6 +204,7 @@ pub fn open_trees_lead_back()
     ensures own { AreStrays own_strays }
 {
     held_once();
+    either_form_holds();
     lists_begin();
     held_index_length();
     nodes_are_counted();

@@ -9,3 +9,4 @@ pub mod CommitLemmas
 pub mod MovedLemmas
 pub mod NamedLemmas
 pub mod PlannedLemmas
+pub mod MarkedLemmas

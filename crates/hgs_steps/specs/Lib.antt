@@ -4,3 +4,4 @@ pub mod Loaded
 pub mod Parents
 pub mod Planned
 pub mod Steps
+pub mod Theorems

@@ -1,5 +1,5 @@
 -- What a writer has loaded.
-use Rattle.std.specs.Prelude.{ℕ, List, slice_index_or}
+use Rattle.std.specs.Prelude.{◌||◌, ℕ, List, Bool, slice_index_or}
 use Rattle.hgs_index.specs.Node.{null_node}
 use Rattle.hgs_model.specs.declared.phase.Phase.TheVariants.{Public}
 use Rattle.hgs_model.specs.Phase.{phase_number}
@@ -19,3 +19,7 @@ node_at l rev = slice_index_or (nodes_of l.changelog.entries) rev null_node
 -- the number of a changeset's phase
 abbrev pub phase_at : Loaded → ℕ → ℕ
 phase_at l rev = phase_number (slice_index_or l.phases rev Public)
+
+-- the changelog or the manifest is inline, and neither is appended to then
+abbrev pub has_inline : Loaded → Bool
+has_inline l = l.changelog.inline || l.manifest.inline

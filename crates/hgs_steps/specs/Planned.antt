@@ -1,7 +1,8 @@
 -- When what is planned is the step of a repository.
-use Rattle.std.specs.Prelude.{◌≡◌, ◌||◌, List, Bool, true, false, length, map, nat_lt, Option, Some, None, Result, Ok, Err}
+use Rattle.std.specs.Prelude.{◌≡◌, ◌⊎◌, ◌||◌, List, Bool, true, false, length, map, nat_lt, Option, Some, None, Result, Ok, Err}
 use Rattle.hgs_files.specs.Tree.{Tree, bytes_at}
 use Rattle.hgs_index.specs.declared.kinds.Which.TheVariants as limits
+use Rattle.hgs_index.specs.Inline.{is_inline}
 use Rattle.hgs_marks.specs.Bookmarks.{read_bookmarks}
 use Rattle.hgs_marks.specs.Dirstate.{Dirstate, read_dirstate}
 use Rattle.hgs_model.specs.History.{changeset_nodes}
@@ -16,7 +17,7 @@ use Rattle.hgs_phases.specs.Phases.{history_of, phases_by}
 use Rattle.hgs_phases.specs.Roots.{read_roots}
 use Rattle.hgs_phases.specs.declared.roots.Root.{Root}
 use Rattle.hgs_load.specs.Marks.{most_bookmarks, working_answer, working_of}
-use Rattle.hgs_revlog.specs.Load.{loaded}
+use Rattle.hgs_revlog.specs.Load.{loaded_either}
 use Rattle.hgs_revlog.specs.Log.{nodes_of}
 use Rattle.hgs_revlog.specs.declared.fault.Tail.TheVariants.{Refuse}
 use Rattle.hgs_stands.specs.Places.{bookmarks_path, changelog_index, dirstate_path, fncache_path, manifest_index, roots_path}
@@ -34,8 +35,8 @@ use Rattle.hgs_steps.specs.declared.step.Step.{Step}
 -- of the roots, the working parents are those of the dirstate, the list of filelogs and its length are the tree's, and so
 -- are the bytes that stand.
 pub record IsLoadedOf (t : Tree) (l : Loaded) : Type 0 where
-  pub changelog : loaded Refuse (bytes_at t changelog_index) ≡ Ok l.changelog
-  pub manifest : loaded Refuse (bytes_at t manifest_index) ≡ Ok l.manifest
+  pub changelog : loaded_either Refuse (bytes_at t changelog_index) ≡ Ok l.changelog
+  pub manifest : loaded_either Refuse (bytes_at t manifest_index) ≡ Ok l.manifest
   pub bookmarks : read_bookmarks (bytes_at t bookmarks_path) ≡ Ok l.bookmarks
   pub roots : List Root
   pub roots_text : read_roots (bytes_at t roots_path) ≡ Ok roots
@@ -62,19 +63,26 @@ pub record HoldsRepository (l : Loaded) (r : Repo) : Type 0 where
 abbrev pub passes_limit : Repo → Repo → Bool
 passes_limit r next = nat_lt most_bookmarks (length r.bookmarks) || nat_lt most_bookmarks (length next.bookmarks)
 
--- The parts are those of the transaction that takes the tree to the next repository, within the limit, and the answer is
+-- The parts are those of the transaction that takes the tree to the next repository, within the limits, and the answer is
 -- the command's.
 pub record IsStepOf (t : Tree) (r : Repo) (command : Command) (next : Next) (step : Step) : Type 0 where
   pub parts : ArePartsOf t r command next.0 step.parts
   pub rev : step.rev ≡ next.1.rev
   pub node : step.node.0 ≡ next.1.node
   pub few : passes_limit r next.0 ≡ false
+  pub separate : is_inline (bytes_at t manifest_index) ≡ false
+
+-- the limit that is passed: the bookmarks are too many, or else the manifest is inline
+abbrev pub PassesLimit : Tree → Repo → Next → PlanFault → Type 0
+PassesLimit t r next fault =
+    ((fault ≡ Limit limits.Bookmarks) × (passes_limit r next.0 ≡ true))
+    ⊎ ((fault ≡ Limit limits.Inline) × (passes_limit r next.0 ≡ false) × (is_inline (bytes_at t manifest_index) ≡ true))
 
 -- A plan answers as the repository does: with the same refusal, or where that accepts with its step, or with the limit
--- that its bookmarks pass.
+-- that is passed.
 abbrev pub AnswersAs : Tree → Repo → Command → Result Step PlanFault → Result Next Refusal → Type 0
 AnswersAs t r command (Err fault) (Err e) = fault ≡ Refused e
-AnswersAs t r command (Err fault) (Ok next) = (fault ≡ Limit limits.Bookmarks) × (passes_limit r next.0 ≡ true)
+AnswersAs t r command (Err fault) (Ok next) = PassesLimit t r next fault
 AnswersAs t r command (Ok step) (Err e) = ⊥
 AnswersAs t r command (Ok step) (Ok next) = IsStepOf t r command next step
 

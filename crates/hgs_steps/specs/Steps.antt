@@ -27,7 +27,7 @@ use Rattle.hgs_steps.specs.declared.fault.PlanFault.{PlanFault}
 use Rattle.hgs_steps.specs.declared.fault.PlanFault.TheVariants.{Refused, Limit}
 use Rattle.hgs_steps.specs.declared.loaded.Loaded.{Loaded}
 use Rattle.hgs_steps.specs.declared.step.Step.{Step}
-use Rattle.hgs_steps.specs.Loaded.{node_at, phase_at, view_of}
+use Rattle.hgs_steps.specs.Loaded.{has_inline, node_at, phase_at, view_of}
 
 -- ---- the files that are replaced
 
@@ -67,6 +67,10 @@ are_too_many marks = nat_lt most_bookmarks (length marks)
 -- unless the bookmarks before a command or after it are too many
 abbrev pub within : {A : Type 0} → Loaded → List Mark → A → Result A PlanFault
 within l marks x = if are_too_many l.bookmarks || are_too_many marks then Err (Limit limits.Bookmarks) else Ok x
+
+-- unless the changelog or the manifest is inline
+abbrev pub if_separate : {A : Type 0} → Loaded → A → Result A PlanFault
+if_separate l x = if has_inline l then Err (Limit limits.Inline) else Ok x
 
 -- the bookmarks with this one
 abbrev pub marked : Loaded → List ℕ → List ℕ → List Mark
@@ -146,9 +150,9 @@ pub record CanBeAssembled (p : Parts) : Type 0 where
 abbrev pub step_with : Loaded → Replacing → ℕ → Step
 step_with l x rev = record { parts = alone x; rev = rev; node = record { 0 = node_at l rev } }
 
--- the step of what is accepted, unless the bookmarks are too many
+-- the step of what is accepted, unless the bookmarks are too many, or the changelog or the manifest is inline
 abbrev pub step_of : Loaded → Accepted → Result Step PlanFault
-step_of l a = within l a.marks (step_with l a.file a.rev)
+step_of l a = if are_too_many l.bookmarks || are_too_many a.marks then Err (Limit limits.Bookmarks) else if_separate l (step_with l a.file a.rev)
 
 -- the step of a command, or its refusal
 abbrev pub planned : Loaded → Result Accepted Refusal → Result Step PlanFault

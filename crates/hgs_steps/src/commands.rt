@@ -6,25 +6,34 @@ ghost use Rattle.hgs_model.specs.Step.{guard, points_at};
 ghost use Rattle.hgs_model.specs.declared.command.Refusal.TheVariants.{NothingChanged};
 ghost use Rattle.hgs_reader.specs.Names.{mark_named};
 ghost use Rattle.hgs_steps.specs.Fault.{is_memory};
-ghost use Rattle.hgs_steps.specs.Steps.{CanBeAssembled, as_fault, mark_of, mark_target, marked_at, move_allowed, move_of, move_target, moved, moved_at, planned, step_of, step_with, unmark_of};
+ghost use Rattle.hgs_steps.specs.Steps.{CanBeAssembled, as_fault, if_separate, mark_of, mark_target, marked_at, move_allowed, move_of, move_target, moved, moved_at, planned, step_of, step_with, unmark_of};
 
 use crate::fault::PlanFault;
 use crate::loaded::Loaded;
 use crate::replaced::{moved_roots, replace_bookmarks, replace_marks, test_counts};
 use crate::step::Step;
+use hgs_index::kinds::Which;
 use hgs_model::command::Refusal;
 use hgs_model::phase::Phase;
 use hgs_phases::phases::Phases;
 use hgs_transaction::parts::{Change, Changes, Parts, Replacing, Replacings};
 use std::alloc::{AllocError, Global};
 
-/// The step that replaces one file and answers this changeset.
-fn step_with(alloc: Global, loaded: &Loaded, file: Replacing, rev: u32) -> Step
+/// The step that replaces one file and answers this changeset, unless the changelog or the manifest is inline.
+fn step_with(
+    alloc: Global,
+    loaded: &Loaded,
+    file: Replacing,
+    rev: u32,
+) -> Result<Step, PlanFault>
     requires { rev < length loaded.now.changelog.entries }
-    ensures step { result ≡ step_with loaded.now file rev }
-    ensures ready { CanBeAssembled result.parts }
+    ensures step { result ≡ if_separate loaded.now (step_with loaded.now file rev) }
+    ensures ready { IfOk result (λ step. CanBeAssembled step.parts) }
 {
-    Step {
+    if loaded.has_inline() {
+        return Err(PlanFault::Limit(Which::Inline));
+    }
+    Ok(Step {
         parts: Parts {
             before: Changes::from_vec(Vec::new(alloc)),
             publishing: Change::Replace(file),
@@ -32,7 +41,7 @@ fn step_with(alloc: Global, loaded: &Loaded, file: Replacing, rev: u32) -> Step
         },
         rev,
         node: loaded.changelog.entry(rev).node,
-    }
+    })
 }
 
 /// That a changeset may be moved to a phase.
@@ -85,7 +94,10 @@ fn moved_step(alloc: Global, loaded: &Loaded, rev: u32, to: Phase) -> Result<Ste
     test_counts(loaded, &loaded.bookmarks)?;
     let phases = moved(loaded, rev, to)?;
     let file = moved_roots(alloc, loaded, &phases)?;
-    Ok(step_with(alloc, loaded, file, rev))
+    match step_with(alloc, loaded, file, rev) {
+        Ok(step) => Ok(step),
+        Err(fault) => Err(fault),
+    }
 }
 
 /// Moves a changeset to a phase: to a lesser one with its ancestors, by force to a greater one with its descendants.
@@ -134,7 +146,10 @@ fn marked_step(alloc: Global, loaded: &Loaded, name: &[u8], rev: u32) -> Result<
 {
     let node = loaded.changelog.entry(rev).node;
     match replace_bookmarks(alloc, loaded, name, node) {
-        Ok(file) => Ok(step_with(alloc, loaded, file, rev)),
+        Ok(file) => match step_with(alloc, loaded, file, rev) {
+            Ok(step) => Ok(step),
+            Err(fault) => Err(fault),
+        },
         Err(fault) => Err(fault),
     }
 }
@@ -162,5 +177,8 @@ pub fn unmark(alloc: Global, loaded: &Loaded, name: &[u8]) -> Result<Step, PlanF
     let mut marks = loaded.bookmarks.copy()?;
     marks.delete(name);
     let file = replace_marks(alloc, loaded, &marks)?;
-    Ok(step_with(alloc, loaded, file, rev))
+    match step_with(alloc, loaded, file, rev) {
+        Ok(step) => Ok(step),
+        Err(fault) => Err(fault),
+    }
 }

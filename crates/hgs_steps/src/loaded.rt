@@ -33,3 +33,14 @@ pub struct Loaded {
     pub ghost second_stands: { ForSome working.second (λ rev. rev < length changelog.entries) },
     pub ghost phases_fit: { length phases ≡ length changelog.entries },
 }
+
+impl Loaded {
+    ghost use Rattle.hgs_steps.specs.Loaded.{has_inline};
+
+    /// Whether the changelog or the manifest is inline. No writer appends to them then.
+    pub fn has_inline(&self) -> bool
+        ensures { result ≡ has_inline self.now }
+    {
+        self.changelog.is_inline() || self.manifest.is_inline()
+    }
+}

@@ -5,16 +5,19 @@ use Rattle.std.specs.List.{AllByRecursion}
 use Rattle.hgs_files.specs.Tree.{Tree, bytes_at}
 use Rattle.hgs_index.specs.declared.entry.Entry.{Entry}
 use Rattle.hgs_index.specs.Revision.{Revision, nodes}
+use Rattle.hgs_revlog.specs.declared.fault.Tail.TheVariants.{Ignore}
 use Rattle.hgs_revlog.specs.Held.{AreWithinLimits, chunk_in}
+use Rattle.hgs_revlog.specs.Load.{loaded_either}
 use Rattle.hgs_revlog.specs.Text.{text_of}
 use Rattle.hgs_load.specs.Asks.{at_rest}
-use Rattle.hgs_reader.specs.Line.{chunk_asks, change_asks, change_at, change_of_chunk, change_of_text}
-use Rattle.hgs_load.specs.View.{View, changelog_data}
+use Rattle.hgs_reader.specs.Line.{changeset_asks, change_asks, change_at, change_of_chunk, change_of_text}
+use Rattle.hgs_load.specs.View.{View, changelog_index}
 use Rattle.hgs_load.specs.Open.{open_asks}
 use Rattle.hgs_reader.specs.Theorems.HeldLemmas.{read_there, read_length}
-use Rattle.hgs_load.specs.Theorems.PartLemmas.{part_is}
-use Rattle.hgs_top.specs.History.{Changeset, HoldsHistory, IsRead, revisions_of, Opens}
+use Rattle.hgs_top.specs.History.{Changeset, HoldsHistory, IsRead, IsReadWhole, chunks_in, revisions_of, Opens}
+use Rattle.hgs_top.specs.IndexLaws.{IndexLaws}
 use Rattle.hgs_top.proofs.HistoryLemmas.{history-opens}
+use Rattle.hgs_top.proofs.IndexLemmas.{chunk-asked}
 
 some_is : {A : Type 0} (x y : A) → Some x ≡ Some y → x ≡ y
 some_is x y e = cc
@@ -34,25 +37,25 @@ read_at (x ∷ history) zero c all h = subst IsRead (some_is x c h) all.0
 read_at (x ∷ history) (suc rev) c all h = read_at history rev c all.1 h
 
 -- the changeset of an entry whose text is known
-change_at_rest : (t : Tree) (view : View) (rev : ℕ) (e : Entry) (c : Changeset) → slice_get view.changelog.entries rev ≡ Some e → text_of view.changelog.entries rev (chunk_in (bytes_at t changelog_data) e) ≡ Ok c.revision.text → IsRead c
-    → at_rest t (change_asks view rev) ≡ Ok c.change
-change_at_rest t view rev e c at text reads =
-    ap (λ o. at_rest t (chunk_asks changelog_data o (change_at view rev))) at
-    ∙ ap (change_at view rev) (part_is (t changelog_data) e.offset e.stored)
+change_at_rest : (laws : IndexLaws) (t : Tree) (view : View) (rev : ℕ) (e : Entry) (c : Changeset) → loaded_either Ignore (bytes_at t changelog_index) ≡ Ok view.changelog → slice_get view.changelog.entries rev ≡ Some e
+    → text_of view.changelog.entries rev (chunk_in (chunks_in t) e) ≡ Ok c.revision.text → IsRead c → at_rest t (change_asks view rev) ≡ Ok c.change
+change_at_rest laws t view rev e c loads at text reads =
+    ap (λ o. at_rest t (changeset_asks view.changelog.inline rev o (change_at view rev))) at
+    ∙ chunk-asked laws t view.changelog rev e (change_at view rev) loads at
     ∙ ap (change_of_chunk rev) text
     ∙ ap (change_of_text rev) reads
 
-pub history-changesets : (t : Tree) (history : List Changeset) → HoldsHistory t history → Opens t (nodes (revisions_of history)) → AreWithinLimits (revisions_of history) (bytes_at t changelog_data)
+pub history-changesets : (laws : IndexLaws) (t : Tree) (history : List Changeset) → HoldsHistory t history → Opens t (nodes (revisions_of history)) → AreWithinLimits (revisions_of history) (chunks_in t) → IsReadWhole t
     → (view : View) × (at_rest t open_asks ≡ Ok view) × (length view.changelog.entries ≡ length history) × ((rev : ℕ) (c : Changeset) → slice_get history rev ≡ Some c → at_rest t (change_asks view rev) ≡ Ok c.change)
-history-changesets t history h opens within =
-    let data_bytes = bytes_at t changelog_data in
-    let o = history-opens t history h opens within in
+history-changesets laws t history h opens within short =
+    let data_bytes = chunks_in t in
+    let o = history-opens laws t history h opens within short in
     let entries = o.0.changelog.entries in (
       o.0,
       o.1,
-      sym (read_length entries entries data_bytes 0 (revisions_of history) o.2) ∙ count_map history,
+      sym (read_length entries entries data_bytes 0 (revisions_of history) o.2.texts) ∙ count_map history,
       λ rev c found.
-          let there = read_there entries entries data_bytes 0 rev (revisions_of history) c.revision o.2 (get_map history rev c found) in
+          let there = read_there entries entries data_bytes 0 rev (revisions_of history) c.revision o.2.texts (get_map history rev c found) in
           let from_first : 0 + rev ≡ rev = omega arith in
-          change_at_rest t o.0 rev there.0 c there.1 (ap (λ n. text_of entries n (chunk_in data_bytes there.0)) (sym from_first) ∙ there.2) (read_at history rev c h.read found),
+          change_at_rest laws t o.0 rev there.0 c o.2.loads there.1 (ap (λ n. text_of entries n (chunk_in data_bytes there.0)) (sym from_first) ∙ there.2) (read_at history rev c h.read found),
     )

@@ -1,12 +1,12 @@
 -- The words of a command that sets a bookmark have a name that a bookmark can have.
 use Rattle.std.proofs.Common.{◌≡◌, ℕ, ◌+◌, Bool, true, false, List, [], ◌∷◌, Option, Some, None, Result, Ok, Err, refl, sym, subst}
-use Rattle.std.specs.Prelude.{if◌then◌else◌, IfOk, ⊤, codes, not, ◌&&◌}
+use Rattle.std.specs.Prelude.{if◌then◌else◌, IfOk, ⊤, codes, is_some, not, ◌&&◌}
 use Rattle.hgs_bytes.specs.Bytes.{same, begins_with}
 use Rattle.hgs_index.specs.MarkName.{is_mark_name}
 use Rattle.hgs_top.specs.declared.operands.Operand.{Operand}
 use Rattle.hgs_top.specs.declared.operands.Operand.TheVariants as operand_kinds
 use Rattle.hgs_top.specs.declared.pages.Page.{Page}
-use Rattle.hgs_top.specs.Words.{Job, do_init, do_commit, do_recover, do_move, do_mark, do_unmark, Request, to_answer, to_do, to_play, to_verify, to_generate, seed_of, count_of, operands, operand, with_operand, asked_with, alone_named, alone_else, about_named, bookmark_with, phase_with, phase_or_move, moved_with, behind_word, request_named, request_of_words, page_named, page_else}
+use Rattle.hgs_top.specs.Words.{Job, do_init, do_commit, do_recover, do_move, do_mark, do_unmark, Request, to_answer, to_do, to_play, to_verify, to_generate, operands, operand, with_operand, asked_with, alone_named, alone_else, about_named, bookmark_with, verify_with, jobs_of, phase_with, phase_or_move, moved_with, behind_word, request_named, request_of_words, page_named, page_else}
 
 abbrev pub IsFitJob : Job → Type 0
 IsFitJob do_init = ⊤
@@ -20,7 +20,7 @@ abbrev pub IsFitRequest : Request → Type 0
 IsFitRequest (to_answer question) = ⊤
 IsFitRequest (to_do job) = IsFitJob job
 IsFitRequest to_play = ⊤
-IsFitRequest to_verify = ⊤
+IsFitRequest (to_verify jobs) = ⊤
 IsFitRequest (to_generate seed count) = ⊤
 
 either : (b : Bool) (x y : Result Request ℕ) → IfOk x IsFitRequest → IfOk y IsFitRequest → IfOk (if b then x else y) IsFitRequest
@@ -63,13 +63,19 @@ phase-fits None words = by (operands false (operand_kinds.Any ∷ []) 1 words) (
     by (Ok found) both = tt
     by (Err place) both = move-fits false both
 
+verify-fits : (behind : Option (List (List ℕ))) (words : List (List ℕ)) → IfOk (verify_with behind words) IsFitRequest
+verify-fits (Some []) words = tt
+verify-fits (Some (word ∷ behind)) words = either (is_some (jobs_of word)) _ _ (with-operands _ (operands false [] 3 behind) (λ found h. tt)) tt
+verify-fits None words = with-operands _ (operands false [] 1 words) (λ found h. tt)
+
 about-fits : (name : List ℕ) (words : List (List ℕ)) → IfOk (about_named name words) IsFitRequest
 about-fits name words =
     either (same name (codes "files")) _ _ (with-operands _ (operands false (operand_kinds.Any ∷ []) 1 words) (λ found h. tt))
     (either (same name (codes "cat")) _ _ (with-operands _ (operands false (operand_kinds.Any ∷ operand_kinds.Any ∷ []) 1 words) (λ found h. tt))
     (either (same name (codes "phase")) _ _ (phase-fits (behind_word (codes "--force") words) words)
     (either (same name (codes "bookmark")) _ _ (bookmark-fits (behind_word (codes "--delete") words) words)
-    (either (same name (codes "gen")) _ _ (with-operands _ (operands false (operand_kinds.Seed ∷ operand_kinds.Count ∷ []) 1 words) (λ found h. tt)) tt))))
+    (either (same name (codes "verify")) _ _ (verify-fits (behind_word (codes "--jobs") words) words)
+    (either (same name (codes "gen")) _ _ (with-operands _ (operands false (operand_kinds.Seed ∷ operand_kinds.Count ∷ []) 1 words) (λ found h. tt)) tt)))))
 
 abbrev IsFitOption : Option Request → Type 0
 IsFitOption None = ⊤
@@ -82,7 +88,7 @@ either-option false x y hx hy = hy
 alone-fits : (name : List ℕ) → IsFitOption (alone_named name)
 alone-fits name =
     either-option (same name (codes "log")) _ _ tt (either-option (same name (codes "heads")) _ _ tt (either-option (same name (codes "bookmarks")) _ _ tt (either-option (same name (codes "parents")) _ _ tt
-    (either-option (same name (codes "init")) _ _ tt (either-option (same name (codes "commit")) _ _ tt (either-option (same name (codes "recover")) _ _ tt (either-option (same name (codes "play")) _ _ tt (either-option (same name (codes "verify")) _ _ tt tt))))))))
+    (either-option (same name (codes "init")) _ _ tt (either-option (same name (codes "commit")) _ _ tt (either-option (same name (codes "recover")) _ _ tt (either-option (same name (codes "play")) _ _ tt tt)))))))
 
 alone-else-fits : (o : Option Request) (about : Result Request ℕ) (words : List (List ℕ)) → IsFitOption o → IfOk about IsFitRequest → IfOk (alone_else o about words) IsFitRequest
 alone-else-fits None about words fit h = h

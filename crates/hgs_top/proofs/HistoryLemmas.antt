@@ -5,36 +5,39 @@ use Rattle.std.specs.List.{AllByRecursion}
 use Rattle.hex.specs.Hex.{IsBytes}
 use Rattle.std.specs.Option.{option_map}
 use Rattle.std.proofs.Math.Seq.{drop-append_seam, take-add}
-use Rattle.std.proofs.Math.Nat.{lt-mul-div-succ}
 use Rattle.std.proofs.lemmas.List.{take-append-drop, take_all, length-take, length-map}
 use Rattle.hgs_files.specs.Tree.{Tree, bytes_at}
 use Rattle.hgs_index.specs.declared.entry.Entry.{Entry}
 use Rattle.hgs_index.specs.declared.texts.ChangeFault.{ChangeFault}
 use Rattle.hgs_index.specs.ChangeText.{Change, read_change}
 use Rattle.hgs_index.specs.Hex.{hex}
+use Rattle.hgs_index.specs.Inline.{is_inline}
 use Rattle.hgs_index.specs.Node.{null_node}
 use Rattle.hgs_index.specs.Revision.{Revision, nodes}
+use Rattle.hgs_index.specs.Theorems.InlineLemmas.{fronts-separate}
 use Rattle.hgs_index.specs.Theorems.RevisionLemmas.{length-nodes_from}
 use Rattle.hgs_revlog.specs.declared.fault.RevFault.{RevFault}
 use Rattle.hgs_revlog.specs.Held.{AreWithinLimits, chunk_in, revision_of, with_text, read_from, read_all}
-use Rattle.hgs_revlog.specs.declared.fault.Tail.{Tail}
 use Rattle.hgs_revlog.specs.declared.fault.Tail.TheVariants.{Ignore, Refuse}
-use Rattle.hgs_revlog.specs.Load.{loaded, most_revisions}
+use Rattle.hgs_revlog.specs.Load.{loaded, loaded_either, most_revisions}
 use Rattle.hgs_revlog.specs.Loaded.{AreEntries}
 use Rattle.hgs_revlog.specs.Log.{Log, nodes_of}
 use Rattle.hgs_revlog.specs.Text.{text_of}
+use Rattle.hgs_revlog.specs.Theorems.ApartBytes.{apart-bytes}
 use Rattle.hgs_revlog.specs.Theorems.HeldLemmas.{nodes_of-agrees}
 use Rattle.hgs_revlog.specs.Theorems.ReadLemmas.{with_text_ok, slice_get_seam}
 use Rattle.hgs_revlog.specs.Theorems.TailHeldLemmas.{held-ignored, ignored-held}
 use Rattle.hgs_revlog.specs.Theorems.TailLemmas.{ignore-refuse, load_length}
 use Rattle.hgs_load.specs.declared.answer.ReadAnswer.{ReadAnswer}
 use Rattle.hgs_load.specs.Asks.{Asks, answer, part_of, at_rest}
-use Rattle.hgs_reader.specs.Line.{field, parent_text, change_fields, line_asks, line_at, line_text, line_of_entry, line_of_change, chunk_asks, change_of_chunk, change_of_text}
-use Rattle.hgs_load.specs.View.{View, changelog_index, changelog_data, pieces_then, piece_length, most_pieces, log_answer}
-use Rattle.hgs_load.specs.Open.{open_asks, log_asks, log_of}
+use Rattle.hgs_reader.specs.Line.{changeset_asks, field, parent_text, change_fields, line_asks, line_at, line_text, line_of_entry, line_of_change, change_of_chunk, change_of_text}
+use Rattle.hgs_load.specs.View.{View, changelog_index, pieces_then, piece_length, most_pieces}
+use Rattle.hgs_load.specs.Open.{open_asks, log_asks, log_of, separate_log_asks}
 use Rattle.hgs_load.specs.Theorems.OpenedLemmas.{opened_log}
+use Rattle.hgs_top.proofs.IndexLemmas.{apart-load, asked-log, chunk-asked, either-load, inline-loads, log-in}
 use Rattle.hgs_top.proofs.OpenLemmas.{opening}
-use Rattle.hgs_top.specs.History.{Changeset, revisions_of, IsRead, HoldsHistory, line_among, lines_from, history_text, Opens}
+use Rattle.hgs_top.specs.History.{Changeset, revisions_of, IsRead, HoldsHistory, IsReadWhole, chunks_in, index_in, line_among, lines_from, history_text, Opens}
+use Rattle.hgs_top.specs.IndexLaws.{IndexLaws}
 use Rattle.hgs_top.specs.Outcome.{Outcome, line_then, lines_down, lines_of_view, log_of_view, log_outcome}
 
 -- ---- the index, piece by piece
@@ -83,11 +86,8 @@ pieces_front {A} t path (suc left) bytes rest more e =
 abbrev front_of : List ℕ → List ℕ
 front_of index = take (most_pieces * piece_length) index
 
-pieces_read : (t : Tree) → at_rest t log_asks ≡ log_of (front_of (bytes_at t changelog_index))
+pieces_read : (t : Tree) → at_rest t separate_log_asks ≡ log_of (front_of (bytes_at t changelog_index))
 pieces_read t = pieces_front t changelog_index most_pieces [] (bytes_at t changelog_index) (λ index. answer (log_of index)) refl
-
-few_pieces : (n : ℕ) → n / 64 ≤ 1000000 → n < most_pieces * piece_length
-few_pieces n h = let e : n < 64 * (n / 64 + 1) = lt-mul-div-succ n (omega arith) in omega (arith, e, h)
 
 -- ---- the lines
 
@@ -122,20 +122,20 @@ line_is rev e c text known r n =
     ∙ ap (λ (x : Revision). decimal rev ++ field (hex (slice_index_or known rev null_node)) ++ field (parent_text x.parents.0) ++ field (parent_text x.parents.1) ++ change_fields c.change ++ 10 ∷ []) (sym r)
 
 -- what is asked for a line, over files at rest
-line_asked : (t : Tree) (view : View) (rev : ℕ) (e : Entry) → slice_get view.changelog.entries rev ≡ Some e
-    → at_rest t (line_asks view rev) ≡ line_of_change rev e (change_of_chunk rev (text_of view.changelog.entries rev (chunk_in (bytes_at t changelog_data) e)))
-line_asked t view rev e at =
-    let chunk = chunk_in (bytes_at t changelog_data) e in
-    ap (λ o. at_rest t (chunk_asks changelog_data o (line_at view rev))) at
-    ∙ ap (λ b. line_at view rev b) (part_is (t changelog_data) e.offset e.stored)
+line_asked : (laws : IndexLaws) (t : Tree) (view : View) (rev : ℕ) (e : Entry) → loaded_either Ignore (bytes_at t changelog_index) ≡ Ok view.changelog → slice_get view.changelog.entries rev ≡ Some e
+    → at_rest t (line_asks view rev) ≡ line_of_change rev e (change_of_chunk rev (text_of view.changelog.entries rev (chunk_in (chunks_in t) e)))
+line_asked laws t view rev e loads at =
+    let chunk = chunk_in (chunks_in t) e in
+    ap (λ o. at_rest t (changeset_asks view.changelog.inline rev o (line_at view rev))) at
+    ∙ chunk-asked laws t view.changelog rev e (line_at view rev) loads at
     ∙ ap (λ o. line_of_entry view rev chunk o) at
 
-line_at_rest : (t : Tree) (view : View) (rev : ℕ) (e : Entry) (c : Changeset) (text : List ℕ) (known : List (List ℕ)) → slice_get view.changelog.entries rev ≡ Some e
-    → text_of view.changelog.entries rev (chunk_in (bytes_at t changelog_data) e) ≡ Ok text → c.revision ≡ revision_of e text → IsRead c → slice_index_or known rev null_node ≡ e.node.0
+line_at_rest : (laws : IndexLaws) (t : Tree) (view : View) (rev : ℕ) (e : Entry) (c : Changeset) (text : List ℕ) (known : List (List ℕ)) → loaded_either Ignore (bytes_at t changelog_index) ≡ Ok view.changelog → slice_get view.changelog.entries rev ≡ Some e
+    → text_of view.changelog.entries rev (chunk_in (chunks_in t) e) ≡ Ok text → c.revision ≡ revision_of e text → IsRead c → slice_index_or known rev null_node ≡ e.node.0
     → at_rest t (line_asks view rev) ≡ Ok (line_among known rev c)
-line_at_rest t view rev e c text known at is r reads n =
+line_at_rest laws t view rev e c text known loads at is r reads n =
     let text_is : text ≡ c.revision.text = ap (λ (x : Revision). x.text) (sym r) in
-    line_asked t view rev e at
+    line_asked laws t view rev e loads at
     ∙ ap (λ x. line_of_change rev e (change_of_chunk rev x)) is
     ∙ ap (λ x. line_of_change rev e (change_of_text rev (read_change x))) text_is
     ∙ ap (λ x. line_of_change rev e (change_of_text rev x)) reads
@@ -146,21 +146,21 @@ node_seam [] e more = refl
 node_seam (x ∷ before) e more = node_seam before e more
 
 -- the entries behind these give the lines of what is read of them
-are_lines : (t : Tree) (view : View) (before entries : List Entry) (history : List Changeset) → view.changelog.entries ≡ before ++ entries
-    → read_from view.changelog.entries (bytes_at t changelog_data) (length before) entries ≡ Ok (revisions_of history) → AllByRecursion IsRead history
+are_lines : (laws : IndexLaws) (t : Tree) (view : View) (before entries : List Entry) (history : List Changeset) → loaded_either Ignore (bytes_at t changelog_index) ≡ Ok view.changelog → view.changelog.entries ≡ before ++ entries
+    → read_from view.changelog.entries (chunks_in t) (length before) entries ≡ Ok (revisions_of history) → AllByRecursion IsRead history
     → AreLines (λ rev. at_rest t (line_asks view rev)) (nodes_of view.changelog.entries) (length before) history
-are_lines t view before entries [] is h reads = tt
-are_lines t view before [] (c ∷ newer) is h reads = cc
-are_lines t view before (e ∷ entries) (c ∷ newer) is h reads =
+are_lines laws t view before entries [] loads is h reads = tt
+are_lines laws t view before [] (c ∷ newer) loads is h reads = cc
+are_lines laws t view before (e ∷ entries) (c ∷ newer) loads is h reads =
     let all = view.changelog.entries in
-    let w = with_text_ok e (text_of all (length before) (chunk_in (bytes_at t changelog_data) e)) (read_from all (bytes_at t changelog_data) (suc (length before)) entries) (revisions_of (c ∷ newer)) h in
+    let w = with_text_ok e (text_of all (length before) (chunk_in (chunks_in t) e)) (read_from all (chunks_in t) (suc (length before)) entries) (revisions_of (c ∷ newer)) h in
     let at : slice_get all (length before) ≡ Some e = ap (λ l. slice_get l (length before)) is ∙ slice_get_seam before e entries in
     let node : slice_index_or (nodes_of all) (length before) null_node ≡ e.node.0 = ap (λ l. slice_index_or (nodes_of l) (length before) null_node) is ∙ node_seam before e entries in
     let size : length (before ++ e ∷ []) ≡ suc (length before) = length-append before (e ∷ []) ∙ add_one (length before) in (
-      line_at_rest t view (length before) e c w.0 (nodes_of all) at w.2 (first_is c newer (revision_of e w.0) w.1 w.4) reads.0 node,
+      line_at_rest laws t view (length before) e c w.0 (nodes_of all) loads at w.2 (first_is c newer (revision_of e w.0) w.1 w.4) reads.0 node,
       subst (λ n. AreLines (λ rev. at_rest t (line_asks view rev)) (nodes_of all) n newer) size
-          (are_lines t view (before ++ e ∷ []) entries newer (is ∙ sym (append_assoc before (e ∷ []) entries))
-          (ap (λ n. read_from all (bytes_at t changelog_data) n entries) size ∙ w.3 ∙ ap (λ l. let a : Result (List Revision) RevFault = Ok l in a) (sym (rest_is c newer (revision_of e w.0) w.1 w.4))) reads.1),
+          (are_lines laws t view (before ++ e ∷ []) entries newer loads (is ∙ sym (append_assoc before (e ∷ []) entries))
+          (ap (λ n. read_from all (chunks_in t) n entries) size ∙ w.3 ∙ ap (λ l. let a : Result (List Revision) RevFault = Ok l in a) (sym (rest_is c newer (revision_of e w.0) w.1 w.4))) reads.1),
     )
   where
     add_one : (n : ℕ) → n + 1 ≡ suc n
@@ -173,11 +173,11 @@ are_lines t view before (e ∷ entries) (c ∷ newer) is h reads =
     rest_is c newer r rest h = cc
 
 -- a view whose texts are read as this history gives its lines
-lines_are : (t : Tree) (view : View) (history : List Changeset) → read_all view.changelog.entries (bytes_at t changelog_data) ≡ Ok (revisions_of history)
+lines_are : (laws : IndexLaws) (t : Tree) (view : View) (history : List Changeset) → loaded_either Ignore (bytes_at t changelog_index) ≡ Ok view.changelog → read_all view.changelog.entries (chunks_in t) ≡ Ok (revisions_of history)
     → nodes_of view.changelog.entries ≡ nodes (revisions_of history) → AllByRecursion IsRead history → lines_of_view t view ≡ record { text = history_text history; refusal = None }
-lines_are t view history texts nodes_are reads =
+lines_are laws t view history loads texts nodes_are reads =
     let entries = view.changelog.entries in
-    let lines = are_lines t view [] entries history refl texts reads in
+    let lines = are_lines laws t view [] entries history loads refl texts reads in
     let entries_size = length-map entries (λ (e : Entry). e.node.0) in
     let nodes_size : length (nodes_of entries) ≡ 0 + length (revisions_of history) = ap length nodes_are ∙ length-nodes_from [] (revisions_of history) in
     let history_size = length-map history (λ (c : Changeset). c.revision) in
@@ -186,24 +186,38 @@ lines_are t view history texts nodes_are reads =
     ∙ down_from (λ rev. at_rest t (line_asks view rev)) (nodes_of entries) 0 history lines
     ∙ ap (λ l. let all : Outcome = record { text = l; refusal = None } in all) (append-nil (lines_from (nodes_of entries) 0 history) ∙ ap (λ known. lines_from known 0 history) nodes_are)
 
--- over files that hold a history a load gives a view of it
-pub history-opens : (t : Tree) (history : List Changeset) → HoldsHistory t history → Opens t (nodes (revisions_of history)) → AreWithinLimits (revisions_of history) (bytes_at t changelog_data)
-    → (view : View) × (at_rest t open_asks ≡ Ok view) × (read_all view.changelog.entries (bytes_at t changelog_data) ≡ Ok (revisions_of history)) × (nodes_of view.changelog.entries ≡ nodes (revisions_of history))
-history-opens t history h opens within =
-    let index = bytes_at t changelog_index in
-    let data_bytes = bytes_at t changelog_data in
-    let loads = held-ignored index data_bytes (revisions_of history) h.held h.whole within in
-    let nodes_are = nodes_of-agrees h.held.index_front h.held.data_front loads.0.entries (revisions_of history) loads.3 in
-    let few : length index / 64 ≤ 1000000 = (let a = h.whole in let b = within.few in omega (arith, a, b)) in
-    let room = few_pieces (length index) few in
-    let all : front_of index ≡ index = take_all (most_pieces * piece_length) index (omega (arith, room)) in
-    let o = opening t loads.0 (nodes (revisions_of history)) (pieces_read t ∙ ap log_of all ∙ ap (log_answer changelog_index) loads.1) nodes_are opens in
-    (o.0, o.1, ap (λ (l : Log). read_all l.entries data_bytes) o.2 ∙ loads.2, ap (λ (l : Log). nodes_of l.entries) o.2 ∙ nodes_are)
+-- a view of this history, whose texts are read
+pub record IsHistoryView (t : Tree) (history : List Changeset) (view : View) : Type 0 where
+  pub answered : at_rest t open_asks ≡ Ok view
+  pub loads : loaded_either Ignore (bytes_at t changelog_index) ≡ Ok view.changelog
+  pub texts : read_all view.changelog.entries (chunks_in t) ≡ Ok (revisions_of history)
+  pub nodes_are : nodes_of view.changelog.entries ≡ nodes (revisions_of history)
 
-pub history-log : (t : Tree) (history : List Changeset) → HoldsHistory t history → Opens t (nodes (revisions_of history)) → AreWithinLimits (revisions_of history) (bytes_at t changelog_data) → log_outcome t ≡ record { text = history_text history; refusal = None }
-history-log t history h opens within =
-    let o = history-opens t history h opens within in
-    ap (log_of_view t) o.1 ∙ lines_are t o.0 history o.2 o.3 h.read
+-- over files that hold a history a load gives a view of it
+pub history-opens : (laws : IndexLaws) (t : Tree) (history : List Changeset) → HoldsHistory t history → Opens t (nodes (revisions_of history)) → AreWithinLimits (revisions_of history) (chunks_in t) → IsReadWhole t
+    → (view : View) × (at_rest t open_asks ≡ Ok view) × IsHistoryView t history view
+history-opens laws t history h opens within short =
+    let index = bytes_at t changelog_index in
+    let found = held-ignored (index_in t) (chunks_in t) (revisions_of history) h.held h.whole within in
+    let nodes_are = nodes_of-agrees h.held.index_front h.held.data_front found.0.entries (revisions_of history) found.3 in
+    let few : length (index_in t) / 64 ≤ 1000000 = (let a = h.whole in let b = within.few in omega (arith, a, b)) in
+    let log : Log = record { inline = is_inline index; entries = found.0.entries } in
+    let loads = either-load index found.0 found.1 in
+    let o = opening t log (nodes (revisions_of history)) (asked-log laws t log short few loads) nodes_are opens in (
+      o.0,
+      o.1,
+      record {
+        answered = o.1;
+        loads = loads ∙ ap (λ (l : Log). let r : Result Log RevFault = Ok l in r) (sym o.2);
+        texts = ap (λ (l : Log). read_all l.entries (chunks_in t)) o.2 ∙ found.2;
+        nodes_are = ap (λ (l : Log). nodes_of l.entries) o.2 ∙ nodes_are;
+      },
+    )
+
+pub history-log : (laws : IndexLaws) (t : Tree) (history : List Changeset) → HoldsHistory t history → Opens t (nodes (revisions_of history)) → AreWithinLimits (revisions_of history) (chunks_in t) → IsReadWhole t → log_outcome t ≡ record { text = history_text history; refusal = None }
+history-log laws t history h opens within short =
+    let o = history-opens laws t history h opens within short in
+    ap (log_of_view t) o.1 ∙ lines_are laws t o.0 history o.2.loads o.2.texts o.2.nodes_are h.read
 
 -- ---- the other direction
 
@@ -236,19 +250,19 @@ change_told rev e (Ok text) l h = by (read_change text) refl h
     by (Ok c) is h = (text, c, refl, is)
 
 -- the history that the entries behind these are, where each gives a line
-history_of : (t : Tree) (view : View) (before entries : List Entry) → view.changelog.entries ≡ before ++ entries
+history_of : (laws : IndexLaws) (t : Tree) (view : View) (before entries : List Entry) → loaded_either Ignore (bytes_at t changelog_index) ≡ Ok view.changelog → view.changelog.entries ≡ before ++ entries
     → ((rev : ℕ) → rev < length view.changelog.entries → (l : List ℕ) × (at_rest t (line_asks view rev) ≡ Ok l))
-    → (history : List Changeset) × (read_from view.changelog.entries (bytes_at t changelog_data) (length before) entries ≡ Ok (revisions_of history)) × AllByRecursion IsRead history
-history_of t view before [] is lines = ([], refl, tt)
-history_of t view before (e ∷ entries) is lines =
+    → (history : List Changeset) × (read_from view.changelog.entries (chunks_in t) (length before) entries ≡ Ok (revisions_of history)) × AllByRecursion IsRead history
+history_of laws t view before [] loads is lines = ([], refl, tt)
+history_of laws t view before (e ∷ entries) loads is lines =
     let all = view.changelog.entries in
-    let data_bytes = bytes_at t changelog_data in
+    let data_bytes = chunks_in t in
     let at : slice_get all (length before) ≡ Some e = ap (λ l. slice_get l (length before)) is ∙ slice_get_seam before e entries in
     let there : length before < length all = (let n = ap length is in let m = length-append before (e ∷ entries) in omega (arith, n, m)) in
     let line = lines (length before) there in
-    let told = change_told (length before) e (text_of all (length before) (chunk_in data_bytes e)) line.0 (sym (line_asked t view (length before) e at) ∙ line.1) in
+    let told = change_told (length before) e (text_of all (length before) (chunk_in data_bytes e)) line.0 (sym (line_asked laws t view (length before) e loads at) ∙ line.1) in
     let size : length (before ++ e ∷ []) ≡ suc (length before) = length-append before (e ∷ []) ∙ add_one (length before) in
-    let on = history_of t view (before ++ e ∷ []) entries (is ∙ sym (append_assoc before (e ∷ []) entries)) lines in
+    let on = history_of laws t view (before ++ e ∷ []) entries loads (is ∙ sym (append_assoc before (e ∷ []) entries)) lines in
     let first : Changeset = record { revision = revision_of e told.0; change = told.1 } in (
       first ∷ on.0,
       ap (λ x. with_text e x (read_from all data_bytes (suc (length before)) entries)) told.2
@@ -272,25 +286,32 @@ few_entries index log are h =
 whole_front : (index : List ℕ) → length (front_of index) / 64 ≤ most_revisions → front_of index ≡ index
 whole_front index few = let size = length-take (most_pieces * piece_length) index in take_all (most_pieces * piece_length) index (omega (arith, few, size))
 
-log_in : (r : Result Log RevFault) (log : Log) → log_answer changelog_index r ≡ Ok log → r ≡ Ok log
-log_in (Err f) log h = cc
-log_in (Ok x) log h = cc
+-- what is asked for of the index loads, in its form
+either-loads : (laws : IndexLaws) (t : Tree) (log : Log) → at_rest t log_asks ≡ Ok log → loaded_either Ignore (bytes_at t changelog_index) ≡ Ok log
+either-loads laws t log h = by (is_inline (bytes_at t changelog_index)) refl
+  where
+    by : (b : Bool) → is_inline (bytes_at t changelog_index) ≡ b → loaded_either Ignore (bytes_at t changelog_index) ≡ Ok log
+    by true e = inline-loads laws t log e h
+    by false e =
+        let index = bytes_at t changelog_index in
+        let plain = fronts-separate (most_pieces * piece_length) index e in
+        let front_load : loaded Ignore (front_of index) ≡ Ok log = log-in (loaded Ignore (front_of index)) log (sym (pieces_read t) ∙ sym (laws.rest t e) ∙ h) in
+        let all : front_of index ≡ index = whole_front index (few_entries (front_of index) log (laws.entries Ignore (front_of index) log (laws.separate Ignore (front_of index) plain ∙ front_load)) front_load) in
+        laws.separate Ignore index e ∙ ap (loaded Ignore) (sym all) ∙ front_load
 
-pub log-history : ((tail : Tail) (index : List ℕ) (log : Log) → loaded tail index ≡ Ok log → AreEntries log.entries) → (t : Tree) → IsBytes (bytes_at t changelog_index) → (log_outcome t).refusal ≡ None → (history : List Changeset) × HoldsHistory t history × ((log_outcome t).text ≡ history_text history)
-log-history entries t are none = by (at_rest t open_asks) refl none
+pub log-history : (laws : IndexLaws) (t : Tree) → IsBytes (bytes_at t changelog_index) → (log_outcome t).refusal ≡ None → (history : List Changeset) × HoldsHistory t history × ((log_outcome t).text ≡ history_text history)
+log-history laws t are none = by (at_rest t open_asks) refl none
   where
     by : (r : Result View ReadAnswer) → at_rest t open_asks ≡ r → (log_of_view t r).refusal ≡ None → (history : List Changeset) × HoldsHistory t history × ((log_of_view t r).text ≡ history_text history)
     by (Err e) is h = cc
     by (Ok view) is h =
         let index = bytes_at t changelog_index in
-        let data_bytes = bytes_at t changelog_data in
-        let front_load : loaded Ignore (front_of index) ≡ Ok view.changelog = log_in (loaded Ignore (front_of index)) view.changelog (sym (pieces_read t) ∙ opened_log t view is) in
-        let all : front_of index ≡ index = whole_front index (few_entries (front_of index) view.changelog (entries Ignore (front_of index) view.changelog front_load) front_load) in
-        let load : loaded Ignore index ≡ Ok view.changelog = ap (loaded Ignore) (sym all) ∙ front_load in
-        let told = history_of t view [] view.changelog.entries refl (lines_ok (λ rev. at_rest t (line_asks view rev)) (length view.changelog.entries) h) in
-        let held = ignored-held index data_bytes view.changelog (revisions_of told.0) are load told.1 in
+        let loads = either-loads laws t view.changelog (opened_log t view is) in
+        let told = history_of laws t view [] view.changelog.entries loads refl (lines_ok (λ rev. at_rest t (line_asks view rev)) (length view.changelog.entries) h) in
+        let apart : Log = record { inline = false; entries = view.changelog.entries } in
+        let held = ignored-held (index_in t) (chunks_in t) apart (revisions_of told.0) (apart-bytes index are) (apart-load index view.changelog loads) told.1 in
         let nodes_are = nodes_of-agrees held.0.index_front held.0.data_front view.changelog.entries (revisions_of told.0) held.1 in (
           told.0,
           record { held = held.0; whole = held.2; read = told.2 },
-          ap (λ (o : Outcome). o.text) (lines_are t view told.0 told.1 nodes_are told.2),
+          ap (λ (o : Outcome). o.text) (lines_are laws t view told.0 loads told.1 nodes_are told.2),
         )

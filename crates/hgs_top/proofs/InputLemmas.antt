@@ -9,7 +9,10 @@ use Rattle.hgs_bytes.specs.Answer.{Gives}
 use Rattle.hgs_input.specs.Read.{is_memory, read_record}
 use Rattle.hgs_input.specs.declared.fault.InputFault.{InputFault}
 use Rattle.hgs_model.specs.declared.command.NewChange.{NewChange}
+use Rattle.hgs_schedule.specs.Read.{read_schedule}
+use Rattle.hgs_schedule.specs.declared.event.Schedule.{Schedule}
 use Rattle.hgs_top.specs.Orders.{Gave}
+use Rattle.hgs_top.specs.Play.{GaveSchedule}
 
 -- all of these bytes were taken from what was left at first
 abbrev pub AreTaken : Option (List ℕ) → Option (List ℕ) → List ℕ → Type 0
@@ -48,18 +51,25 @@ all_taken (Some all) now next bytes front more most h t e z some few =
     sym (ap (take (most_input + 1)) whole ∙ take_all (most_input + 1) more (omega (arith, size, z, few)))
 
 -- what is looked at of an input decides what it is read as
-pub looked_at_decides : ((front more : List ℕ) → most_input < length front → read_record (front ++ more) ≡ read_record front) → (bytes : List ℕ) → read_record (take (most_input + 1) bytes) ≡ read_record bytes
-looked_at_decides long bytes = by (leb_tells (length bytes) (most_input + 1))
+pub looked_at_decides : {A : Type 0} (read : List ℕ → A) → ((front more : List ℕ) → most_input < length front → read (front ++ more) ≡ read front) → (bytes : List ℕ) → read (take (most_input + 1) bytes) ≡ read bytes
+looked_at_decides read long bytes = by (leb_tells (length bytes) (most_input + 1))
   where
-    by : ((leb (length bytes) (most_input + 1) ≡ true) × (length bytes ≤ most_input + 1)) ⊎ ((leb (length bytes) (most_input + 1) ≡ false) × (most_input + 1 < length bytes)) → read_record (take (most_input + 1) bytes) ≡ read_record bytes
-    by (inl few) = ap read_record (take_all (most_input + 1) bytes few.1)
+    by : ((leb (length bytes) (most_input + 1) ≡ true) × (length bytes ≤ most_input + 1)) ⊎ ((leb (length bytes) (most_input + 1) ≡ false) × (most_input + 1 < length bytes)) → read (take (most_input + 1) bytes) ≡ read bytes
+    by (inl few) = ap read (take_all (most_input + 1) bytes few.1)
     by (inr many) =
         let l = length-take (most_input + 1) bytes in
         let some = many.1 in
-        sym (ap read_record (sym (take-append-drop (most_input + 1) bytes)) ∙ long (take (most_input + 1) bytes) (drop (most_input + 1) bytes) (omega (arith, l, some)))
+        sym (ap read (sym (take-append-drop (most_input + 1) bytes)) ∙ long (take (most_input + 1) bytes) (drop (most_input + 1) bytes) (omega (arith, l, some)))
 
 pub gave : ((front more : List ℕ) → most_input < length front → read_record (front ++ more) ≡ read_record front) → (left : Option (List ℕ)) (bytes : List ℕ) (given : Result NewChange InputFault) → IfSome left (λ all. bytes ≡ take (most_input + 1) all) → Gives is_memory (λ change. change) given (read_record bytes) → Gave left given
 gave long None bytes given e h = tt
 gave long (Some all) bytes given e h =
     let P : Result NewChange InputFault → Type 0 = λ r. Gives is_memory (λ change. change) given r in
-    subst P (ap read_record e ∙ looked_at_decides long all) h
+    subst P (ap read_record e ∙ looked_at_decides read_record long all) h
+
+pub gave_schedule : ((front more : List ℕ) → most_input < length front → read_schedule (front ++ more) ≡ read_schedule front) → (left : Option (List ℕ)) (bytes : List ℕ) (given : Result Schedule InputFault) → IfSome left (λ all. bytes ≡ take (most_input + 1) all)
+    → Gives is_memory (λ s. s) given (read_schedule bytes) → GaveSchedule left given
+gave_schedule long None bytes given e h = tt
+gave_schedule long (Some all) bytes given e h =
+    let P : Result Schedule InputFault → Type 0 = λ r. Gives is_memory (λ s. s) given r in
+    subst P (ap read_schedule e ∙ looked_at_decides read_schedule long all) h

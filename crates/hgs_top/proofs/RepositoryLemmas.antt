@@ -153,7 +153,7 @@ pub says-of : ((t : Tree) (r : Repo) → IsReadable t r → (question : Question
 says-of law Faulted (Err place) log start status old new h = tt
 says-of law Faulted (Ok (to_do job)) log start status old new h = tt
 says-of law Faulted (Ok to_play) log start status old new h = tt
-says-of law Faulted (Ok to_verify) log start status old new h = tt
+says-of law Faulted (Ok (to_verify jobs)) log start status old new h = tt
 says-of law Faulted (Ok (to_generate seed count)) log start status old new h = tt
 says-of law Faulted (Ok (to_answer question)) None start status old new h = tt
 says-of law Faulted (Ok (to_answer question)) (Some l) start status old new h =

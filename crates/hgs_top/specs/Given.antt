@@ -50,6 +50,6 @@ abbrev pub ReadsAsked : Result Request ℕ → ℕ → ℕ → Option (List Op) 
 ReadsAsked (Ok (to_answer question)) given_old given_new before start after = ReadsOnly given_old given_new before start after (question_reads question)
 ReadsAsked (Ok (to_do job)) given_old given_new before start after = ⊤
 ReadsAsked (Ok to_play) given_old given_new before start after = given_new ≡ given_old
-ReadsAsked (Ok to_verify) given_old given_new before start after = ⊤
+ReadsAsked (Ok (to_verify jobs)) given_old given_new before start after = ⊤
 ReadsAsked (Ok (to_generate seed count)) given_old given_new before start after = ⊤
 ReadsAsked (Err place) given_old given_new before start after = given_new ≡ given_old

@@ -1,16 +1,19 @@
 -- Files that hold a history, and its lines.
-use Rattle.std.specs.Prelude.{◌≡◌, ℕ, suc, ◌/◌, List, [], ◌∷◌, ◌++◌, length, map, decimal, slice_index_or, Some, Ok, true, ◌⊎◌, position}
+use Rattle.std.specs.Prelude.{◌≡◌, ◌≤◌, ℕ, suc, ◌/◌, List, [], ◌∷◌, ◌++◌, length, map, decimal, slice_index_or, Some, Ok, true, ◌⊎◌, position}
 use Rattle.std.specs.List.{AllByRecursion}
 use Rattle.hgs_bytes.specs.Bytes.{same}
 use Rattle.hgs_files.specs.Tree.{Tree, bytes_at}
 use Rattle.hgs_index.specs.ChangeText.{Change, read_change}
+use Rattle.hgs_index.specs.Either.{chunks_either}
 use Rattle.hgs_index.specs.Hex.{hex}
+use Rattle.hgs_index.specs.Inline.{index_apart, is_inline}
 use Rattle.hgs_index.specs.Node.{null_node}
 use Rattle.hgs_index.specs.Revision.{Revision, nodes}
 use Rattle.hgs_index.specs.Revlog.{BeginsWithRevisions}
 use Rattle.hgs_marks.specs.Bookmarks.{Mark}
 use Rattle.hgs_phases.specs.declared.roots.Root.{Root}
 use Rattle.hgs_load.specs.Asks.{at_rest}
+use Rattle.hgs_load.specs.Form.{most_inline_index}
 use Rattle.hgs_load.specs.Marks.{Nodes}
 use Rattle.hgs_load.specs.Open.{requires_asks, bookmarks_asks, dirstate_asks, roots_asks}
 use Rattle.hgs_reader.specs.Line.{field, parent_text, change_fields}
@@ -28,10 +31,21 @@ revisions_of history = map (λ c. c.revision) history
 abbrev pub IsRead : Changeset → Type 0
 IsRead c = read_change c.revision.text ≡ Ok c.change
 
--- The changelog of these files is this history: as many changesets as there are whole entries, and all of them are read.
+-- the changelog's index and its chunks, as a separate revlog has them: an inline index is taken apart
+abbrev pub index_in : Tree → List ℕ
+index_in t = index_apart (bytes_at t changelog_index)
+
+abbrev pub chunks_in : Tree → List ℕ
+chunks_in t = chunks_either (bytes_at t changelog_index) (bytes_at t changelog_data)
+
+-- an inline index has no more bytes than are read of one
+abbrev pub IsReadWhole : Tree → Type 0
+IsReadWhole t = is_inline (bytes_at t changelog_index) ≡ true → length (bytes_at t changelog_index) ≤ most_inline_index
+
+-- The changelog of these files is this history, in the form that its index says: as many changesets as there are whole entries, and all of them are read.
 pub record HoldsHistory (t : Tree) (history : List Changeset) : Type 0 where
-  pub held : BeginsWithRevisions (bytes_at t changelog_index) (bytes_at t changelog_data) (revisions_of history)
-  pub whole : length (revisions_of history) ≡ length (bytes_at t changelog_index) / 64
+  pub held : BeginsWithRevisions (index_in t) (chunks_in t) (revisions_of history)
+  pub whole : length (revisions_of history) ≡ length (index_in t) / 64
   pub read : AllByRecursion IsRead history
 
 -- its number, node and parents, and what its text says

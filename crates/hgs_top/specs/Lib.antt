@@ -1,7 +1,9 @@
 pub mod Given
 pub mod Histories
 pub mod History
+pub mod IndexLaws
 pub mod Orders
+pub mod Play
 pub mod Outcome
 pub mod Pages
 pub mod Repository

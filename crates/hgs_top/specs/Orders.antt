@@ -63,7 +63,7 @@ abbrev pub IsFitting : Asked → Type 0
 IsFitting (asked.Question command) = ⊤
 IsFitting (asked.Order order) = IsFit order
 IsFitting asked.Play = ⊤
-IsFitting asked.Verify = ⊤
+IsFitting (asked.Verify jobs) = (1 ≤ jobs) × (jobs ≤ 64)
 IsFitting (asked.Generate seed count) = (1 ≤ count) × (count ≤ 5000)
 
 -- ---- what is said
@@ -226,7 +226,7 @@ abbrev pub Obeys : Result Request ℕ → Option (List ℕ) → Option (List Op)
 Obeys (Ok (to_do job)) left old new start status written_old written_new = Does job left old new start status written_old written_new
 Obeys (Ok (to_answer question)) left old new start status written_old written_new = new ≡ old
 Obeys (Ok to_play) left old new start status written_old written_new = new ≡ old
-Obeys (Ok to_verify) left old new start status written_old written_new = new ≡ old
+Obeys (Ok (to_verify jobs)) left old new start status written_old written_new = new ≡ old
 Obeys (Ok (to_generate seed count)) left old new start status written_old written_new = Generates seed count old new start status written_old written_new
 Obeys (Err place) left old new start status written_old written_new = new ≡ old
 
@@ -239,6 +239,6 @@ abbrev pub KeepsInput : Result Request ℕ → Option (List ℕ) → Option (Lis
 KeepsInput (Ok (to_do job)) old new faults_old faults_new = LeavesInput job old new faults_old faults_new
 KeepsInput (Ok (to_answer question)) old new faults_old faults_new = (new ≡ old) × (faults_new ≡ faults_old)
 KeepsInput (Ok to_play) old new faults_old faults_new = ⊤
-KeepsInput (Ok to_verify) old new faults_old faults_new = (new ≡ old) × (faults_new ≡ faults_old)
+KeepsInput (Ok (to_verify jobs)) old new faults_old faults_new = (new ≡ old) × (faults_new ≡ faults_old)
 KeepsInput (Ok (to_generate seed count)) old new faults_old faults_new = (new ≡ old) × (faults_new ≡ faults_old)
 KeepsInput (Err place) old new faults_old faults_new = (new ≡ old) × (faults_new ≡ faults_old)

@@ -24,7 +24,7 @@ page_lines Help =
     codes "  phase [--force] REV PHASE  sets a phase" ∷
     codes "  bookmark NAME REV          sets a bookmark" ∷
     codes "  bookmark --delete NAME     deletes one" ∷
-    codes "  verify                     says what is wrong with the repository, and changes nothing" ∷
+    codes "  verify [--jobs N]          says what is wrong with the repository, and changes nothing" ∷
     codes "  gen SEED COUNT             makes a repository of changesets that a number gives, and verifies it" ∷
     codes "  recover                    undoes a transaction that was left unfinished" ∷
     codes "  play                       plays the schedule on standard input, in memory" ∷
@@ -61,7 +61,7 @@ page_lines Help =
     codes "  34  a file that is not the store's is in the way" ∷
     codes "" ∷
     codes "More: man hg_store, and docs/ANSWERS.md." ∷ []
-page_lines Version = codes "hg_store 0.1, proved with rattle-kit-13f logic dac8208d650f15bf" ∷ []
+page_lines Version = codes "hg_store 0.1, proved with rattle-kit-13b logic dac8208d650f15bf" ∷ []
 
 abbrev pub page_text : Page → List ℕ
 page_text page = lines (page_lines page)

@@ -39,6 +39,6 @@ abbrev pub SaysOfRepository : Type 0 → Result Request ℕ → Option (List Op)
 SaysOfRepository Faulted (Ok (to_answer question)) log start status old new = OfTree log start (λ t. (r : Repo) → IsReadable t r → Replied Faulted (reply_of r question) status old new)
 SaysOfRepository Faulted (Ok (to_do job)) log start status old new = ⊤
 SaysOfRepository Faulted (Ok to_play) log start status old new = ⊤
-SaysOfRepository Faulted (Ok to_verify) log start status old new = ⊤
+SaysOfRepository Faulted (Ok (to_verify jobs)) log start status old new = ⊤
 SaysOfRepository Faulted (Ok (to_generate seed count)) log start status old new = ⊤
 SaysOfRepository Faulted (Err place) log start status old new = ⊤

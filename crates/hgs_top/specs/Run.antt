@@ -178,7 +178,7 @@ abbrev pub Says : Type 0 → Result Request ℕ → Option (List Op) → Tree �
 Says Faulted (Ok (to_answer question)) log start status old new = OfReply question log start (λ reply. Replied Faulted reply status old new)
 Says Faulted (Ok (to_do job)) log start status old new = ⊤
 Says Faulted (Ok to_play) log start status old new = ⊤
-Says Faulted (Ok to_verify) log start status old new = Verifies Faulted log start status old new
+Says Faulted (Ok (to_verify jobs)) log start status old new = Verifies Faulted log start status old new
 Says Faulted (Ok (to_generate seed count)) log start status old new = ⊤
 Says Faulted (Err place) log start status old new = SaysBadWord place status old new
 

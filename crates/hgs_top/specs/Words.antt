@@ -37,6 +37,10 @@ seed_of word =
 abbrev pub count_of : List ℕ → Option ℕ
 count_of word = kept_where (λ n. nat_le 1 n && nat_le n 5000) (number_up_to 5000 word)
 
+-- how many jobs a word gives: from 1 to 64
+abbrev pub jobs_of : List ℕ → Option ℕ
+jobs_of word = kept_where (λ n. nat_le 1 n && nat_le n 64) (number_up_to 64 word)
+
 -- whether a word is what an operand has to be
 abbrev pub fits : Operand → List ℕ → Bool
 fits operand_kinds.Any word = true
@@ -92,7 +96,7 @@ pub data Request : Type 0 where
   to_answer : Question → Request
   to_do : Job → Request
   to_play : Request
-  to_verify : Request
+  to_verify : ℕ → Request
   to_generate : ℕ → ℕ → Request
 
 abbrev pub question_of : Command → Question
@@ -117,7 +121,7 @@ abbrev pub request_of : Asked → Request
 request_of (asked.Question command) = to_answer (question_of command)
 request_of (asked.Order order) = to_do (job_of order)
 request_of asked.Play = to_play
-request_of asked.Verify = to_verify
+request_of (asked.Verify jobs) = to_verify jobs
 request_of (asked.Generate seed count) = to_generate seed count
 
 -- the request with these operands
@@ -139,7 +143,6 @@ alone_named name =
     else if same name (codes "commit") then Some (to_do do_commit)
     else if same name (codes "recover") then Some (to_do do_recover)
     else if same name (codes "play") then Some to_play
-    else if same name (codes "verify") then Some to_verify
     else None
 
 -- the words behind this one, where it stands first
@@ -164,17 +167,28 @@ abbrev pub bookmark_with : Option (List (List ℕ)) → List (List ℕ) → Resu
 bookmark_with (Some behind) words = asked_with (λ w. to_do (do_unmark (operand w 0))) (operands false (operand_kinds.MarkName ∷ []) 2 behind)
 bookmark_with None words = asked_with (λ w. to_do (do_mark (operand w 0) (operand w 1))) (operands false (operand_kinds.MarkName ∷ operand_kinds.Any ∷ []) 1 words)
 
+-- how many jobs are to be taken, behind the option that says so
+abbrev pub verify_by : List (List ℕ) → Result Request ℕ
+verify_by [] = Err 2
+verify_by (word ∷ words) = if is_some (jobs_of word) then asked_with (λ w. to_verify (unwrap_or (jobs_of word) 1)) (operands false [] 3 words) else Err 2
+
+-- one job, where no option says how many
+abbrev pub verify_with : Option (List (List ℕ)) → List (List ℕ) → Result Request ℕ
+verify_with (Some behind) words = verify_by behind
+verify_with None words = asked_with (λ w. to_verify 1) (operands false [] 1 words)
+
 -- a number and how many changesets it gives
 abbrev pub generate_with : List (List ℕ) → Result Request ℕ
 generate_with words = asked_with (λ w. to_generate (unwrap_or (seed_of (operand w 0)) 0) (unwrap_or (count_of (operand w 1)) 1)) (operands false (operand_kinds.Seed ∷ operand_kinds.Count ∷ []) 1 words)
 
--- those with operands
+-- those with operands or options
 abbrev pub about_named : List ℕ → List (List ℕ) → Result Request ℕ
 about_named name words =
     if same name (codes "files") then asked_with (λ w. to_answer (ask_files (operand w 0))) (operands false (operand_kinds.Any ∷ []) 1 words)
     else if same name (codes "cat") then asked_with (λ w. to_answer (ask_cat (operand w 0) (operand w 1))) (operands false (operand_kinds.Any ∷ operand_kinds.Any ∷ []) 1 words)
     else if same name (codes "phase") then phase_with (behind_word (codes "--force") words) words
     else if same name (codes "bookmark") then bookmark_with (behind_word (codes "--delete") words) words
+    else if same name (codes "verify") then verify_with (behind_word (codes "--jobs") words) words
     else if same name (codes "gen") then generate_with words
     else Err 0
 

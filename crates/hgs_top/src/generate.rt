@@ -22,6 +22,7 @@ use hgs_index::texts::hex_of;
 use hgs_plan::print::push_number;
 use hgs_verify::report::{Report, verify};
 use std::alloc::{AllocError, Global};
+use std::thread::Threads;
 
 // The text of a summary.
 fn text_of(alloc: Global, report: &Report, tip: &Node) -> Result<Vec<u8>, AllocError>
@@ -51,8 +52,14 @@ fn tell<K: Sink>(alloc: Global, report: &Report, tip: &Node, out: &mut K) -> u8
     }
 }
 
-// Verifies the grown repository, and writes what that came to.
-fn summarize<F: Files, K: Sink>(alloc: Global, files: &mut F, tip: &Node, out: &mut K) -> u8
+// Verifies the grown repository by one job, and writes what that came to.
+fn summarize<T: Threads + Sync, F: Files, K: Sink>(
+    rt: &T,
+    alloc: Global,
+    files: &mut F,
+    tip: &Node,
+    out: &mut K,
+) -> u8
     ensures summarizes { Summarizes tip.now (F.log files.old) (F.start files.old) result (K.written out.old) (K.written out.new) }
     ensures fault { result ≡ 16 → Rose (F.faults files.old) (F.faults files.new) }
     ensures sink { result ≡ 19 → Rose (K.faults out.old) (K.faults out.new) }
@@ -60,14 +67,21 @@ fn summarize<F: Files, K: Sink>(alloc: Global, files: &mut F, tip: &Node, out: &
     ensures same_start { F.start files.new ≡ F.start files.old }
     ensures statuses { IsOneOf (0 ∷ 15 ∷ 16 ∷ 19 ∷ 20 ∷ 23 ∷ 24 ∷ 27 ∷ 29 ∷ 30 ∷ []) result }
 {
-    match verify(alloc, files) {
+    match verify(rt, alloc, files, 1) {
         Ok(report) => tell(alloc, &report, tip, out),
         Err(refusal) => refuse(alloc, &refusal, out),
     }
 }
 
 // Commits one changeset after another, verifies the repository, and says what it came to.
-fn grow<F: Files, K: Sink>(alloc: Global, files: &mut F, seed: u64, count: u32, out: &mut K) -> u8
+fn grow<T: Threads + Sync, F: Files, K: Sink>(
+    rt: &T,
+    alloc: Global,
+    files: &mut F,
+    seed: u64,
+    count: u32,
+    out: &mut K,
+) -> u8
     requires some { 1 ≤ count }
     requires few { count ≤ 5000 }
     requires allows { (log : List Op) → F.allows (F.start files.old) log }
@@ -80,7 +94,7 @@ fn grow<F: Files, K: Sink>(alloc: Global, files: &mut F, seed: u64, count: u32, 
     ensures same_start { F.start files.new ≡ F.start files.old }
 {
     match commit_all(alloc, files, WHO, seed, count) {
-        Ok(tip) => summarize(alloc, files, &tip, out),
+        Ok(tip) => summarize(rt, alloc, files, &tip, out),
         Err(Stop::Memory) => end_with(out, OUT_OF_MEMORY, 30),
         Err(Stop::Answered { command, answer }) => {
             say(alloc, &Ended::Answered { command, answer }, out)
@@ -90,7 +104,8 @@ fn grow<F: Files, K: Sink>(alloc: Global, files: &mut F, seed: u64, count: u32, 
 
 /// Makes a repository, commits so many of the changesets that the number gives, verifies all, and writes the counts, the last
 /// node and how much was found. A commit that is refused ends it with that refusal.
-pub fn run_generate<F: Files, K: Sink>(
+pub fn run_generate<T: Threads + Sync, F: Files, K: Sink>(
+    rt: &T,
     alloc: Global,
     files: &mut F,
     seed: u64,
@@ -109,7 +124,7 @@ pub fn run_generate<F: Files, K: Sink>(
     ensures same_start { F.start files.new ≡ F.start files.old }
 {
     match init(alloc, files) {
-        Ended::Made => grow(alloc, files, seed, count, out),
+        Ended::Made => grow(rt, alloc, files, seed, count, out),
         ended => say(alloc, &ended, out),
     }
 }

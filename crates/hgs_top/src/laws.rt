@@ -6,9 +6,10 @@ ghost use Rattle.hgs_index.specs.Revision.{nodes};
 ghost use Rattle.hgs_revlog.specs.Held.{AreWithinLimits};
 ghost use Rattle.hgs_load.specs.Asks.{at_rest};
 ghost use Rattle.hgs_reader.specs.Line.{change_asks};
-ghost use Rattle.hgs_load.specs.View.{View, changelog_data, changelog_index};
+ghost use Rattle.hgs_load.specs.View.{View, changelog_index};
 ghost use Rattle.hgs_load.specs.Open.{open_asks};
-ghost use Rattle.hgs_top.specs.History.{Changeset, HoldsHistory, Opens, history_text, revisions_of};
+ghost use Rattle.hgs_top.specs.History.{Changeset, HoldsHistory, IsReadWhole, Opens, chunks_in, history_text, revisions_of};
+ghost use Rattle.hgs_top.specs.IndexLaws.{IndexLaws};
 ghost use Rattle.hgs_model.specs.Repo.{Repo};
 ghost use Rattle.hgs_shown.specs.Answers.{IsReadable};
 ghost use Rattle.hgs_top.specs.Outcome.{log_outcome};
@@ -31,27 +32,42 @@ ghost use Rattle.hgs_top.specs.Orders.{ComesTo, IsCommandOf, Obeys};
 ghost use Rattle.hgs_top.specs.declared.ended.Ended.TheVariants.{Answered};
 
 use hgs_input::laws::read_records_are_records;
-use hgs_revlog::laws::loaded_entries;
+use hgs_load::laws::{files_are_read_whole, separate_indexes_are_asked};
+use hgs_revlog::laws::{either_form, inline_index};
 use hgs_writer::laws::calls_leave_what_they_answer;
+
+// What is asked of the changelog's index in either form, and what it loads as.
+fn indexes_are_loaded()
+    ensures { IndexLaws }
+{
+    either_form();
+    inline_index();
+    files_are_read_whole();
+    separate_indexes_are_asked();
+}
 
 /// Over files that hold a history within the limits, and the other files of which can be read, `log` writes a line for each changeset, newest first, and is not
 /// refused.
 pub fn log_of_history()
-    ensures { (t : Tree) (history : List Changeset) → HoldsHistory t history → Opens t (nodes (revisions_of history)) → AreWithinLimits (revisions_of history) (bytes_at t changelog_data) → log_outcome t ≡ record { text = history_text history; refusal = None } }
-{}
+    ensures { (t : Tree) (history : List Changeset) → HoldsHistory t history → Opens t (nodes (revisions_of history)) → AreWithinLimits (revisions_of history) (chunks_in t) → IsReadWhole t → log_outcome t ≡ record { text = history_text history; refusal = None } }
+{
+    indexes_are_loaded();
+}
 
 /// Where `log` is not refused, the files hold a history, and what was written are its lines.
 pub fn log_tells_history()
     ensures { (t : Tree) → IsBytes (bytes_at t changelog_index) → (log_outcome t).refusal ≡ None → (history : List Changeset) × HoldsHistory t history × ((log_outcome t).text ≡ history_text history) }
 {
-    loaded_entries();
+    indexes_are_loaded();
 }
 
 /// Over files that hold a history within the limits, and the other files of which can be read, a session has as many changesets, and each of them is read as its own.
 pub fn changesets_of_history()
-    ensures { (t : Tree) (history : List Changeset) → HoldsHistory t history → Opens t (nodes (revisions_of history)) → AreWithinLimits (revisions_of history) (bytes_at t changelog_data) →
+    ensures { (t : Tree) (history : List Changeset) → HoldsHistory t history → Opens t (nodes (revisions_of history)) → AreWithinLimits (revisions_of history) (chunks_in t) → IsReadWhole t →
         (view : View) × (at_rest t open_asks ≡ Ok view) × (length view.changelog.entries ≡ length history) × ((rev : ℕ) (c : Changeset) → slice_get history rev ≡ Some c → at_rest t (change_asks view rev) ≡ Ok c.change) }
-{}
+{
+    indexes_are_loaded();
+}
 
 /// Over files that stand for a repository, within a reader's limits, each question is answered with the repository's text; a name that names nothing is unknown, and so is a path that is not in its changeset.
 pub fn replies_of_repository()

@@ -4,7 +4,7 @@ ghost use Rattle.std.specs.Option.{option_map};
 ghost use Rattle.std.specs.Result.{result_map_both};
 ghost use Rattle.std.specs.String.{string_bytes};
 ghost use Rattle.hgs_bytes.specs.Bytes.{same, begins_with};
-ghost use Rattle.hgs_top.specs.Words.{with_operand, operands_in, ends_here, fits, behind_word, count_of, seed_of};
+ghost use Rattle.hgs_top.specs.Words.{with_operand, operands_in, ends_here, fits, behind_word, count_of, jobs_of, seed_of};
 ghost use Rattle.hgs_top.specs.declared.operands.Operand.{Operand};
 
 use hgs_bytes::parts::{equal, starts};
@@ -14,6 +14,9 @@ use hgs_model::phase::Phase;
 
 /// The most changesets that are generated.
 const MOST_GENERATED: u64 = 5000;
+
+/// The most jobs that check a repository.
+const MOST_JOBS: u64 = 64;
 
 /// What an operand has to be.
 #[derive(Clone, Copy, Debug, PartialEq, Eq)]
@@ -86,6 +89,17 @@ pub(crate) fn count_of(word: &[u8]) -> Option<u32>
 {
     match number_up_to(word, MOST_GENERATED) {
         Some(number) if number >= 1 && number <= MOST_GENERATED => Some(number as u32),
+        _ => None,
+    }
+}
+
+/// How many jobs a word gives.
+pub(crate) fn jobs_of(word: &[u8]) -> Option<u32>
+    ensures jobs { result ≡ jobs_of word.now }
+    ensures within { IfSome result (λ jobs. (1 ≤ jobs) × (jobs ≤ 64)) }
+{
+    match number_up_to(word, MOST_JOBS) {
+        Some(number) if number >= 1 && number <= MOST_JOBS => Some(number as u32),
         _ => None,
     }
 }

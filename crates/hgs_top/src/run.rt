@@ -7,6 +7,7 @@ ghost use Rattle.hgs_files.specs.declared.op.Op.{Op};
 ghost use Rattle.hgs_top.specs.Given.{ReadsAsked};
 ghost use Rattle.hgs_top.specs.Histories.{MakesHistory};
 ghost use Rattle.hgs_top.specs.Orders.{KeepsInput, Obeys};
+ghost use Rattle.hgs_top.specs.Play.{PlaysAsked};
 ghost use Rattle.hgs_top.specs.Repository.{SaysOfRepository};
 ghost use Rattle.hgs_top.specs.Run.{Says, IsOneOf};
 ghost use Rattle.hgs_top.specs.Words.{request_of_words};
@@ -22,6 +23,7 @@ use hgs_files::files::Files;
 use hgs_files::streams::{Sink, Source};
 use hgs_files::yard::{Left, Yard};
 use std::alloc::Global;
+use std::thread::Threads;
 
 /// The exit status of a run, and what it leaves of the yard.
 #[derive(Drop)]
@@ -31,7 +33,8 @@ pub struct Ran<Y> {
 }
 
 // Does what the words ask for, over files at rest, and gives the status.
-fn run_words<F: Files, S: Source, K: Sink>(
+fn run_words<T: Threads + Sync, F: Files, S: Source, K: Sink>(
+    rt: &T,
     alloc: Global,
     words: &[String],
     files: &mut F,
@@ -49,6 +52,7 @@ fn run_words<F: Files, S: Source, K: Sink>(
     ensures sink { result ≡ 19 → Rose (K.faults out.old) (K.faults out.new) }
     ensures orders { Obeys (request_of_words (map string_bytes words.now)) (S.left input.old) (F.log files.old) (F.log files.new) (F.start files.old) result (K.written out.old) (K.written out.new) }
     ensures input { KeepsInput (request_of_words (map string_bytes words.now)) (S.left input.old) (S.left input.new) (S.faults input.old) (S.faults input.new) }
+    ensures plays { PlaysAsked (request_of_words (map string_bytes words.now)) (S.left input.old) result (K.written out.old) (K.written out.new) }
     ensures given { ReadsAsked (request_of_words (map string_bytes words.now)) (F.given files.old) (F.given files.new) (F.seen files.old) (F.start files.old) (F.seen files.new) }
     ensures same_start { F.start files.new ≡ F.start files.old }
 {
@@ -57,16 +61,16 @@ fn run_words<F: Files, S: Source, K: Sink>(
         Ok(Asked::Question(command)) => run_command(alloc, command, files, out),
         Ok(Asked::Order(order)) => run_order(alloc, order, files, input, out),
         Ok(Asked::Play) => run_play(alloc, input, out),
-        Ok(Asked::Verify) => run_verify(alloc, files, out),
-        Ok(Asked::Generate { seed, count }) => run_generate(alloc, files, seed, count, out),
+        Ok(Asked::Verify { jobs }) => run_verify(rt, alloc, files, jobs, out),
+        Ok(Asked::Generate { seed, count }) => run_generate(rt, alloc, files, seed, count, out),
         Err(place) => refuse_words(alloc, place, out),
     }
 }
 
 /// Does what the words ask for, over the files of the yard, and writes what it says to `out`.
 ///
-/// `rt` is the runtime's handle. The status is 0, or that of the refusal whose line was written last; 29 says that the report has findings.
-pub fn run<T, Y: Yard, S: Source, K: Sink>(
+/// `rt` is the runtime's handle, by which `verify` starts threads and nothing else is done. The status is 0, or that of the refusal whose line was written last; 29 says that the report has findings.
+pub fn run<T: Threads + Sync, Y: Yard, S: Source, K: Sink>(
     rt: &T,
     alloc: Global,
     words: &[String],
@@ -87,11 +91,11 @@ pub fn run<T, Y: Yard, S: Source, K: Sink>(
     ensures given { IfWhole result.left (λ y. ReadsAsked (request_of_words (map string_bytes words.now)) (Y.A.given (Y.files yard)) (Y.A.given (Y.files y)) (Y.A.seen (Y.files yard)) (Y.A.start (Y.files yard)) (Y.A.seen (Y.files y))) }
     ensures same_start { IfWhole result.left (λ y. Y.A.start (Y.files y) ≡ Y.A.start (Y.files yard)) }
     ensures input { KeepsInput (request_of_words (map string_bytes words.now)) (S.left input.old) (S.left input.new) (S.faults input.old) (S.faults input.new) }
+    ensures plays { PlaysAsked (request_of_words (map string_bytes words.now)) (S.left input.old) result.status (K.written out.old) (K.written out.new) }
 {
-    let _ = rt;
     runs_make_histories();
     let (mut files, rest) = yard.alone();
-    let status = run_words(alloc, words, &mut files, input, out);
+    let status = run_words(rt, alloc, words, &mut files, input, out);
     Ran {
         status,
         left: Left::Whole(Y::again(files, rest)),

@@ -1,5 +1,5 @@
 //! The report of a repository, and how it is written.
-ghost use Rattle.std.specs.Prelude.{◌≡◌, ◌++◌, ◌∷◌, [], IfOk, List, OnOk, length};
+ghost use Rattle.std.specs.Prelude.{◌≡◌, ◌≤◌, ◌++◌, ◌∷◌, [], IfOk, List, OnOk, length};
 ghost use Rattle.hgs_files.specs.Reads.{Rose};
 ghost use Rattle.hgs_judge.specs.Report.{finding_in, findings_in};
 ghost use Rattle.hgs_top.specs.Run.{EndsLine, IsOneOf, Verifies};
@@ -12,6 +12,7 @@ use hgs_judge::report::Finding;
 use hgs_plan::print::push_number;
 use hgs_verify::report::{Report, verify};
 use std::alloc::{AllocError, Global};
+use std::thread::Threads;
 
 // Adds the number of a revision or of a line, or `-` where there is none.
 fn push_rev(into: &mut Vec<u8>, rev: Option<u32>) -> Result<(), AllocError>
@@ -89,8 +90,17 @@ fn tell<K: Sink>(alloc: Global, report: &Report, out: &mut K) -> u8
     }
 }
 
-/// Writes what is wrong with the repository, and gives the status: 0 where nothing is, 29 where something is.
-pub fn run_verify<F: Files, K: Sink>(alloc: Global, files: &mut F, out: &mut K) -> u8
+/// Writes what is wrong with the repository, and gives the status: 0 where nothing is, 29 where something is. At most so many
+/// threads judge the files, and what is written is the same for each number of them.
+pub fn run_verify<T: Threads + Sync, F: Files, K: Sink>(
+    rt: &T,
+    alloc: Global,
+    files: &mut F,
+    jobs: u32,
+    out: &mut K,
+) -> u8
+    requires some { 1 ≤ jobs }
+    requires most { jobs ≤ 64 }
     ensures verifies { Verifies (Rose (F.faults files.old) (F.faults files.new)) (F.log files.old) (F.start files.old) result (K.written out.old) (K.written out.new) }
     ensures fault { result ≡ 16 → Rose (F.faults files.old) (F.faults files.new) }
     ensures sink { result ≡ 19 → Rose (K.faults out.old) (K.faults out.new) }
@@ -98,7 +108,7 @@ pub fn run_verify<F: Files, K: Sink>(alloc: Global, files: &mut F, out: &mut K) 
     ensures same_start { F.start files.new ≡ F.start files.old }
     ensures statuses { IsOneOf (0 ∷ 15 ∷ 16 ∷ 19 ∷ 20 ∷ 23 ∷ 24 ∷ 27 ∷ 29 ∷ 30 ∷ []) result }
 {
-    match verify(alloc, files) {
+    match verify(rt, alloc, files, jobs) {
         Ok(report) => tell(alloc, &report, out),
         Err(refusal) => refuse(alloc, &refusal, out),
     }

@@ -4,11 +4,11 @@ ghost use Rattle.hgs_top.specs.Orders.{IsFitting};
 ghost use Rattle.std.specs.Option.{option_map};
 ghost use Rattle.std.specs.Result.{result_map_both};
 ghost use Rattle.std.specs.String.{string_bytes};
-ghost use Rattle.hgs_top.specs.Words.{operands_in, operand, operands, asked_with, ask_files, ask_cat, ask_phase, moved_with, phase_with, bookmark_with, behind_word, to_answer, to_do, do_mark, do_unmark, to_generate, seed_of, count_of, request_of, request_named, alone_named, about_named, page_named, request_of_words};
+ghost use Rattle.hgs_top.specs.Words.{operands_in, operand, operands, asked_with, ask_files, ask_cat, ask_phase, moved_with, phase_with, bookmark_with, behind_word, to_answer, to_do, do_mark, do_unmark, to_generate, seed_of, count_of, verify_by, verify_with, request_of, request_named, alone_named, about_named, page_named, request_of_words};
 ghost use Rattle.hgs_top.specs.declared.operands.Operand.TheVariants as operand_kinds;
 
 use crate::operands::{
-    Operand, Rest, behind_word, count_of, no_operand, one_operand, seed_of, two_operands,
+    Operand, Rest, behind_word, count_of, jobs_of, no_operand, one_operand, seed_of, two_operands,
 };
 use crate::orders::Order;
 use crate::pages::Page;
@@ -35,8 +35,8 @@ pub enum Asked<'a> {
     Order(Order<'a>),
     /// Plays the schedule that stands on the input, in memory.
     Play,
-    /// Says what is wrong with the repository.
-    Verify,
+    /// Says what is wrong with the repository, by so many jobs.
+    Verify { jobs: u32 },
     /// Makes a repository of so many changesets that a number gives.
     Generate { seed: u64, count: u32 },
 }
@@ -145,6 +145,33 @@ fn bookmark_from(words: &[String]) -> Result<Asked<'_>, usize>
     }
 }
 
+// `verify` with the words behind its option.
+fn jobs_from(words: &[String]) -> Result<Asked<'_>, usize>
+    requires { 2 + length words.now < 2 ^ 64 }
+    ensures asked { result_map_both request_of (λ place. place) result ≡ verify_by (map string_bytes words.now) }
+    ensures fitting { IfOk result IsFitting }
+{
+    match words {
+        [] => Err(2),
+        [word, behind @ ..] => match jobs_of(word.as_bytes()) {
+            Some(jobs) => alone(Asked::Verify { jobs }, Rest::at(3, behind)),
+            None => Err(2),
+        },
+    }
+}
+
+// `verify` with its option.
+fn verify_from(words: &[String]) -> Result<Asked<'_>, usize>
+    requires { 2 + length words.now < 2 ^ 64 }
+    ensures asked { result_map_both request_of (λ place. place) result ≡ verify_with (behind_word (codes "--jobs") (map string_bytes words.now)) (map string_bytes words.now) }
+    ensures fitting { IfOk result IsFitting }
+{
+    match behind_word(words, b"--jobs") {
+        Some(behind) => jobs_from(behind),
+        None => alone(Asked::Verify { jobs: 1 }, Rest::at(1, words)),
+    }
+}
+
 // `gen` with its operands.
 fn generate_from(rest: Rest<'_>) -> Result<Asked<'_>, usize>
     requires { rest.place + length rest.words.now < 2 ^ 64 }
@@ -191,13 +218,10 @@ fn alone_named(name: &String) -> Option<Asked<'static>>
     if equal(name, b"play") {
         return Some(Asked::Play);
     }
-    if equal(name, b"verify") {
-        return Some(Asked::Verify);
-    }
     None
 }
 
-// The command with this name that takes operands, and the words behind it.
+// The command with this name that takes operands or options, and the words behind it.
 fn about_named<'a>(name: &String, words: &'a [String]) -> Result<Asked<'a>, usize>
     requires { 2 + length words.now < 2 ^ 64 }
     ensures asked { result_map_both request_of (λ place. place) result ≡ about_named (string_bytes name.now) (map string_bytes words.now) }
@@ -215,6 +239,9 @@ fn about_named<'a>(name: &String, words: &'a [String]) -> Result<Asked<'a>, usiz
     }
     if equal(name, b"bookmark") {
         return bookmark_from(words);
+    }
+    if equal(name, b"verify") {
+        return verify_from(words);
     }
     if equal(name, b"gen") {
         return generate_from(Rest::at(1, words));

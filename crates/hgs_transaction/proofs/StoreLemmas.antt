@@ -8,12 +8,13 @@ use Rattle.hgs_bytes.specs.Text.{line}
 use Rattle.hgs_files.specs.declared.op.Op.{Op}
 use Rattle.hgs_files.specs.declared.op.Op.TheVariants.{Append, Cut, Rename, Remove, Create, Sync, Settle}
 use Rattle.hgs_files.specs.Tree.{Tree, bytes_at}
+use Rattle.hgs_index.specs.Either.{chunk_bytes}
 use Rattle.hgs_index.specs.Revision.{Revision}
 use Rattle.hgs_model.specs.History.{history}
 use Rattle.hgs_model.specs.Repo.{Repo}
 use Rattle.hgs_model.specs.declared.command.Command.{Command}
 use Rattle.hgs_model.specs.declared.command.Command.TheVariants.{Commit, Move, Mark, Unmark}
-use Rattle.hgs_ops.specs.Growth.{append_some, filelog_growth, filelogs_grow, grown, growth, new_chunks, new_entries, new_items, new_names, new_paths}
+use Rattle.hgs_ops.specs.Growth.{append_some, filelog_growth, filelogs_grow, grown, grows_inline, growth, new_chunks, new_data, new_entries, new_items, new_names, new_paths}
 use Rattle.hgs_ops.specs.Operations.{changes_before, publishing}
 use Rattle.hgs_ops.specs.Replaced.{new_rename, new_roots, roots_change}
 use Rattle.hgs_path.specs.StoreName.{store_name}
@@ -41,27 +42,27 @@ some : (path bytes : List ℕ) → begins_with path (codes "store/") ≡ true �
 some path [] e = refl
 some path (b ∷ bytes) e = ap (λ x. x && true) e
 
-grown-in : (t : Tree) (index data_path : List ℕ) (old all : List Revision) → begins_with index (codes "store/") ≡ true → begins_with data_path (codes "store/") ≡ true → list_all op_in_store (grown t index data_path old all) ≡ true
-grown-in t index data_path old all e f =
-    let items = new_items (length (bytes_at t data_path)) old (drop (length old) all) in
-    two (append_some data_path (new_chunks items)) (append_some index (new_entries old items)) (some data_path (new_chunks items) f) (some index (new_entries old items) e)
+grown-in : (inline : Bool) (t : Tree) (index data_path : List ℕ) (old all : List Revision) → begins_with index (codes "store/") ≡ true → begins_with data_path (codes "store/") ≡ true → list_all op_in_store (grown inline t index data_path old all) ≡ true
+grown-in inline t index data_path old all e f =
+    let items = new_items (length (chunk_bytes inline (bytes_at t index) (bytes_at t data_path))) old (drop (length old) all) in
+    two (append_some data_path (new_data inline items)) (append_some index (new_entries inline old items)) (some data_path (new_data inline items) f) (some index (new_entries inline old items) e)
 
 filelogs-in : (t : Tree) (old new : List ℕ → List Revision) (paths : List (List ℕ)) → list_all op_in_store (filelogs_grow t old new paths) ≡ true
 filelogs-in t old new [] = refl
 filelogs-in t old new (path ∷ paths) =
-    two (filelog_growth t path (old path) (new path)) (filelogs_grow t old new paths) (grown-in t (store_name path I) (store_name path D) (old path) (new path) refl refl) (filelogs-in t old new paths)
+    two (filelog_growth t path (old path) (new path)) (filelogs_grow t old new paths) (grown-in (grows_inline (bytes_at t (store_name path I)) (old path) (new path)) t (store_name path I) (store_name path D) (old path) (new path) refl refl) (filelogs-in t old new paths)
 
 growth-in : (t : Tree) (r next : Repo) → list_all op_in_store (growth t r next) ≡ true
 growth-in t r next =
     let old = history r.changesets in
     let new = history next.changesets in
-    let names : List ℕ = flat_map line (new_names old.filelog (new_paths r next)) in
+    let names : List ℕ = flat_map line (new_names old.filelog new.filelog (new_paths r next)) in
     let chunks : List ℕ = new_chunks (new_items (length (bytes_at t changelog_data)) old.changelog (drop (length old.changelog) new.changelog)) in
     let filelogs : List Op = filelogs_grow t old.filelog new.filelog (new_paths r next) in
     let list : List Op = append_some fncache_path names in
-    let manifest : List Op = grown t manifest_index manifest_data old.manifest new.manifest in
+    let manifest : List Op = grown false t manifest_index manifest_data old.manifest new.manifest in
     two ((filelogs ++ list) ++ manifest) (append_some changelog_data chunks) (
-    two (filelogs ++ list) manifest (two filelogs list (filelogs-in t old.filelog new.filelog (new_paths r next)) (some fncache_path names refl)) (grown-in t manifest_index manifest_data old.manifest new.manifest refl refl))
+    two (filelogs ++ list) manifest (two filelogs list (filelogs-in t old.filelog new.filelog (new_paths r next)) (some fncache_path names refl)) (grown-in false t manifest_index manifest_data old.manifest new.manifest refl refl))
     (some changelog_data chunks refl)
 
 roots-in : (b : Bool) (next : Repo) → list_all op_in_store (if b then new_rename (new_roots next) ∷ [] else []) ≡ true

@@ -1,5 +1,5 @@
 -- The counts of a report.
-use Rattle.std.proofs.Common.{◌≡◌, ℕ, List, length, sym, ◌∙◌, ap}
+use Rattle.std.proofs.Common.{◌≡◌, length, sym, ◌∙◌, ap}
 use Rattle.std.proofs.lemmas.List.{length-map}
 use Rattle.hgs_files.specs.Tree.{Tree}
 use Rattle.hgs_index.specs.declared.entry.Entry.{Entry}

@@ -1,16 +1,20 @@
 -- Files that were read whole.
-use Rattle.std.proofs.Common.{◌++◌, append_assoc, ◌≡◌, ℕ, zero, suc, ◌<◌, ◌≤◌, List, [], ◌∷◌, length, take, drop, refl, sym, ◌∙◌, ap, subst, arith}
+use Rattle.std.proofs.Common.{◌++◌, append_assoc, ◌≡◌, ℕ, zero, suc, ◌<◌, ◌≤◌, List, [], ◌∷◌, true, false, cond, length, take, drop, refl, sym, ◌∙◌, ap, subst, arith}
 use Rattle.std.specs.Prelude.{Option, Some, None, IfSome, option_map, unwrap_or}
 use Rattle.std.proofs.lemmas.List.{length-take}
 use Rattle.hgs_files.specs.declared.op.Op.{Op}
 use Rattle.hgs_files.specs.Reads.{Grows}
 use Rattle.hgs_files.specs.Tree.{Tree, after_all, bytes_at}
-use Rattle.hgs_findings.specs.OnePath.{Word}
-use Rattle.hgs_judge.specs.declared.path.PathFindings.{PathFindings}
-use Rattle.hgs_judge.specs.Path.{IsJudged}
+use Rattle.hgs_index.specs.Either.{chunk_bytes, chunks_either}
+use Rattle.hgs_index.specs.Inline.{chunks_apart, entries_in, index_apart, is_inline, without_inline}
+use Rattle.hgs_path.specs.declared.name.Ext.TheVariants.{I, D}
+use Rattle.hgs_path.specs.StoreName.{store_name}
+use Rattle.hgs_findings.specs.Reading.{data_in, index_in, the_filelog}
 use Rattle.hgs_load.specs.Asks.{part_of}
+use Rattle.hgs_verify.specs.declared.revlog.Parts.{Parts}
+use Rattle.hgs_verify.specs.Parts.{AreBytes}
 
-take-whole : (xs : List ℕ) (i : ℕ) → length xs ≤ i → take i xs ≡ xs
+pub take-whole : (xs : List ℕ) (i : ℕ) → length xs ≤ i → take i xs ≡ xs
 take-whole [] zero h = refl
 take-whole [] (suc i) h = refl
 take-whole (x ∷ xs) zero h = absurd (omega (arith, h))
@@ -27,17 +31,7 @@ pub file-read : (seen : Option (List Op)) (start : Tree) (path : List ℕ) (part
 file-read None start path part most e lt = tt
 file-read (Some log) start path part most e lt = whole-file (after_all log start path) part most e lt
 
--- two files that were read of one tree
-pub both-read : (before seen : Option (List Op)) (first start : Tree) (index chunks : List ℕ) (a b : Option (List ℕ)) (all : List Word) (f : PathFindings) → seen ≡ before → start ≡ first → IfSome before (λ log. a ≡ after_all log first index) → IfSome seen (λ log. b ≡ after_all log start chunks)
-    → IsJudged (unwrap_or a []) (unwrap_or b []) all f → IfSome seen (λ log. IsJudged (bytes_at (after_all log start) index) (bytes_at (after_all log start) chunks) all f)
-both-read before seen first start index chunks a b all f same_log same_start left right judged =
-    by seen (subst (λ o. IfSome o (λ log. a ≡ after_all log start index)) (sym same_log) (subst (λ t. IfSome before (λ log. a ≡ after_all log t index)) (sym same_start) left)) right
-  where
-    by : (o : Option (List Op)) → IfSome o (λ log. a ≡ after_all log start index) → IfSome o (λ log. b ≡ after_all log start chunks) → IfSome o (λ log. IsJudged (bytes_at (after_all log start) index) (bytes_at (after_all log start) chunks) all f)
-    by None p q = tt
-    by (Some log) p q = subst (λ x. IsJudged (unwrap_or x []) (unwrap_or (after_all log start chunks) []) all f) p (subst (λ x. IsJudged (unwrap_or a []) (unwrap_or x []) all f) q judged)
-
--- the same of any fact of two files
+-- a fact of two files that were read of one tree
 pub both-are : (before seen : Option (List Op)) (first start : Tree) (index chunks : List ℕ) (a b : Option (List ℕ)) (P : List ℕ → List ℕ → Type 0) → seen ≡ before → start ≡ first → IfSome before (λ log. a ≡ after_all log first index) → IfSome seen (λ log. b ≡ after_all log start chunks)
     → P (unwrap_or a []) (unwrap_or b []) → IfSome seen (λ log. P (bytes_at (after_all log start) index) (bytes_at (after_all log start) chunks))
 both-are before seen first start index chunks a b P same_log same_start left right fact =
@@ -80,3 +74,21 @@ grows-on (Some log) b c p q = by b p.1 q
       where
         some-same : (x y : List Op) → Some x ≡ Some y → x ≡ y
         some-same x y h = ap (elim [ None ↦ x | Some z ↦ z ]) h
+
+-- ---- revlogs
+
+-- an index that says that it is inline, taken apart, and one that does not, as it stands
+pub taken-apart : (index other data_bytes : List ℕ) (p : Parts) → index ≡ other → is_inline index ≡ true → AreBytes p (index_apart index) (chunks_apart index) → AreBytes p (index_apart other) (chunks_either other data_bytes)
+taken-apart index other data_bytes p same form are =
+    (are.0 ∙ ap index_apart same, are.1 ∙ ap chunks_apart same ∙ sym (ap (λ b. chunk_bytes b other data_bytes) (ap is_inline (sym same) ∙ form)))
+
+pub as-it-stands : (index data_bytes : List ℕ) (p : Parts) → is_inline index ≡ false → AreBytes p index data_bytes → AreBytes p (index_apart index) (chunks_either index data_bytes)
+as-it-stands index data_bytes p form are =
+    (are.0 ∙ sym (ap (λ b. cond b (without_inline (entries_in (length index) index)) index) form), are.1 ∙ sym (ap (λ b. chunk_bytes b index data_bytes) form))
+
+-- a filelog that was read in either form
+pub filelog-read : (t : Tree) (path index chunks : List ℕ) (p : Parts) → index ≡ store_name path I → chunks ≡ store_name path D → AreBytes p (index_apart (bytes_at t index)) (chunks_either (bytes_at t index) (bytes_at t chunks))
+    → AreBytes p (index_in t (the_filelog path)) (data_in t (the_filelog path))
+filelog-read t path index chunks p i d are =
+    subst (λ x. AreBytes p (index_apart (bytes_at t x)) (chunks_either (bytes_at t x) (bytes_at t (store_name path D)))) i
+    (subst (λ x. AreBytes p (index_apart (bytes_at t index)) (chunks_either (bytes_at t index) (bytes_at t x))) d are)

@@ -1,18 +1,15 @@
 -- What `requires` says where it is of the profile, and which refusals there are.
-use Rattle.std.proofs.Common.{◌≡◌, Bool, true, false, cond, not, ◌&&◌, List, [], ◌∷◌, refl, sym, ◌∙◌, ap, ℕ}
+use Rattle.std.proofs.Common.{◌≡◌, Bool, true, false, cond, not, ◌&&◌, List, [], ◌∷◌, refl, ℕ}
 use Rattle.std.specs.Prelude.{Option, Some, None, Result, Ok, Err, find}
-use Rattle.std.specs.Bool.{MatchBool}
 use Rattle.std.specs.List.{list_all}
 use Rattle.hgs_bytes.specs.Bytes.{among}
 use Rattle.hgs_files.specs.Tree.{Tree}
 use Rattle.hgs_model.specs.History.{first_of}
 use Rattle.hgs_load.specs.declared.answer.ReadAnswer.{ReadAnswer}
-use Rattle.hgs_load.specs.declared.answer.ReadAnswer.TheVariants.{Damaged, Fault, Limit, UnknownPath, NotARepository, Requirement, Memory}
-use Rattle.hgs_load.specs.Answer.{is_of_outside}
+use Rattle.hgs_load.specs.declared.answer.ReadAnswer.TheVariants.{NotARepository, Requirement}
 use Rattle.hgs_load.specs.Open.{requires_path}
 use Rattle.hgs_load.specs.Requirements.{first_lacking, first_unknown, requirement_answer, requires_answer, words_of}
 use Rattle.hgs_stands.specs.Requires.{IsInProfile, needed, profile}
-use Rattle.hgs_verify.specs.Refusal.{is_refusal}
 
 never : {A : Type 0} → true ≡ false → A
 never e = absurd (no_case e)

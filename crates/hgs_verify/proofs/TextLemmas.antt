@@ -1,6 +1,6 @@
 -- Small files that were read.
-use Rattle.std.proofs.Common.{◌≡◌, ℕ, zero, suc, ◌+◌, ◌++◌, Bool, true, false, not, nat_eq, List, [], ◌∷◌, append_assoc, append-nil, take, refl, sym, ◌∙◌, ap, arith}
-use Rattle.std.specs.Prelude.{Option, Some, None, is_some, unwrap_or, length, slice_get, flat_map, ◌==◌}
+use Rattle.std.proofs.Common.{◌≡◌, ℕ, zero, suc, ◌+◌, ◌++◌, not, List, [], ◌∷◌, append_assoc, append-nil, take, sym, ◌∙◌, ap, arith}
+use Rattle.std.specs.Prelude.{Option, Some, None, is_some, unwrap_or, length, slice_get, ◌==◌}
 use Rattle.hgs_files.specs.Reads.{IsSizeOf}
 use Rattle.hgs_files.specs.Tree.{Tree, bytes_at}
 use Rattle.hgs_findings.specs.Findings.{Finding}

@@ -3,14 +3,12 @@ use Rattle.std.proofs.Common.{◌≡◌, ◌⊎◌, ℕ, zero, suc, ◌<◌, Lis
 use Rattle.std.specs.Prelude.{Option, Some, None, option_map, slice_get, slice_index_or, ◌==◌}
 use Rattle.std.specs.List.{AllByRecursion, list_any}
 use Rattle.std.specs.Cmp.Lexicographic.{bytes_decides}
-use Rattle.std.proofs.lemmas.List.{length-map}
 use Rattle.std.proofs.lemmas.Option.{slice_get-map, slice_get_within}
 use Rattle.hgs_bytes.specs.Bytes.{same, among}
 use Rattle.hgs_files.specs.Tree.{Tree}
 use Rattle.hgs_index.specs.ChangeText.{Change}
-use Rattle.hgs_index.specs.Revision.{Revision}
 use Rattle.hgs_findings.specs.Findings.{Finding, IsFinding, is_finding}
-use Rattle.hgs_findings.specs.OnePath.{Word, words, word_of, lists_word_wrongly}
+use Rattle.hgs_findings.specs.OnePath.{words, word_of, lists_word_wrongly}
 use Rattle.hgs_findings.specs.Reading.{sight_of}
 use Rattle.hgs_findings.specs.Regular.{used_paths, is_used}
 use Rattle.hgs_findings.specs.Sight.{Sight, Seen, seen, is_wrongly_listed}
@@ -19,8 +17,7 @@ use Rattle.hgs_judge.specs.Words.{is_listed_wrongly, where_listed}
 use Rattle.hgs_report.specs.Adds.{Adds}
 use Rattle.hgs_report.specs.Lists.{AreLists, AreUnusedLists, ListsWrongly}
 use Rattle.hgs_report.specs.Parts.{IsOfPaths, found}
-use Rattle.hgs_verify.specs.Added.{AddsPath}
-use Rattle.hgs_verify.specs.Walk.{AddPaths, AreMarked}
+use Rattle.hgs_verify.specs.Walk.{AddPaths}
 
 pub never : {A : Type 0} → true ≡ false → A
 never e = absurd (no_case e)

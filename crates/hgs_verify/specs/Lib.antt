@@ -1,5 +1,8 @@
 pub mod Added
-pub mod Filelog
+pub mod Inline
+pub mod Looked
+pub mod Parts
 pub mod Refusal
 pub mod Report
+pub mod Task
 pub mod Walk

@@ -1,5 +1,5 @@
 -- What files that stand beside a store add to its findings, and the report.
-use Rattle.std.specs.Prelude.{◌≡◌, ◌==◌, ℕ, List, not, length, flat_map, is_some}
+use Rattle.std.specs.Prelude.{◌==◌, ℕ, List, not, length, flat_map, is_some}
 use Rattle.hgs_files.specs.Tree.{Tree, bytes_at}
 use Rattle.hgs_findings.specs.Findings.{Finding, IsReport}
 use Rattle.hgs_judge.specs.Report.{findings_in}

@@ -1,5 +1,5 @@
 //! The report of a store.
-ghost use Rattle.std.specs.Prelude.{◌≡◌, IfOk, OnOk, Ok, true, length, IfErr};
+ghost use Rattle.std.specs.Prelude.{◌≡◌, ◌≤◌, IfOk, OnOk, Ok, true, length, IfErr};
 ghost use Rattle.hgs_verify.specs.Refusal.{is_refusal};
 ghost use Rattle.hgs_load.specs.Open.{requires_path};
 ghost use Rattle.hgs_load.specs.Requirements.{requires_answer};
@@ -14,9 +14,11 @@ ghost use Rattle.hgs_report.specs.Names.{IsOfNames, IsOfUnused};
 ghost use Rattle.hgs_report.specs.Parts.{AreParts, IsOfCalls, IsOfPaths};
 ghost use Rattle.hgs_report.specs.Store.{IsOfStore, IsStoreOf};
 ghost use Rattle.hgs_report.specs.Texts.{IsOfBookmarks, IsOfDirstate, IsOfRoots};
-ghost use Rattle.hgs_verify.specs.Filelog.{OfTree};
+ghost use Rattle.hgs_verify.specs.Looked.{OfTree};
 ghost use Rattle.hgs_verify.specs.Report.{AddsBeside, AddsPaths, AddsSmall, IsReportOf};
 
+use crate::inline::inline_filelogs;
+use crate::judging::Workers;
 use crate::store::read_store;
 use crate::texts::{
     add_bookmarks_file, add_calls, add_dirstate_file, add_names_file, add_roots_file, add_unused,
@@ -35,6 +37,7 @@ use hgs_report::lists::{add_marked, wrong_lists};
 use hgs_report::store::{LogPaths, Store, add_store};
 use std::alloc::{AllocError, Global};
 use std::collections::BTreeSet;
+use std::thread::Threads;
 
 /// Paths have numbers below this.
 const MOST: usize = 0x1_0000_0000;
@@ -81,13 +84,15 @@ fn add_listed<R: Reads>(
     ensures refused { IfErr result (λ e. is_refusal e ≡ true) }
 {
     unused_that_stand();
-    let unused = add_names_file(alloc, files, used, into)?;
+    let inline = inline_filelogs(alloc, files, used)?;
+    let unused = add_names_file(alloc, files, used, &inline, into)?;
     add_unused(alloc, files, &unused, into)?;
     Ok(())
 }
 
 // Adds what is found of the used paths, and of the lists of changed files.
-fn add_paths<R: Reads>(
+fn add_paths<T: Threads + Sync, R: Reads>(
+    workers: &Workers<'_, T>,
     alloc: Global,
     files: &mut R,
     store: &Store,
@@ -104,13 +109,14 @@ fn add_paths<R: Reads>(
     one_path();
     path_findings();
     let mut marks = wrong_lists(alloc, store, &used)?;
-    judge_paths(alloc, files, store, used, into, &mut marks)?;
+    judge_paths(workers, alloc, files, store, used, into, &mut marks)?;
     add_marked(alloc, &paths.changelog, &marks, into)?;
     Ok(())
 }
 
 // Everything that is found of a store with these used paths.
-fn gather<R: Reads>(
+fn gather<T: Threads + Sync, R: Reads>(
+    workers: &Workers<'_, T>,
     alloc: Global,
     files: &mut R,
     store: &Store,
@@ -128,7 +134,7 @@ fn gather<R: Reads>(
     add_store(alloc, &paths, store, &mut found)?;
     add_small(alloc, files, store, &mut found)?;
     add_listed(alloc, files, &used, &mut found)?;
-    add_paths(alloc, files, store, &paths, used, &mut found)?;
+    add_paths(workers, alloc, files, store, &paths, used, &mut found)?;
     Ok(found)
 }
 
@@ -143,7 +149,12 @@ fn count_of(used: &BTreeSet<Bytes>) -> Result<u32, AllocError>
 }
 
 // The report of a store whose changelog and manifest were read.
-fn report_of<R: Reads>(alloc: Global, files: &mut R, store: &Store) -> Result<Report, ReadAnswer>
+fn report_of<T: Threads + Sync, R: Reads>(
+    workers: &Workers<'_, T>,
+    alloc: Global,
+    files: &mut R,
+    store: &Store,
+) -> Result<Report, ReadAnswer>
     ensures report { IfOk result (λ report. OfTree R.alone (R.seen files.new) (R.start files.new) (λ t. IsStoreOf store.now t → IsReportOf report t)) }
     ensures same_start { R.start files.new ≡ R.start files.old }
     ensures still { R.alone ≡ true → R.seen files.new ≡ R.seen files.old }
@@ -153,7 +164,7 @@ fn report_of<R: Reads>(alloc: Global, files: &mut R, store: &Store) -> Result<Re
     parts_make_report();
     let used = used_paths(alloc, &store.trees, &store.changesets)?;
     let filelogs = count_of(&used)?;
-    let found = gather(alloc, files, store, used)?;
+    let found = gather(workers, alloc, files, store, used)?;
     let findings = in_order(found)?;
     Ok(Report {
         changesets: store.changelog.reading.log.len(),
@@ -162,11 +173,19 @@ fn report_of<R: Reads>(alloc: Global, files: &mut R, store: &Store) -> Result<Re
     })
 }
 
-/// Verifies a store: everything that is wrong with it, and nothing that is not. One filelog is in memory at a time.
+/// Verifies a store: everything that is wrong with it, and nothing that is not. The caller reads, and at most so many threads
+/// judge the filelogs of one batch after another; the report is the same for each number of them.
 ///
 /// It is refused as any question is where there is no repository or one of another profile, for a fault of the files, where a
 /// file passes a limit, and for want of memory; damage is a finding.
-pub fn verify<R: Reads>(alloc: Global, files: &mut R) -> Result<Report, ReadAnswer>
+pub fn verify<T: Threads + Sync, R: Reads>(
+    rt: &T,
+    alloc: Global,
+    files: &mut R,
+    jobs: u32,
+) -> Result<Report, ReadAnswer>
+    requires some { 1 ≤ jobs }
+    requires most { jobs ≤ 64 }
     ensures report { IfOk result (λ report. OfTree R.alone (R.seen files.new) (R.start files.new) (IsReportOf report)) }
     ensures required { OnOk result (OfTree R.alone (R.seen files.new) (R.start files.new) (λ t. requires_answer (t requires_path) ≡ Ok tt)) }
     ensures same_start { R.start files.new ≡ R.start files.old }
@@ -176,6 +195,6 @@ pub fn verify<R: Reads>(alloc: Global, files: &mut R) -> Result<Report, ReadAnsw
 {
     test_requires(alloc, files)?;
     let store = read_store(alloc, files)?;
-    let report = report_of(alloc, files, &store)?;
+    let report = report_of(&Workers::new(rt, jobs), alloc, files, &store)?;
     Ok(report)
 }

@@ -8,11 +8,11 @@ ghost use Rattle.hgs_findings.specs.Regular.{used_paths};
 ghost use Rattle.hgs_judge.specs.Report.{findings_in};
 ghost use Rattle.hgs_load.specs.Answer.{HasFaultCause};
 ghost use Rattle.hgs_report.specs.Adds.{Adds};
-ghost use Rattle.hgs_report.specs.Names.{IsOfNames, unused_in};
+ghost use Rattle.hgs_report.specs.Names.{AreInline, IsOfNames, unused_in};
 ghost use Rattle.hgs_report.specs.Parts.{IsOfCalls};
 ghost use Rattle.hgs_report.specs.Store.{IsStoreOf};
 ghost use Rattle.hgs_report.specs.Texts.{IsOfBookmarks, IsOfDirstate, IsOfRoots};
-ghost use Rattle.hgs_verify.specs.Filelog.{OfTree};
+ghost use Rattle.hgs_verify.specs.Looked.{OfTree};
 ghost use Rattle.hgs_verify.specs.Report.{of_all_unused, of_standing, of_unused};
 
 use crate::whole::{read_text, size_of};
@@ -99,14 +99,16 @@ pub fn add_dirstate_file<R: Reads>(
     Ok(())
 }
 
-/// Reads the list of filelogs' files, adds what is found of it, and hands back the files of the names that no path uses.
+/// Reads the list of filelogs' files, adds what is found of it, and hands back the files of the names that no path uses. Some of
+/// the used paths have inline filelogs.
 pub fn add_names_file<R: Reads>(
     alloc: Global,
     files: &mut R,
     used: &BTreeSet<Bytes>,
+    inline: &BTreeSet<Vec<u8>>,
     into: &mut Vec<Finding>,
 ) -> Result<Vec<StorePath>, ReadAnswer>
-    ensures added { IfOk result (λ unused. OfTree R.alone (R.seen files.new) (R.start files.new) (λ t. used.now.keys ≡ used_paths (sight_of t) → Adds t (IsOfNames t) (findings_in into.old.items) (findings_in into.new.items) × (unused.items ≡ unused_in t))) }
+    ensures added { IfOk result (λ unused. OfTree R.alone (R.seen files.new) (R.start files.new) (λ t. used.now.keys ≡ used_paths (sight_of t) → AreInline t inline.now.keys → Adds t (IsOfNames t) (findings_in into.old.items) (findings_in into.new.items) × (unused.items ≡ unused_in t))) }
     ensures same_start { R.start files.new ≡ R.start files.old }
     ensures still { R.alone ≡ true → R.seen files.new ≡ R.seen files.old }
     ensures cause { HasFaultCause (R.faults files.old) (R.faults files.new) (R.denied files.old) (R.denied files.new) result }
@@ -114,7 +116,7 @@ pub fn add_names_file<R: Reads>(
 {
     let path = path_of(alloc, b"store/fncache")?;
     let text = read_text(alloc, files, &path, MOST_FNCACHE)?;
-    let unused = add_used_names(alloc, &path, bytes_of(&text), used, into)?;
+    let unused = add_used_names(alloc, &path, bytes_of(&text), used, inline, into)?;
     Ok(unused)
 }
 

@@ -13,9 +13,9 @@ use Rattle.hgs_path.specs.declared.name.Ext.TheVariants.{I, D}
 use Rattle.hgs_path.specs.StoreName.{store_name}
 use Rattle.hgs_phases.specs.Roots.{read_roots}
 use Rattle.hgs_stands.specs.Places.{requires_path, bookmarks_path, dirstate_path, roots_path, changelog_index, changelog_data, manifest_index, manifest_data}
-use Rattle.hgs_stands.specs.Shows.{BeginsAt, Shows}
+use Rattle.hgs_stands.specs.Shows.{BeginsApart, BeginsAt, Shows}
 use Rattle.hgs_views.specs.Course.{Course, IsBetween, IsCourse, IsStep, KeepsFronts, AreSame, tree_after, whole_files}
-use Rattle.hgs_views.proofs.Basics.{same_path-eq, with_file-other, after_all-append, other-path, prefix-refl, prefix-trans}
+use Rattle.hgs_views.proofs.Basics.{begins-on, same_path-eq, with_file-other, after_all-append, other-path, prefix-refl, prefix-trans}
 use Rattle.hgs_views.proofs.CourseLemmas.{stepped}
 
 -- ---- trees that grow
@@ -60,8 +60,11 @@ append-goes-on t path bytes apart =
         (bytes, ap (λ b. unwrap_or (cond b (Some (bytes_at t path ++ bytes)) (t other)) []) e ∙ ap (λ p. bytes_at t p ++ bytes) (same_path-eq path other e))
     by other false e = ([], ap (λ b. unwrap_or (cond b (Some (bytes_at t path ++ bytes)) (t other)) []) e ∙ sym (append-nil (bytes_at t other)))
 
-begins-on : (t u : Tree) (index chunks : List ℕ) (revisions : List Revision) → GoesOn t u → BeginsAt t index chunks revisions → BeginsAt u index chunks revisions
-begins-on t u index chunks revisions g b = record {
+log-on : (t u : Tree) (index chunks : List ℕ) (revisions : List Revision) → GoesOn t u → BeginsAt t index chunks revisions → BeginsAt u index chunks revisions
+log-on t u index chunks revisions g b = begins-on (bytes_at t index) (bytes_at t chunks) (bytes_at u index) (bytes_at u chunks) revisions (g.fronts index) (g.fronts chunks) b
+
+apart-on : (t u : Tree) (index chunks : List ℕ) (revisions : List Revision) → GoesOn t u → BeginsApart t index chunks revisions → BeginsApart u index chunks revisions
+apart-on t u index chunks revisions g b = record {
   index_front = b.index_front;
   data_front = b.data_front;
   held = b.held;
@@ -74,9 +77,9 @@ shows-on t u marked worked r g s = record {
   requires = record { text = s.requires.text; there = g.requires ∙ s.requires.there; known = s.requires.known; whole = s.requires.whole };
   revlogs = record {
     whole = s.revlogs.whole ∙ sym (ap (λ l. length l / 64) (bytes-same t u changelog_index g.changelog));
-    changelog = begins-on t u changelog_index changelog_data _ g s.revlogs.changelog;
-    manifest = begins-on t u manifest_index manifest_data _ g s.revlogs.manifest;
-    filelogs = λ path used. begins-on t u (store_name path I) (store_name path D) _ g (s.revlogs.filelogs path used);
+    changelog = apart-on t u changelog_index changelog_data _ g s.revlogs.changelog;
+    manifest = log-on t u manifest_index manifest_data _ g s.revlogs.manifest;
+    filelogs = λ path used. log-on t u (store_name path I) (store_name path D) _ g (s.revlogs.filelogs path used);
   };
   phases = record { roots = s.phases.roots; text = ap read_roots (bytes-same t u roots_path g.roots) ∙ s.phases.text; phases = s.phases.phases };
   bookmarks = ap read_bookmarks (bytes-same t u bookmarks_path g.bookmarks) ∙ s.bookmarks;

@@ -1,8 +1,10 @@
 -- Truth values, equal bytes, fronts, files of a tree, and questions one after another.
 use Rattle.hgs_revlog.specs.Held.{AreWithinLimits}
+use Rattle.hgs_index.specs.Either.{BeginsEither}
 use Rattle.hgs_index.specs.Revlog.{BeginsWithRevisions}
+use Rattle.hgs_index.specs.Theorems.EitherLemmas.{either-more}
 use Rattle.hgs_index.specs.Revision.{Revision}
-use Rattle.std.proofs.Common.{◌≡◌, ℕ, zero, suc, List, [], ◌∷◌, ◌++◌, Bool, true, false, cond, ◌&&◌, Option, Some, None, Result, Ok, Err, length, take, drop, refl, sym, ◌∙◌, ap, arith, append-nil, append_assoc, length-append}
+use Rattle.std.proofs.Common.{◌≡◌, ℕ, zero, suc, List, [], ◌∷◌, ◌++◌, Bool, true, false, cond, ◌&&◌, Option, Some, None, Result, Ok, Err, length, take, drop, refl, sym, ◌∙◌, ap, subst, arith, append-nil, append_assoc, length-append}
 use Rattle.std.specs.Prelude.{slice_get, unwrap_or, ⊤}
 use Rattle.std.specs.Bool.{MatchBool}
 use Rattle.std.specs.Cmp.{Equal-is}
@@ -135,3 +137,12 @@ front-limits index data_bytes revisions begins within = record {
   texts = within.texts;
   data_end = (let room = within.data_end in let parts = ap length begins.data_begins.1 in let sum = length-append begins.data_front begins.data_begins.0 in omega (arith, room, parts, sum));
 }
+
+-- bytes that go on from others begin with the revisions that these begin with, in the form that the index says
+pub begins-on : (index data_bytes index_on data_on : List ℕ) (revisions : List Revision) → IsPrefixOf index index_on → IsPrefixOf data_bytes data_on → BeginsEither index data_bytes revisions → BeginsEither index_on data_on revisions
+begins-on index data_bytes index_on data_on revisions p q b =
+    subst (λ i. BeginsEither i data_on revisions) (sym p.1) (subst (λ d. BeginsEither (index ++ p.0) d revisions) (sym q.1) (either-more index data_bytes p.0 q.0 revisions b))
+
+-- and so do equal ones
+pub begins-same : (index data_bytes index_on data_on : List ℕ) (revisions : List Revision) → index_on ≡ index → data_on ≡ data_bytes → BeginsEither index data_bytes revisions → BeginsEither index_on data_on revisions
+begins-same index data_bytes index_on data_on revisions p q b = subst (λ i. BeginsEither i data_on revisions) (sym p) (subst (λ d. BeginsEither index d revisions) (sym q) b)

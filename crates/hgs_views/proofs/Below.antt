@@ -34,14 +34,14 @@ use Rattle.hgs_revlog.specs.Text.{text_of}
 use Rattle.hgs_load.specs.declared.answer.ReadAnswer.{ReadAnswer}
 use Rattle.hgs_load.specs.Asks.{at_rest, MayAnswer}
 use Rattle.hgs_reader.specs.Find.{has_node, separate_asks, text_asks}
-use Rattle.hgs_reader.specs.Held.{HasText}
+use Rattle.hgs_reader.specs.Held.{HasSeparateText}
 use Rattle.hgs_reader.specs.Line.{change_asks}
 use Rattle.hgs_load.specs.Marks.{working_answer}
 use Rattle.hgs_load.specs.Open.{most_requires, requires_path, requires_asks, bookmarks_asks, dirstate_asks, roots_asks}
 use Rattle.hgs_load.specs.View.{View}
 use Rattle.hgs_stands.specs.Places.{changelog_data, own_files}
 use Rattle.hgs_stands.specs.Requires.{IsInProfile}
-use Rattle.hgs_stands.specs.Shows.{BeginsAt, Shows}
+use Rattle.hgs_stands.specs.Shows.{BeginsApart, BeginsAt, Shows}
 use Rattle.hgs_stands.specs.Stands.{Stands, changeset_entries, entries_of, mark_of}
 use Rattle.hgs_shown.specs.Found.{HasPathOf, IsFound}
 use Rattle.hgs_shown.specs.Limits.{OpensWithin, IsSmallTree}
@@ -52,9 +52,9 @@ use Rattle.hgs_views.specs.Moments.{StaysAt}
 abbrev pub ParentsLaw : Type 0
 ParentsLaw = (index data_bytes : List ℕ) (entries : List Entry) (revisions : List Revision) → Agrees index data_bytes entries revisions → history_of entries ≡ parents_in revisions
 
--- a revision is what a search by its node finds
+-- a revision of a separate revlog is what a search by its node finds
 abbrev pub TextLaw : Type 0
-TextLaw = (t : Tree) (index chunks : List ℕ) (revisions : List Revision) (rev : ℕ) (node text : List ℕ) → BeginsAt t index chunks revisions → AreWithinLimits revisions (bytes_at t chunks) → rev < length revisions → node_at revisions rev ≡ node → text_at revisions rev ≡ text → HasText t index chunks node text
+TextLaw = (t : Tree) (index chunks : List ℕ) (revisions : List Revision) (rev : ℕ) (node text : List ℕ) → BeginsApart t index chunks revisions → AreWithinLimits revisions (bytes_at t chunks) → rev < length revisions → node_at revisions rev ≡ node → text_at revisions rev ≡ text → HasSeparateText t index chunks node text
 
 -- files that stand for a repository show it
 abbrev pub ShowsLaw : Type 0
@@ -91,10 +91,10 @@ ChangelogLaw = (front all : List Changeset) → IsPrefixOf front all → IsPrefi
 abbrev pub BeforeLaw : Type 0
 BeforeLaw = (h : List Parents) (child parent : ℕ) → ParentsBefore 0 h → IsParent h parent child → parent < child
 
--- what a text by its node needs
+-- what a text by its node needs in a separate revlog
 pub record TextLaws : Type 0 where
   pub found : TextLaw
-  pub held : (t : Tree) (index chunks node text : List ℕ) → HasText t index chunks node text → at_rest t (separate_asks index chunks node) ≡ Ok text
+  pub held : (t : Tree) (index chunks node text : List ℕ) → HasSeparateText t index chunks node text → at_rest t (separate_asks index chunks node) ≡ Ok text
   pub loads : (index data_bytes : List ℕ) (revisions : List Revision) (node : Node) → (begins : BeginsWithRevisions index data_bytes revisions) → EndsFirstAt node.0 revisions → AreWithinLimits revisions begins.data_front
       → (log : Log) × (loaded (Until node) index ≡ Ok log) × (read_all log.entries data_bytes ≡ Ok revisions) × Agrees begins.index_front begins.data_front log.entries revisions
   pub last : (index : List ℕ) (log : Log) (node : Node) → loaded (Until node) index ≡ Ok log → (before : ℕ) × (has_node node.0 before index ≡ false) × (has_node node.0 (suc before) index ≡ true) × (64 * suc before ≤ length index)
@@ -154,7 +154,7 @@ pub record ContentLaws : Type 0 where
   pub manifest : (front all : List Changeset) → IsPrefixOf front all → IsPrefixOf (history front).manifest (history all).manifest
   pub filelogs : (front all : List Changeset) (path : List ℕ) → IsPrefixOf front all → IsPrefixOf ((history front).filelog path) ((history all).filelog path)
   pub not_null : (t : Tree) (index chunks : List ℕ) (revisions : List Revision) (rev : ℕ) (node : List ℕ) → BeginsAt t index chunks revisions → rev < length revisions → node_at revisions rev ≡ node → same node null_node ≡ false
-  pub change : (t : Tree) (view : View) (rev : ℕ) (entry : Entry) (text : List ℕ) (change : Change) → slice_get view.changelog.entries rev ≡ Some entry → text_of view.changelog.entries rev (chunk_in (bytes_at t changelog_data) entry) ≡ Ok text → read_change text ≡ Ok change
+  pub change : (t : Tree) (view : View) (rev : ℕ) (entry : Entry) (text : List ℕ) (change : Change) → view.changelog.inline ≡ false → slice_get view.changelog.entries rev ≡ Some entry → text_of view.changelog.entries rev (chunk_in (bytes_at t changelog_data) entry) ≡ Ok text → read_change text ≡ Ok change
       → at_rest t (change_asks view rev) ≡ Ok change
   pub rows : (last : List ℕ) (rows : List Row) → AscendFrom last rows → AllByRecursion (IsFound rows) rows
   pub others : (path : List ℕ) (tree : List TreeFile) (rows : List Row) → AllZip HasPathOf tree rows → among path (tree_paths tree) ≡ false → found_in path rows ≡ None

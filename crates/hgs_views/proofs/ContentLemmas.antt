@@ -1,5 +1,5 @@
 -- Each changeset, its files and their bodies, while writers are at work.
-use Rattle.std.proofs.Common.{◌≡◌, ℕ, zero, suc, ◌+◌, ◌<◌, ◌≤◌, List, [], ◌∷◌, ◌++◌, true, false, cond, length, map, ◌||◌, Some, None, Option, Result, Ok, Err, refl, sym, ◌∙◌, ap, subst, arith, append-nil, length-append, take}
+use Rattle.std.proofs.Common.{◌≡◌, ℕ, zero, suc, ◌<◌, ◌≤◌, List, [], ◌∷◌, ◌++◌, true, false, cond, length, map, ◌||◌, Some, None, Option, Result, Ok, Err, refl, sym, ◌∙◌, ap, subst, arith, append-nil, length-append, take}
 use Rattle.std.specs.Prelude.{slice_get, nat_lt}
 use Rattle.std.specs.List.{AllByRecursion, AllZip, list_all, list_any}
 use Rattle.std.proofs.lemmas.Bool.Decides.{nat_tests}
@@ -11,10 +11,12 @@ use Rattle.hgs_files.specs.Tree.{Tree, bytes_at, after_all}
 use Rattle.hgs_index.specs.declared.entry.Entry.{Entry}
 use Rattle.hgs_index.specs.declared.kinds.Which.TheVariants.{FileText, Tree as TooMany}
 use Rattle.hgs_index.specs.ChangeText.{Change, read_change}
+use Rattle.hgs_index.specs.Either.{chunks_either}
 use Rattle.hgs_index.specs.FileText.{unpacked, body_of}
 use Rattle.hgs_index.specs.Manifest.{Row, manifest_text, read_manifest}
 use Rattle.hgs_index.specs.Revision.{Revision}
 use Rattle.hgs_index.specs.Revlog.{BeginsWithRevisions}
+use Rattle.hgs_index.specs.Theorems.EitherLemmas.{either-begins}
 use Rattle.hgs_index.specs.TrackedPath.{is_tracked}
 use Rattle.hgs_manifest.specs.Held.{found_in}
 use Rattle.hgs_model.specs.Held.{IsHeld, IsPlacedIn}
@@ -28,6 +30,7 @@ use Rattle.hgs_revlog.specs.declared.fault.RevFault.{RevFault}
 use Rattle.hgs_revlog.specs.declared.fault.Tail.TheVariants.{Ignore}
 use Rattle.hgs_revlog.specs.Held.{AreWithinLimits, chunk_in, read_all}
 use Rattle.hgs_revlog.specs.Load.{loaded, most_text}
+use Rattle.hgs_revlog.specs.Theorems.BehindLemmas.{loaded-count}
 use Rattle.hgs_revlog.specs.Log.{Log}
 use Rattle.hgs_revlog.specs.Text.{text_of}
 use Rattle.hgs_load.specs.declared.answer.ReadAnswer.{ReadAnswer}
@@ -35,7 +38,7 @@ use Rattle.hgs_load.specs.declared.answer.ReadAnswer.TheVariants.{Limit, Unknown
 use Rattle.hgs_load.specs.Asks.{Asks, answer, at_rest, then_asks, MayAnswer}
 use Rattle.hgs_reader.specs.Contents.{most_files, most_file_text, rows_answer, rows_asks, tree_asks, files_text, files_asks, tracked_node, file_node, body_answer, body_asks, cat_asks}
 use Rattle.hgs_reader.specs.Find.{text_asks}
-use Rattle.hgs_reader.specs.Line.{chunk_asks, change_asks, change_at, change_of_chunk, change_of_text, line_asks, line_at, line_of_entry, line_of_change, line_text}
+use Rattle.hgs_reader.specs.Line.{changeset_asks, chunk_asks, change_asks, change_at, change_of_chunk, change_of_text, line_asks, line_at, line_of_entry, line_of_change, line_text}
 use Rattle.hgs_load.specs.View.{View}
 use Rattle.hgs_stands.specs.Places.{changelog_index, changelog_data, manifest_index, manifest_data}
 use Rattle.hgs_shown.specs.Limits.{IsSmallTree}
@@ -44,7 +47,7 @@ use Rattle.hgs_views.specs.Answered.{OnlyAnswers, IsFileAnswered, IsAnswered}
 use Rattle.hgs_views.specs.Course.{Course, IsBetween, IsCourse, OpensAlong, ReadsAlong, tree_after}
 use Rattle.hgs_views.specs.Moments.{StaysAt}
 use Rattle.hgs_views.specs.Seen.{Numbers, IsViewAt}
-use Rattle.hgs_views.proofs.Basics.{and-left, and-right, prefix-refl, prefix-trans, part_is, may-front, slice_get-front}
+use Rattle.hgs_views.proofs.Basics.{and-left, and-right, prefix-trans, part_is, may-front, slice_get-front}
 use Rattle.hgs_views.proofs.LoadLemmas.{below}
 use Rattle.hgs_views.proofs.MomentLemmas.{between-later}
 use Rattle.hgs_views.proofs.Below.{ContentLaws}
@@ -114,7 +117,7 @@ module _ (x : Course) (first last : List Op) (is : IsCourse x first last) (opens
     index_stays = λ now there. let n = reached-later c from now r there in (is.stays now c n.at n.top).manifest;
     chunks_stay = λ now there. let n = reached-later c from now r there in (is.stays now c n.at n.top).manifest_chunks;
     within = λ now there. let n = reached-later c from now r there in
-        within-front (history (x.repo c).changesets).manifest (history (x.repo (x.published now)).changesets).manifest (bytes_at (after_all now x.start) manifest_data)
+        within-front (history (x.repo c).changesets).manifest (history (x.repo (x.published now)).changesets).manifest (chunks_either (bytes_at (after_all now x.start) manifest_index) (bytes_at (after_all now x.start) manifest_data))
         (law.manifest (x.repo c).changesets (x.repo (x.published now)).changesets (goes c now n)) (reads now n.at).manifest;
   }
 
@@ -124,7 +127,7 @@ module _ (x : Course) (first last : List Op) (is : IsCourse x first last) (opens
     index_stays = λ now there. let n = reached-later c from now r there in (is.stays now c n.at n.top).filelogs path I used;
     chunks_stay = λ now there. let n = reached-later c from now r there in (is.stays now c n.at n.top).filelogs path D used;
     within = λ now there. let n = reached-later c from now r there in
-        within-front ((history (x.repo c).changesets).filelog path) ((history (x.repo (x.published now)).changesets).filelog path) (bytes_at (after_all now x.start) (store_name path D))
+        within-front ((history (x.repo c).changesets).filelog path) ((history (x.repo (x.published now)).changesets).filelog path) (chunks_either (bytes_at (after_all now x.start) (store_name path I)) (bytes_at (after_all now x.start) (store_name path D)))
         (law.filelogs (x.repo c).changesets (x.repo (x.published now)).changesets path (goes c now n))
         ((reads now n.at).filelogs path (uses-front (x.repo c).changesets (x.repo (x.published now)).changesets path (goes c now n) used));
   }
@@ -157,14 +160,20 @@ module _ (x : Course) (first last : List Op) (is : IsCourse x first last) (opens
     change-read : read_change h.revision.text ≡ Ok h.change
     change-read = ap read_change h.text_is ∙ law.change_text h.change h.in_form
 
+    separate : view.changelog.inline ≡ false
+    separate = (loaded-count (bytes_at (x.store c) changelog_index) view.changelog loads).2
+
     pub change-only : (from : List Op) → IsReached c from → Only x.start from last (change_asks view rev) (Ok h.change)
     change-only from r =
-        only-chunk x.start changelog_data (slice_get view.changelog.entries rev) (change_at view rev) (Ok h.change) from last
-        (λ now there. let e = entry-at now (reached-later c from now r there) in law.change (tree_after x now) view rev e.0 h.revision.text h.change e.1 e.2 change-read)
+        subst (λ b. Only x.start from last (changeset_asks b rev (slice_get view.changelog.entries rev) (change_at view rev)) (Ok h.change)) (sym separate)
+        (only-chunk x.start changelog_data (slice_get view.changelog.entries rev) (change_at view rev) (Ok h.change) from last
+        (λ now there. let e = entry-at now (reached-later c from now r there) in
+        ap (λ b. at_rest (tree_after x now) (changeset_asks b rev (slice_get view.changelog.entries rev) (change_at view rev))) (sym separate) ∙ law.change (tree_after x now) view rev e.0 h.revision.text h.change separate e.1 e.2 change-read))
 
     pub line-only : (entry : Entry) → slice_get view.changelog.entries rev ≡ Some entry → (from : List Op) → IsReached c from → Only x.start from last (line_asks view rev) (Ok (line_text rev entry h.change))
     line-only entry at from r =
-        only-chunk x.start changelog_data (slice_get view.changelog.entries rev) (line_at view rev) (Ok (line_text rev entry h.change)) from last (λ now there. one now (reached-later c from now r there))
+        subst (λ b. Only x.start from last (changeset_asks b rev (slice_get view.changelog.entries rev) (line_at view rev)) (Ok (line_text rev entry h.change))) (sym separate)
+        (only-chunk x.start changelog_data (slice_get view.changelog.entries rev) (line_at view rev) (Ok (line_text rev entry h.change)) from last (λ now there. one now (reached-later c from now r there)))
       where
         one : (now : List Op) → IsReached c now → at_rest (tree_after x now) (chunk_asks changelog_data (slice_get view.changelog.entries rev) (line_at view rev)) ≡ Ok (line_text rev entry h.change)
         one now n =
@@ -203,7 +212,7 @@ module _ (x : Course) (first last : List Op) (is : IsCourse x first last) (opens
             let node_is : node_at k.manifest h.manifest_rev ≡ h.change.manifest = sym h.node_is in
             let rows_of : List ℕ → Asks (Result (List Row) ReadAnswer) = λ text. answer (rows_answer (read_manifest text)) in
             let stays = manifest-stays c now n in
-            let not_null = law.not_null (x.store c) manifest_index manifest_data k.manifest h.manifest_rev h.change.manifest (record { index_front = bytes_at (x.store c) manifest_index; data_front = bytes_at (x.store c) manifest_data; held = stays.held; index_begins = prefix-refl (bytes_at (x.store c) manifest_index); data_begins = prefix-refl (bytes_at (x.store c) manifest_data) }) h.below node_is in
+            let not_null = law.not_null (x.store c) manifest_index manifest_data k.manifest h.manifest_rev h.change.manifest (either-begins (bytes_at (x.store c) manifest_index) (bytes_at (x.store c) manifest_data) k.manifest stays.held) h.below node_is in
             let m1 = subst (λ b. MayAnswer x.start now (cond b (answer (Ok [])) (then_asks (text_asks manifest_index manifest_data h.change.manifest) rows_of)) last y) not_null m in
             let only_text = text-only now (x.store c) manifest_index manifest_data k.manifest h.manifest_rev h.change.manifest (manifest_text h.rows) refl h.below node_is h.manifest_text_is stays in
             only-then x.start (text_asks manifest_index manifest_data h.change.manifest) rows_of (manifest_text h.rows) (Ok h.rows) now last only_text (λ later there y m. m.1 ∙ last-step) y m1

@@ -4,7 +4,9 @@ use Rattle.std.specs.Prelude.{unwrap_or}
 use Rattle.hgs_bytes.specs.Bytes.{IsPrefixOf, among}
 use Rattle.hgs_files.specs.declared.op.Op.TheVariants.{Append}
 use Rattle.hgs_files.specs.Tree.{Tree, bytes_at, same_path, with_file}
+use Rattle.hgs_index.specs.Either.{HoldsEither}
 use Rattle.hgs_index.specs.Revlog.{HoldsRevisions}
+use Rattle.hgs_index.specs.Theorems.EitherLemmas.{either-begins}
 use Rattle.hgs_model.specs.History.{history, uses}
 use Rattle.hgs_model.specs.IsRepo.{IsRepo}
 use Rattle.hgs_model.specs.Repo.{Repo, empty_repo}
@@ -18,7 +20,7 @@ use Rattle.hgs_stands.specs.Stands.{HoldsAt, HoldsChangesets, IsClean}
 use Rattle.hgs_views.specs.Course.{IsCourse, KeepsFronts, tree_after}
 use Rattle.hgs_views.specs.Samples.{then_repo, then_tree, committing, no_files, unmarked_files}
 use Rattle.hgs_views.proofs.Below.{ApartLaw, CountLaw, RootsLaw, ShowsLaw, SizeLaw}
-use Rattle.hgs_views.proofs.Basics.{same_path-eq, with_file-other, never, prefix-refl}
+use Rattle.hgs_views.proofs.Basics.{begins-on, begins-same, same_path-eq, with_file-other, never, prefix-refl}
 use Rattle.hgs_views.proofs.CourseLemmas.{nothing-between, stepped}
 use Rattle.hgs_views.proofs.SeenLemmas.{longer}
 
@@ -62,24 +64,16 @@ module _ (law : GrowLaws) (t u : Tree) (r s : Repo) (entries : List ℕ) (r_is :
       omega (arith, size, count)
 
   old-log : (path : List ℕ) → uses r.changesets path ≡ true → BeginsAt before (store_name path I) (store_name path D) ((history r.changesets).filelog path)
-  old-log path used = record {
-    index_front = bytes_at t (store_name path I);
-    data_front = bytes_at t (store_name path D);
-    held = old.filelogs path used;
-    index_begins = subst (IsPrefixOf (bytes_at t (store_name path I))) (sym (before-log path I)) (keeps.filelogs path I used);
-    data_begins = subst (IsPrefixOf (bytes_at t (store_name path D))) (sym (before-log path D)) (keeps.filelogs path D used);
-  }
+  old-log path used =
+      begins-on (bytes_at t (store_name path I)) (bytes_at t (store_name path D)) (bytes_at before (store_name path I)) (bytes_at before (store_name path D)) ((history r.changesets).filelog path)
+      (subst (IsPrefixOf (bytes_at t (store_name path I))) (sym (before-log path I)) (keeps.filelogs path I used))
+      (subst (IsPrefixOf (bytes_at t (store_name path D))) (sym (before-log path D)) (keeps.filelogs path D used))
+      (either-begins (bytes_at t (store_name path I)) (bytes_at t (store_name path D)) ((history r.changesets).filelog path) (old.filelogs path used))
 
   new-log : (path : List ℕ) → uses s.changesets path ≡ true → BeginsAt behind (store_name path I) (store_name path D) ((history s.changesets).filelog path)
   new-log path used =
-      let b = shows.revlogs.filelogs path used in
-      record {
-        index_front = b.index_front;
-        data_front = b.data_front;
-        held = b.held;
-        index_begins = subst (IsPrefixOf b.index_front) (sym (behind-log path I)) b.index_begins;
-        data_begins = subst (IsPrefixOf b.data_front) (sym (behind-log path D)) b.data_begins;
-      }
+      begins-same (bytes_at u (store_name path I)) (bytes_at u (store_name path D)) (bytes_at behind (store_name path I)) (bytes_at behind (store_name path D)) ((history s.changesets).filelog path)
+      (behind-log path I) (behind-log path D) (shows.revlogs.filelogs path used)
 
   shown-before : Shows before r r r
   shown-before = record {
@@ -93,7 +87,8 @@ module _ (law : GrowLaws) (t u : Tree) (r s : Repo) (entries : List ℕ) (r_is :
         index_begins = prefix-refl (bytes_at t changelog_index);
         data_begins = keeps.changelog_chunks;
       };
-      manifest = record { index_front = bytes_at t manifest_index; data_front = bytes_at t manifest_data; held = old.manifest; index_begins = keeps.manifest; data_begins = keeps.manifest_chunks };
+      manifest = begins-on (bytes_at t manifest_index) (bytes_at t manifest_data) (bytes_at u manifest_index) (bytes_at u manifest_data) (history r.changesets).manifest keeps.manifest keeps.manifest_chunks
+          (either-begins (bytes_at t manifest_index) (bytes_at t manifest_data) (history r.changesets).manifest old.manifest);
       filelogs = old-log;
     };
     phases = record { roots = shows.phases.roots; text = shows.phases.text; phases = law.roots_before shows.phases.roots r s r_is s_is goes shows.phases.phases ∙ sym phases };
@@ -113,7 +108,7 @@ module _ (law : GrowLaws) (t u : Tree) (r s : Repo) (entries : List ℕ) (r_is :
         index_begins = subst (IsPrefixOf b.index_front) joined b.index_begins;
         data_begins = b.data_begins;
       });
-      manifest = (let b = shows.revlogs.manifest in record { index_front = b.index_front; data_front = b.data_front; held = b.held; index_begins = b.index_begins; data_begins = b.data_begins });
+      manifest = shows.revlogs.manifest;
       filelogs = new-log;
     };
     phases = record { roots = shows.phases.roots; text = shows.phases.text; phases = shows.phases.phases };
@@ -223,8 +218,8 @@ unmarked-holds apart clean =
     record { changelog = h.changelog; manifest = h.manifest; filelogs = λ path used. log path (h.filelogs path used); names = h.names }
   where
     log : (path : List ℕ) → HoldsAt two_drafts_files (store_name path I) (store_name path D) ((history two_drafts.changesets).filelog path) → HoldsAt unmarked_files (store_name path I) (store_name path D) ((history two_drafts.changesets).filelog path)
-    log path h = subst (λ i. HoldsRevisions i (bytes_at unmarked_files (store_name path D)) ((history two_drafts.changesets).filelog path)) (sym (unmarked-log apart path I))
-        (subst (λ d. HoldsRevisions (bytes_at two_drafts_files (store_name path I)) d ((history two_drafts.changesets).filelog path)) (sym (unmarked-log apart path D)) h)
+    log path h = subst (λ i. HoldsEither i (bytes_at unmarked_files (store_name path D)) ((history two_drafts.changesets).filelog path)) (sym (unmarked-log apart path I))
+        (subst (λ d. HoldsEither (bytes_at two_drafts_files (store_name path I)) d ((history two_drafts.changesets).filelog path)) (sym (unmarked-log apart path D)) h)
 
 unmarked-shows : ApartLaw → ShowsLaw → IsClean two_drafts_files two_drafts → Shows unmarked_files empty_repo empty_repo two_drafts
 unmarked-shows apart shows_law clean =
@@ -238,13 +233,9 @@ unmarked-shows apart shows_law clean =
     }
   where
     log : (path : List ℕ) → BeginsAt two_drafts_files (store_name path I) (store_name path D) ((history two_drafts.changesets).filelog path) → BeginsAt unmarked_files (store_name path I) (store_name path D) ((history two_drafts.changesets).filelog path)
-    log path b = record {
-      index_front = b.index_front;
-      data_front = b.data_front;
-      held = b.held;
-      index_begins = subst (IsPrefixOf b.index_front) (sym (unmarked-log apart path I)) b.index_begins;
-      data_begins = subst (IsPrefixOf b.data_front) (sym (unmarked-log apart path D)) b.data_begins;
-    }
+    log path b =
+        begins-same (bytes_at two_drafts_files (store_name path I)) (bytes_at two_drafts_files (store_name path D)) (bytes_at unmarked_files (store_name path I)) (bytes_at unmarked_files (store_name path D)) ((history two_drafts.changesets).filelog path)
+        (unmarked-log apart path I) (unmarked-log apart path D) b
 
 nothing-kept : KeepsFronts no_files unmarked_files []
 nothing-kept = record {

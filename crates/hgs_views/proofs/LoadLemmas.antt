@@ -6,6 +6,7 @@ use Rattle.std.proofs.lemmas.List.{take_all}
 use Rattle.hgs_bytes.specs.Bytes.{IsPrefixOf}
 use Rattle.hgs_files.specs.declared.op.Op.{Op}
 use Rattle.hgs_files.specs.Tree.{bytes_at}
+use Rattle.hgs_index.specs.Inline.{is_inline}
 use Rattle.hgs_index.specs.Revlog.{BeginsWithRevisions}
 use Rattle.hgs_marks.specs.Bookmarks.{Mark}
 use Rattle.hgs_model.specs.History.{history, changeset_nodes}
@@ -19,10 +20,12 @@ use Rattle.hgs_revlog.specs.Log.{Log}
 use Rattle.hgs_load.specs.declared.answer.ReadAnswer.{ReadAnswer}
 use Rattle.hgs_load.specs.Asks.{Asks, answer, then_asks, MayAnswer}
 use Rattle.hgs_load.specs.Marks.{Nodes, bookmarks_answer, dirstate_answer, roots_answer, working_answer}
-use Rattle.hgs_load.specs.Open.{requires_path, most_requires, most_bookmarks_text, most_dirstate, most_roots, bookmarks_asks, dirstate_asks, log_asks, roots_asks, log_of, view_with, view_of, open_asks}
+use Rattle.hgs_load.specs.Open.{requires_path, most_requires, most_bookmarks_text, most_dirstate, most_roots, bookmarks_asks, dirstate_asks, inline_log_asks, log_asks, roots_asks, log_of, view_with, view_of, open_asks}
 use Rattle.hgs_load.specs.Requirements.{requires_answer}
 use Rattle.hgs_load.specs.Refresh.{behind_asks, behind_last, last_place}
 use Rattle.hgs_load.specs.View.{View, log_answer, pieces_from, pieces_then, most_pieces, piece_length}
+use Rattle.hgs_load.specs.Form.{unless_inline}
+use Rattle.hgs_load.specs.Theorems.FormLemmas.{IsApart, begins-plain, may-apart-then, part-form}
 use Rattle.hgs_load.specs.Theorems.TailLemmas.{tail-answers}
 use Rattle.hgs_stands.specs.Places.{bookmarks_path, dirstate_path, roots_path, changelog_index, changelog_data}
 use Rattle.hgs_stands.specs.Stands.{changeset_entries, mark_of}
@@ -91,6 +94,17 @@ module _ (law : LoadLaws) (x : Course) (first last : List Op) (is : IsCourse x f
       let front : take (64 * (length index / 64)) index ≡ store = ap (λ n. take n index) (sym all) ∙ ap (take (length store)) kept.1 ∙ take-append_seam store kept.0 in
       let whole : take (64 * (length store / 64)) store ≡ store = take_all (64 * (length store / 64)) store (omega (arith, all)) in
       law.whole index ∙ ap (loaded Refuse) (front ∙ sym whole) ∙ sym (law.whole store)
+
+  -- its index says that it is separate
+  pub says-apart : (log : List Op) → IsBetween first last log → is_inline (bytes_at (tree_after x log) changelog_index) ≡ false
+  says-apart log at =
+      let c = x.published log in
+      let count = law.count (x.repo c) (is.repository c (below x first last is log at)) in
+      let begun = (is.shows log at).revlogs in
+      begins-plain (bytes_at (tree_after x log) changelog_index) (bytes_at (tree_after x log) changelog_data) (history (x.repo c).changesets).changelog begun.changelog (count ∙ begun.whole)
+
+  pub is-apart : {A : Type 0} (from : List Op) → IsPrefixOf first from → (f : List ℕ → Asks A) → IsApart x.start from last (pieces_then changelog_index most_pieces [] f)
+  is-apart from later f = λ now begun ends. part-form (tree_after x now) changelog_index piece_length (omega arith) ∙ says-apart now (record { begins = prefix-trans first from now later begun; ends = ends })
 
   module _ (opens : OpensAlong x first last) where
     pub room : (log : List Op) → IsBetween first last log → length (bytes_at (tree_after x log) changelog_index) < most_pieces * piece_length
@@ -185,8 +199,13 @@ module _ (law : LoadLaws) (x : Course) (first last : List Op) (is : IsCourse x f
         let loads : loaded Ignore (front ++ a.2) ≡ Ok found.0 = ap (loaded Ignore) (sym a.3) ∙ loads-as a.0 now ∙ found.1.loads in
         (a.0, a.1, found.0, found.1, subst (λ q. MayAnswer x.start a.0 (then_asks q more) last y) (tail-answers front a.2 old found.0 separate some size loads (begins a.0 found.0 now found.1)) a.4)
 
+    -- of a question whose first piece says the form, only what it asks of a separate index is asked
+    pub said-step : (inline : Asks (Result Log ReadAnswer)) (f : List ℕ → Asks (Result Log ReadAnswer)) → LogStep (pieces_then changelog_index most_pieces [] f) → LogStep (unless_inline inline (pieces_then changelog_index most_pieces [] f))
+    said-step inline f step more from y at m =
+        step more from y at (may-apart-then x.start from last inline (pieces_then changelog_index most_pieces [] f) more y (is-apart from at.begins f) m)
+
     log-step : LogStep log_asks
-    log-step = pieces-step log_of (λ log found at is loads. loads)
+    log-step = said-step inline_log_asks (λ index. answer (log_of index)) (pieces-step log_of (λ log found at is loads. loads))
 
     roots-step : (more : List Root → Asks (Result View ReadAnswer)) (from : List Op) (y : Result View ReadAnswer) → IsBetween first last from → MayAnswer x.start from (then_asks roots_asks more) last y
         → (log : List Op) × IsBetween from last log × (roots : List Root) × (map phase_number (phases_by roots (changeset_entries (x.repo (x.published log)).changesets)) ≡ (x.repo (x.published log)).phases) × MayAnswer x.start log (more roots) last y

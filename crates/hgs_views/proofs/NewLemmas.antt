@@ -10,15 +10,18 @@ use Rattle.hgs_load.specs.declared.answer.ReadAnswer.{ReadAnswer}
 use Rattle.hgs_load.specs.Asks.{Asks, answer, read, part_of, then_asks, MayAnswer}
 use Rattle.hgs_load.specs.Given.{GoesTo, IsAnswer, size_of}
 use Rattle.hgs_index.specs.declared.entry.Entry.{Entry}
+use Rattle.hgs_index.specs.Inline.{is_inline}
 use Rattle.hgs_revlog.specs.declared.fault.RevFault.{RevFault}
 use Rattle.hgs_revlog.specs.declared.fault.Tail.TheVariants.{Ignore}
 use Rattle.hgs_revlog.specs.Load.{load_from, loaded, separate_at}
 use Rattle.hgs_revlog.specs.Log.{Log}
 use Rattle.hgs_revlog.specs.Theorems.BehindLemmas.{load-grows, loaded-count}
 use Rattle.hgs_load.specs.Open.{log_of}
-use Rattle.hgs_load.specs.Refresh.{behind_asks, behind_last, first_changed, is_this, log_after, log_on, unless_changed, whole_log_asks}
+use Rattle.hgs_load.specs.Refresh.{behind_asks, behind_last, first_changed, is_this, log_after, log_on, separate_whole_asks, unless_changed, whole_log_asks}
 use Rattle.hgs_load.specs.View.{changelog_index, log_answer, most_pieces, pieces_by, piece_length}
 use Rattle.hgs_load.specs.Whole.{whole_asks, within}
+use Rattle.hgs_load.specs.Form.{unless_inline}
+use Rattle.hgs_load.specs.Theorems.FormLemmas.{IsApart}
 use Rattle.hgs_views.proofs.Basics.{part_is, prefix-refl, prefix-trans}
 
 abbrev answer_of : {A : Type 0} → Asks A → Option A
@@ -209,7 +212,7 @@ tail-few old log tail h = by (behind_last old.entries tail) refl h
         few (length tail) (length behind) (length log.entries) (length old.entries) b.1 b.0 count
 
 -- and neither is an index of which none was loaded
-pub whole-log-few : (start : Tree) (k l : List Op) (old : List Entry) (n : ℕ) (log : Log) → length old ≡ 0 → GoesTo start (Some k) (whole_log_asks old) n (Some l) (answer (Ok log)) → n ≤ 64 * (length log.entries - length old + 2)
+pub whole-log-few : (start : Tree) (k l : List Op) (old : List Entry) (n : ℕ) (log : Log) → length old ≡ 0 → GoesTo start (Some k) (separate_whole_asks old) n (Some l) (answer (Ok log)) → n ≤ 64 * (length log.entries - length old + 2)
 whole-log-few start k l old n log none h =
     let p = pieces-asked start k l changelog_index length most_pieces [] (λ index. answer (log_after old (log_of index))) n log h in
     let count = (loaded-count p.all log (log-loads (loaded Ignore p.all) log (after-is old (log_of p.all) log (sym (answer-is (Ok log) (log_after old (log_of p.all)) p.goes_on.2))))).0 in
@@ -228,6 +231,19 @@ go-front start k l (read path from most rest) left n (inr h) = by h.0 h.3 h.6 (�
     by : (seen : Option (List Op)) → Grows (Some k) seen → GoesTo start seen (rest h.1) h.2 (Some l) left → ((log : List Op) → GoesTo start (Some log) (rest h.1) h.2 (Some l) left → IsPrefixOf log l) → IsPrefixOf k l
     by None g m next = absurd (untold k g)
     by (Some log) g m next = prefix-trans k log l (grown k log g) (next log m)
+
+-- where the first read says that the index is separate, it is asked for as such
+pub go-apart : {A : Type 0} (start : Tree) (k l : List Op) (inline q : Asks A) (n : ℕ) (y : A) → IsApart start k l q → GoesTo start (Some k) (unless_inline inline q) n (Some l) (answer y) → GoesTo start (Some k) q n (Some l) (answer y)
+go-apart start k l inline (answer x) n y plain h = h
+go-apart start k l inline (read path from most rest) n y plain (inl h) = absurd (no-read y path from most _ h.2)
+go-apart {A} start k l inline (read path from most rest) n y plain (inr h) = by h.0 h.3 h.4 h.6
+  where
+    by : (seen : Option (List Op)) → Grows (Some k) seen → IsAnswer seen start path from most h.1 → GoesTo start seen (cond (is_inline (unwrap_or h.1 [])) inline (rest h.1)) h.2 (Some l) (answer y) → GoesTo start (Some k) (read path from most rest) n (Some l) (answer y)
+    by None g a m = absurd (untold k g)
+    by (Some log) g a m =
+        let ends = go-front start log l (cond (is_inline (unwrap_or h.1 [])) inline (rest h.1)) (answer y) h.2 m in
+        let says : is_inline (unwrap_or h.1 []) ≡ false = ap (λ part. is_inline (unwrap_or part [])) a.1 ∙ plain log (grown k log g) ends in
+        inr (Some log, h.1, h.2, g, a, h.5, subst (λ b. GoesTo start (Some log) (cond b inline (rest h.1)) h.2 (Some l) (answer y)) says m)
 
 -- what is read may be answered once more
 pub read-again : (start : Tree) (k l : List Op) (q : Asks (Result (List ℕ) ReadAnswer)) (y : Result (List ℕ) ReadAnswer) → MayAnswer start k q l y → MayAnswer start k (then_asks q all_bytes) l y

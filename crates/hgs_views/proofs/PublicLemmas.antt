@@ -22,7 +22,7 @@ use Rattle.hgs_revlog.specs.Log.{nodes_of}
 use Rattle.hgs_stands.specs.Stands.{HoldsChangesets, Stands, changeset_entries, entries_of}
 use Rattle.hgs_views.specs.Course.{IsCourse, KeepsFronts, tree_after}
 use Rattle.hgs_views.specs.Samples.{publicly, publishing}
-use Rattle.hgs_views.proofs.Basics.{prefix-refl}
+use Rattle.hgs_views.proofs.Basics.{begins-same, prefix-refl}
 use Rattle.hgs_views.proofs.CourseLemmas.{nothing-between, stepped}
 use Rattle.hgs_views.proofs.Below.{ApartLaw, CountLaw, ShowsLaw}
 use Rattle.hgs_views.proofs.GrowLemmas.{log-bytes}
@@ -96,13 +96,9 @@ public-shows law t r stands =
     }
   where
     log : (path : List ℕ) → BeginsAt t (store_name path I) (store_name path D) ((history r.changesets).filelog path) → BeginsAt (with_file t roots_path None) (store_name path I) (store_name path D) ((history r.changesets).filelog path)
-    log path b = record {
-      index_front = b.index_front;
-      data_front = b.data_front;
-      held = b.held;
-      index_begins = subst (IsPrefixOf b.index_front) (sym (bytes-log law.apart t path I)) b.index_begins;
-      data_begins = subst (IsPrefixOf b.data_front) (sym (bytes-log law.apart t path D)) b.data_begins;
-    }
+    log path b =
+        begins-same (bytes_at t (store_name path I)) (bytes_at t (store_name path D)) (bytes_at (with_file t roots_path None) (store_name path I)) (bytes_at (with_file t roots_path None) (store_name path D)) ((history r.changesets).filelog path)
+        (bytes-log law.apart t path I) (bytes-log law.apart t path D) b
 
 public-keeps : PublicLaws → (t : Tree) (r : Repo) → KeepsFronts t (with_file t roots_path None) r.changesets
 public-keeps law t r = record {

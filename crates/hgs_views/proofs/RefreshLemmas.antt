@@ -1,5 +1,5 @@
 -- A refresh over an old view of the same course.
-use Rattle.std.proofs.Common.{◌≡◌, ℕ, zero, suc, ◌+◌, ◌-◌, ◌*◌, ◌/◌, ◌<◌, ◌≤◌, List, [], ◌∷◌, ◌++◌, length, take, drop, Bool, true, false, cond, ◌||◌, Some, None, Result, Ok, Err, refl, sym, ◌∙◌, ap, subst, arith, append-nil, length-append}
+use Rattle.std.proofs.Common.{◌≡◌, ℕ, zero, suc, ◌+◌, ◌-◌, ◌*◌, ◌/◌, ◌<◌, ◌≤◌, List, [], ◌∷◌, ◌++◌, length, take, drop, Bool, true, false, cond, Some, None, Result, Ok, Err, refl, sym, ◌∙◌, ap, subst, arith, append-nil, length-append}
 use Rattle.std.specs.Prelude.{◌==◌}
 use Rattle.std.proofs.lemmas.Bool.Decides.{nat_tests}
 use Rattle.std.proofs.lemmas.List.{take-append-drop, length-take-le, take-append-le, drop-append-le, length-drop}
@@ -19,8 +19,9 @@ use Rattle.hgs_load.specs.Marks.{Nodes, Working, bookmarks_answer, dirstate_answ
 use Rattle.hgs_marks.specs.Bookmarks.{Mark}
 use Rattle.hgs_phases.specs.declared.roots.Root.{Root}
 use Rattle.hgs_load.specs.Open.{bookmarks_asks, dirstate_asks, roots_asks, log_of, view_of, view_with, most_bookmarks_text, most_dirstate, most_roots}
-use Rattle.hgs_load.specs.Refresh.{behind_asks, behind_last, first_changed, last_place, unless_changed, log_after, newer_log_asks, refresh_asks, whole_log_asks}
+use Rattle.hgs_load.specs.Refresh.{behind_asks, behind_last, behind_log_asks, inline_whole_asks, separate_whole_asks, first_changed, last_place, unless_changed, log_after, newer_log_asks, refresh_asks, whole_log_asks}
 use Rattle.hgs_load.specs.View.{View, pieces_from, most_pieces}
+use Rattle.hgs_load.specs.Theorems.FormLemmas.{IsApart}
 use Rattle.hgs_load.specs.Theorems.TailLemmas.{entry-itself, tail-answers}
 use Rattle.hgs_revlog.specs.Theorems.BehindLemmas.{loaded-count}
 use Rattle.hgs_stands.specs.Places.{bookmarks_path, dirstate_path, roots_path, changelog_index, changelog_data}
@@ -28,9 +29,9 @@ use Rattle.hgs_views.specs.Course.{Course, IsBetween, IsCourse, OpensAlong, tree
 use Rattle.hgs_views.specs.Seen.{Numbers, NoneFell, AreReadBetween, IsGivenFew, IsLoadedBetween}
 use Rattle.hgs_views.proofs.Basics.{prefix-refl, prefix-trans, may-front}
 use Rattle.hgs_views.proofs.CourseLemmas.{course-later, itself-between}
-use Rattle.hgs_views.proofs.LoadLemmas.{LoadsAt, LogStep, front-of-longer, below, loads-as, loads-at, pieces-step, last-step, room, whole-stays, answered, in-order, viewed}
+use Rattle.hgs_views.proofs.LoadLemmas.{LoadsAt, LogStep, front-of-longer, below, loads-as, loads-at, is-apart, pieces-step, said-step, last-step, room, whole-stays, answered, in-order, viewed}
 use Rattle.hgs_views.proofs.MomentLemmas.{between-later, pieces-end}
-use Rattle.hgs_views.proofs.NewLemmas.{all_bytes, answer-is, both-asked, go-front, pieces-asked, read-again, tail-few, whole-few, whole-log-few}
+use Rattle.hgs_views.proofs.NewLemmas.{all_bytes, answer-is, both-asked, go-apart, go-front, pieces-asked, read-again, tail-few, whole-few, whole-log-few}
 use Rattle.hgs_views.proofs.OnlyLemmas.{later-end}
 use Rattle.hgs_views.proofs.Below.{LoadLaws}
 
@@ -155,7 +156,8 @@ module _ (x : Course) (first last : List Op) (is : IsCourse x first last) where
 
   -- so what is answered to the question of a refresh is the history of some list
   newer-step : (law : LoadLaws) (ended from : List Op) (v : Numbers) (old : View) → IsLoadedBetween x first ended v old → IsPrefixOf ended from → (on : IsPrefixOf from last) → (at : IsBetween first last from) → (opens : OpensAlong x from last) → LogStep law x from last (course-later x first from last at is) opens (newer_log_asks old.changelog)
-  newer-step law ended from v old loaded_old then on at opens = by (old.changelog.inline || length old.changelog.entries == 0) refl
+  newer-step law ended from v old loaded_old then on at opens =
+      subst (λ b. LogStep law x from last later opens (cond b (inline_whole_asks log.entries) (behind_log_asks log))) (sym separate) (by (length log.entries == 0) refl)
     where
       later : IsCourse x from last
       later = course-later x first from last at is
@@ -163,20 +165,20 @@ module _ (x : Course) (first last : List Op) (is : IsCourse x first last) where
       log : Log
       log = old.changelog
 
-      not_whole : (a b : Bool) → (a || b) ≡ false → (a ≡ false) × (b ≡ false)
-      not_whole true b h = cc
-      not_whole false b h = (refl, h)
+      separate : log.inline ≡ false
+      separate = (loaded-count (bytes_at (x.store v.read) changelog_index) log loaded_old.is_view.loads).2
 
       some_entries : (n : ℕ) → (n == 0) ≡ false → 0 < n
       some_entries n h = grind (arith, nat_tests, h)
 
-      by : (b : Bool) → (log.inline || length log.entries == 0) ≡ b
+      by : (b : Bool) → (length log.entries == 0) ≡ b
           → LogStep law x from last later opens (cond b (whole_log_asks log.entries) (pieces_from changelog_index (last_place log.entries) most_pieces [] (λ tail. behind_asks log (behind_last log.entries tail))))
-      by true e = pieces-step law x from last later opens (λ index. log_after log.entries (log_of index)) (λ list found now is_at loads. ap (log_after log.entries) loads ∙ ap (λ o. unless_changed o found) (kept-at law ended from v old loaded_old then on list found now is_at))
+      by true e =
+          said-step law x from last later opens (inline_whole_asks log.entries) (λ index. answer (log_after log.entries (log_of index)))
+          (pieces-step law x from last later opens (λ index. log_after log.entries (log_of index)) (λ list found now is_at loads. ap (log_after log.entries) loads ∙ ap (λ o. unless_changed o found) (kept-at law ended from v old loaded_old then on list found now is_at)))
       by false e =
-          let n = not_whole log.inline (length log.entries == 0) e in
           let front = old-front law ended from v old loaded_old then on in
-          last-step law x from last later opens log front.0 n.0 (some_entries (length log.entries) n.1) front.1 front.2 (begins-at law ended from v old loaded_old then on)
+          last-step law x from last later opens log front.0 separate (some_entries (length log.entries) e) front.1 front.2 (begins-at law ended from v old loaded_old then on)
 
   pub refreshed-along : (law : LoadLaws) (ended from : List Op) (v : Numbers) (old : View) (y : Result View ReadAnswer) → IsLoadedBetween x first ended v old → IsPrefixOf ended from → OpensAlong x from last → MayAnswer x.start from (refresh_asks old) last y
       → (w : Numbers) × (view : View) × (y ≡ Ok view) × IsLoadedBetween x from last w view × NoneFell v w
@@ -227,29 +229,30 @@ module _ (x : Course) (first last : List Op) (is : IsCourse x first last) where
         same s t e = cc
 
     newer-few : (k l : List Op) (n : ℕ) (log : Log) → IsPrefixOf from k → IsPrefixOf l last → GoesTo x.start (Some k) (newer_log_asks log_old) n (Some l) (answer (Ok log)) → n ≤ 64 * (length log.entries - length log_old.entries + 2)
-    newer-few k l n log begun ends h = by (log_old.inline || length log_old.entries == 0) refl h
+    newer-few k l n log begun ends h = by (length log_old.entries == 0) refl (subst (λ b. GoesTo x.start (Some k) (cond b (inline_whole_asks log_old.entries) (behind_log_asks log_old)) n (Some l) (answer (Ok log))) separate h)
       where
         separate : log_old.inline ≡ false
         separate = (loaded-count (bytes_at (x.store v.read) changelog_index) log_old loaded_old.is_view.loads).2
 
-        no_entries : (a : Bool) (n : ℕ) → a ≡ false → (a || n == 0) ≡ true → n ≡ 0
-        no_entries true n s h = cc
-        no_entries false n s h = grind (arith, nat_tests, h)
+        no_entries : (n : ℕ) → (n == 0) ≡ true → n ≡ 0
+        no_entries n h = grind (arith, nat_tests, h)
 
-        some_entries : (a : Bool) (n : ℕ) → (a || n == 0) ≡ false → 0 < n
-        some_entries true n h = cc
-        some_entries false n h = grind (arith, nat_tests, h)
+        some_entries : (n : ℕ) → (n == 0) ≡ false → 0 < n
+        some_entries n h = grind (arith, nat_tests, h)
 
         few : (n own rest tail most : ℕ) → n ≡ own + rest → rest ≡ 0 → tail ≡ 0 + own → tail ≤ most → n ≤ most
         few n own rest tail most e z s f = omega (arith, e, z, s, f)
 
-        by : (b : Bool) → (log_old.inline || length log_old.entries == 0) ≡ b
+        plain : IsApart x.start k l (separate_whole_asks log_old.entries)
+        plain = λ now later early. is-apart law x from last later_on k begun (λ index. answer (log_after log_old.entries (log_of index))) now later (prefix-trans now l last early ends)
+
+        by : (b : Bool) → (length log_old.entries == 0) ≡ b
             → GoesTo x.start (Some k) (cond b (whole_log_asks log_old.entries) (pieces_from changelog_index (last_place log_old.entries) most_pieces [] (λ tail. behind_asks log_old (behind_last log_old.entries tail)))) n (Some l) (answer (Ok log))
             → n ≤ 64 * (length log.entries - length log_old.entries + 2)
-        by true e m = whole-log-few x.start k l log_old.entries n log (no_entries log_old.inline (length log_old.entries) separate e) m
+        by true e m = whole-log-few x.start k l log_old.entries n log (no_entries (length log_old.entries) e) (go-apart x.start k l (inline_whole_asks log_old.entries) (separate_whole_asks log_old.entries) n (Ok log) plain m)
         by false e m =
             let p = pieces-asked x.start k l changelog_index (λ bytes. last_place log_old.entries + length bytes) most_pieces [] (λ tail. behind_asks log_old (behind_last log_old.entries tail)) n log m in
-            let s = tail-stands separate (some_entries log_old.inline (length log_old.entries) e) k p.log p.all begun (prefix-trans p.log l last (go-front x.start p.log l (behind_asks log_old (behind_last log_old.entries p.all)) (answer (Ok log)) p.rest p.goes_on) ends) p.may in
+            let s = tail-stands separate (some_entries (length log_old.entries) e) k p.log p.all begun (prefix-trans p.log l last (go-front x.start p.log l (behind_asks log_old (behind_last log_old.entries p.all)) (answer (Ok log)) p.rest p.goes_on) ends) p.may in
             let m1 = subst (λ q. GoesTo x.start (Some p.log) q p.rest (Some l) (answer (Ok log))) s.1 p.goes_on in
             few n p.own p.rest (length p.all) (64 * (length log.entries - length log_old.entries + 2)) p.sum m1.1 p.size (tail-few log_old log p.all (s.1 ∙ sym m1.2))
 

@@ -35,12 +35,14 @@ ghost use Rattle.hgs_stands.specs.Places.{changelog_index, roots_path};
 ghost use Rattle.hgs_stands.specs.Shows.{Shows};
 ghost use Rattle.hgs_stands.specs.Stands.{HoldsChangesets, Stands, changeset_entries};
 
-use hgs_index::laws::{ancestor_test, held_index_length, inline_taken_apart, nodes_are_counted};
+use hgs_index::laws::{ancestor_test, held_index_length, nodes_are_counted};
 use hgs_index::texts::{change_prints_then_reads, manifest_prints_then_reads};
 use hgs_model::history_laws::{changesets_are_held, histories_go_on, used_paths_have_revisions};
 use hgs_model::laws::{ancestors_of_a_front, changelog_is_whole};
 use hgs_phases::laws::phases_of_nodes_and_parents;
-use hgs_reader::laws::{nodes_among_entries, revisions_have_entries, separate_texts_are_asked};
+use hgs_reader::laws::{
+    inline_text_at_moments, nodes_among_entries, revisions_have_entries, separate_texts_are_asked,
+};
 use hgs_revlog::laws::{
     entries_of_revisions, ignored_rest, places_go_on, places_of_nodes, until_node,
 };
@@ -73,14 +75,14 @@ pub fn pieces_come_as_one()
         (log : List Op) × IsBetween first last log × MayAnswer start log (then_asks (f (bytes_at (after_all log start) path)) more) last y }
 {}
 
-/// The text with a node is found at whatever moments its reads stand, where what holds it stays at the front.
+/// The text with a node is found at whatever moments its reads stand, where what holds it, in either form, stays at the front.
 pub fn text_of_node_at_moments()
     ensures { (start store : Tree) (first last : List Op) (index chunks : List ℕ) (revisions : List Revision) (rev : ℕ) (node text : List ℕ) (y : Result (List ℕ) ReadAnswer) → StaysAt start first last store index chunks revisions → same index chunks ≡ false → rev < length revisions →
         node_at revisions rev ≡ node → text_at revisions rev ≡ text → MayAnswer start first (text_asks index chunks node) last y → y ≡ Ok text }
 {
     texts_are_found();
-    inline_taken_apart();
     separate_texts_are_asked();
+    inline_text_at_moments();
     until_node();
     nodes_among_entries();
 }

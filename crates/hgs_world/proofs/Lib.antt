@@ -5,3 +5,7 @@ pub mod QuestionLemmas
 pub mod WorldLemmas
 pub mod SceneLemmas
 pub mod StartLemmas
+pub mod MomentLemmas
+pub mod KeepLemmas
+pub mod HappenLemmas
+pub mod MarkLemmas

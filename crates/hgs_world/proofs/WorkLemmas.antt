@@ -53,7 +53,7 @@ unbegun (Sizing path) part e = (e, refl)
 unbegun Ending part e = (e, refl)
 
 -- no question for a size stands before an operation
-no_sizes : (t : Tree) (from m : Machine) (op : Op) → asked from ≡ Doing op → Sizes t from m → m ≡ from
+pub no_sizes : (t : Tree) (from m : Machine) (op : Op) → asked from ≡ Doing op → Sizes t from m → m ≡ from
 no_sizes t from m op e no_more = refl
 no_sizes t from m op e (one_more n path size h f s) = let k = no_sizes t from n op e h in cc
 

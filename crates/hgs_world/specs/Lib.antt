@@ -1,6 +1,12 @@
 pub mod Texts
 pub mod Parts
+pub mod Book
 pub mod Working
 pub mod Questions
 pub mod Start
 pub mod World
+pub mod Plays
+pub mod Moments
+pub mod Follows
+pub mod Below
+pub mod Theorems

@@ -2,8 +2,10 @@
 use Rattle.std.specs.Prelude.{◌≡◌, ℕ, List, [], ◌++◌, Bool, true, false, Option, Some, None, codes, map, length, replicate, slice_get, slice_set}
 use Rattle.hgs_files.specs.declared.op.Op.{Op}
 use Rattle.hgs_files.specs.Tree.{Tree, after_all}
-use Rattle.hgs_machine.specs.Asked.{asked}
-use Rattle.hgs_machine.specs.Fed.{new_machine}
+use Rattle.hgs_machine.specs.Asked.{Question, Doing, Sizing, Ending, asked}
+use Rattle.hgs_machine.specs.Fed.{is_acknowledged, is_published, new_machine}
+use Rattle.hgs_machine.specs.declared.machine.Machine.{Machine}
+use Rattle.hgs_machine.specs.Planned.{IsPlanned}
 use Rattle.hgs_mem.specs.Steady.{steady_log, steady_start}
 use Rattle.hgs_model.specs.declared.command.Command.{Command}
 use Rattle.hgs_recover.specs.Found.{answer_in}
@@ -19,6 +21,7 @@ use Rattle.hgs_writer.specs.declared.plan.Planned.{Planned}
 use Rattle.hgs_load.specs.View.{View}
 use Rattle.hgs_reader.specs.Shown.{marks_text}
 use Rattle.hgs_world.specs.Questions.{Sight, body_text, load_line, loaded_by, loading_line, log_text, no_sight, of_last, opened, phase_text, read_by, read_line, sight_of}
+use Rattle.hgs_world.specs.Book.{Commands, ended_in, no_commands, noted, taken_back, with_pending}
 use Rattle.hgs_world.specs.Start.{new_tree}
 use Rattle.hgs_world.specs.Texts.{begun_line, recovered_line, word_line}
 use Rattle.hgs_world.specs.Working.{Acts, RunsTo, StopsWithin, line_at, writer_left}
@@ -31,16 +34,18 @@ use Rattle.hgs_world.specs.declared.working.Goal.TheVariants as goals
 use Rattle.hgs_world.specs.declared.working.Working.{Working}
 use Rattle.hgs_world.specs.declared.state.World.{World}
 
--- the tree at the start and what was done since, the writer at work, the readers, and whether there was no memory at some event
+-- the tree at the start and what was done since, the writer at work, the readers, the commands that were published, and whether
+-- there was no memory at some event
 pub record Scene : Type 0 where
   pub start : Tree
   pub log : List Op
   pub writer : Option Working
   pub readers : List Sight
+  pub book : Commands
   pub spent : Bool
 
 abbrev pub scene_of : World → Scene
-scene_of w = record { start = steady_start w.files; log = steady_log w.files; writer = w.writer; readers = map sight_of w.readers.items; spent = w.spent }
+scene_of w = record { start = steady_start w.files; log = steady_log w.files; writer = w.writer; readers = map sight_of w.readers.items; book = w.book; spent = w.spent }
 
 abbrev pub tree_of : Scene → Tree
 tree_of s = after_all s.log s.start
@@ -51,6 +56,7 @@ pub record IsFirst (readers : ℕ) (s : Scene) : Type 0 where
   pub log : s.log ≡ []
   pub writer : s.writer ≡ None
   pub readers_are : s.readers ≡ replicate readers no_sight
+  pub book : s.book ≡ no_commands
   pub unspent : s.spent ≡ false
 
 -- ---- events of the writer
@@ -73,36 +79,59 @@ IfRunning (Some w) Idle Holds = Holds w
 abbrev pub new_writer : Planned → Working
 new_writer p = record { machine = new_machine p.plan; part = 0; rev = p.rev; node = p.node }
 
--- both locks are made and a transaction is planned, or the command is refused and no lock is left
-abbrev pub HasBegun : Begun → Scene → Scene → List Op → List ℕ → Type 0
-HasBegun (Ready planned) old new done text = (new ≡ with_writer old done (Some (new_writer planned))) × (text ≡ word_line (codes "begin ok"))
-HasBegun (Refused a) old new done text = (a.swept ≡ true) × (new ≡ with_writer old done None) × (text ≡ begun_line a.outcome)
+-- both locks are made and a transaction is planned that can be carried out from there, or the command is refused and no lock is left
+abbrev pub HasBegun : Command → Begun → Scene → Scene → List Op → List ℕ → Type 0
+HasBegun command (Ready planned) old new done text = IsPlanned (after_all done (tree_of old)) planned.plan × (new ≡ record (with_writer old done (Some (new_writer planned))) { book = with_pending command old.book }) × (text ≡ word_line (codes "begin ok"))
+HasBegun command (Refused a) old new done text = (a.swept ≡ true) × (new ≡ with_writer old done None) × (text ≡ begun_line a.outcome)
 
 abbrev pub BeginsIn : Command → Scene → Scene → List ℕ → Type 0
-BeginsIn command old new text = (begun : Begun) × (done : List Op) × Begins who command (tree_of old) begun done × HasBegun begun old new done text
+BeginsIn command old new text = (begun : Begun) × (done : List Op) × Begins who command (tree_of old) begun done × HasBegun command begun old new done text
+
+-- the commands, with that of a writer whose machine has come so far
+abbrev pub book_at : Machine → Commands → Commands
+book_at m book = noted (is_published m) (is_acknowledged m) book
+
+-- and once it has nothing left to do
+abbrev pub book_left : Question → Commands → Commands
+book_left (Doing op) book = book
+book_left (Sizing path) book = book
+book_left Ending book = ended_in book
 
 -- what the writer did, and what is left of it
 abbrev pub LeavesWriter : Scene → Scene → List Op → Working → List ℕ → List ℕ → Type 0
-LeavesWriter old new done after words text = (new ≡ with_writer old done (writer_left (asked after.machine) after)) × (text ≡ line_at (asked after.machine) (word_line words) after)
+LeavesWriter old new done after words text =
+    (new ≡ record (with_writer old done (writer_left (asked after.machine) after)) { book = book_left (asked after.machine) (book_at after.machine old.book) })
+    × (text ≡ line_at (asked after.machine) (word_line words) after)
+
+-- an event of a writer that is at work
+abbrev pub ActsAt : Deed → List ℕ → Scene → Scene → List ℕ → Working → Type 0
+ActsAt deed words old new text w = (done : List Op) × (after : Working) × Acts deed (tree_of old) w done after × LeavesWriter old new done after words text
 
 abbrev pub ActsIn : Deed → List ℕ → Scene → Scene → List ℕ → Type 0
-ActsIn deed words old new text =
-    IfRunning old.writer (OnlySays old new (codes "idle") text)
-    (λ w. (done : List Op) × (after : Working) × Acts deed (tree_of old) w done after × LeavesWriter old new done after words text)
+ActsIn deed words old new text = IfRunning old.writer (OnlySays old new (codes "idle") text) (ActsAt deed words old new text)
+
+abbrev pub RunsAt : Goal → List ℕ → Scene → Scene → List ℕ → Working → Type 0
+RunsAt goal words old new text w = (done : List Op) × (after : Working) × RunsTo goal (tree_of old) w done after × LeavesWriter old new done after words text
 
 abbrev pub RunsIn : Goal → List ℕ → Scene → Scene → List ℕ → Type 0
-RunsIn goal words old new text =
-    IfRunning old.writer (OnlySays old new (codes "idle") text)
-    (λ w. (done : List Op) × (after : Working) × RunsTo goal (tree_of old) w done after × LeavesWriter old new done after words text)
+RunsIn goal words old new text = IfRunning old.writer (OnlySays old new (codes "idle") text) (RunsAt goal words old new text)
 
 -- all readers lose what they have loaded, and their loads
 abbrev pub forgotten : ℕ → List Sight
 forgotten count = replicate count no_sight
 
+abbrev pub StopsAt : ℕ → Scene → Scene → List ℕ → Working → Type 0
+StopsAt count old new text w =
+    (done : List Op) × StopsWithin count (tree_of old) w done
+    × (new ≡ record old { log = old.log ++ done; writer = None; readers = forgotten (length old.readers); book = ended_in old.book }) × (text ≡ word_line (codes "stopped"))
+
 abbrev pub StopsIn : ℕ → Scene → Scene → List ℕ → Type 0
-StopsIn count old new text =
-    IfRunning old.writer (OnlySays old new (codes "idle") text)
-    (λ w. (done : List Op) × StopsWithin count (tree_of old) w done × (new ≡ record old { log = old.log ++ done; writer = None; readers = forgotten (length old.readers) }) × (text ≡ word_line (codes "stopped")))
+StopsIn count old new text = IfRunning old.writer (OnlySays old new (codes "idle") text) (StopsAt count old new text)
+
+-- what was published and not acknowledged is taken back where there was something to undo
+abbrev pub book_recovered : RecoverAnswer → Commands → Commands
+book_recovered recoveries.Restored book = taken_back book
+book_recovered _ book = book
 
 -- recovering came to an end, with all swept
 abbrev pub HasEnded : RecoverAnswer → Type 0
@@ -111,12 +140,13 @@ HasEnded recoveries.NothingToDo = Unit {0}
 HasEnded (recoveries.Damaged d) = Unit {0}
 HasEnded _ = ⊥
 
+abbrev pub RecoversAt : Scene → Scene → List ℕ → Type 0
+RecoversAt old new text =
+    (came : RecoverAnswer) × (done : List Op) × HasEnded came × (came ≡ answer_in (tree_of old)) × RecoversBy (tree_of old) came true done
+    × (new ≡ record old { log = old.log ++ done; readers = forgotten (length old.readers); book = book_recovered came old.book }) × (text ≡ recovered_line came)
+
 abbrev pub RecoversIn : Scene → Scene → List ℕ → Type 0
-RecoversIn old new text =
-    IfRunning old.writer
-    ((came : RecoverAnswer) × (done : List Op) × HasEnded came × (came ≡ answer_in (tree_of old)) × RecoversBy (tree_of old) came true done
-    × (new ≡ record old { log = old.log ++ done; readers = forgotten (length old.readers) }) × (text ≡ recovered_line came))
-    (λ w. OnlySays old new (codes "busy") text)
+RecoversIn old new text = IfRunning old.writer (RecoversAt old new text) (λ w. OnlySays old new (codes "busy") text)
 
 -- ---- events of readers
 

@@ -4,6 +4,7 @@ ghost use Rattle.hgs_mem.specs.Steady.{steady_tree};
 ghost use Rattle.hgs_world.specs.Working.{CanGoOn};
 ghost use Rattle.hgs_world.specs.declared.working.Working.{Working};
 
+use crate::book::Book;
 use crate::reading::Reading;
 use crate::working::Working;
 use hgs_mem::steady::SteadyFiles;
@@ -16,6 +17,8 @@ pub struct World {
     pub(crate) files: SteadyFiles,
     pub(crate) writer: Option<Working>,
     pub(crate) readers: Vec<Reading>,
+    /// The commands that were published.
+    pub(crate) book: Book,
     /// Whether there was no memory at some event.
     pub(crate) spent: bool,
     ghost at_work: { (w : Working) → writer ≡ Some w → CanGoOn (steady_tree files) w },

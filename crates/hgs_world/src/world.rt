@@ -8,12 +8,14 @@ ghost use Rattle.hgs_model.specs.Valid.{IsValid};
 ghost use Rattle.hgs_schedule.specs.declared.event.Event.TheVariants.{Begin, Load, Log, Open, Read};
 ghost use Rattle.hgs_schedule.specs.Schedule.{CanCome};
 ghost use Rattle.hgs_reader.specs.Shown.{marks_text};
+ghost use Rattle.hgs_world.specs.Book.{with_pending};
 ghost use Rattle.hgs_world.specs.Questions.{body_text, no_sight, phase_text, sight_of};
 ghost use Rattle.hgs_world.specs.Start.{new_tree};
-ghost use Rattle.hgs_world.specs.Texts.{begun_line, recovered_line};
+ghost use Rattle.hgs_world.specs.Texts.{begun_line, recovered_line, word_line};
 ghost use Rattle.hgs_world.specs.Working.{HasBytes, CanGoOn, writer_left};
-ghost use Rattle.hgs_world.specs.World.{ActsIn, Answers, Happens, HasEnded, IsFirst, IsSeen, RecoversIn, RunsIn, StopsIn, forgotten, new_writer, scene_of, tree_of};
+ghost use Rattle.hgs_world.specs.World.{ActsIn, Answers, Happens, HasEnded, IsFirst, IsSeen, RecoversIn, RunsIn, StopsIn, book_at, book_left, forgotten, new_writer, scene_of, tree_of};
 
+use crate::book::Book;
 use crate::questions::{body_text, bookmarks_text, log_text, phase_text};
 use crate::reading::Reading;
 use crate::seen::{NoMemory, Seen};
@@ -116,37 +118,67 @@ impl World {
             files: empty_repository(alloc)?,
             writer: None,
             readers: new_readers(alloc, readers as usize)?,
+            book: Book::new(alloc),
             spent: false,
         })
     }
 
-    fn begin(&mut self, command: &Command) -> Result<Vec<u8>, NoMemory>
-        requires { IsValid command.now }
-        ensures does { IfOk result (λ text. Happens (Begin command.now) (scene_of self.old) (scene_of self.new) text.items) }
+    /// The commands that were published and not taken back, in their order.
+    pub fn commands(&self) -> &[Command]
+        ensures { result.now ≡ (scene_of self.now).book.published }
+    {
+        self.book.commands()
+    }
+
+    /// How many of these commands, from the first on, are acknowledged: nothing takes them back.
+    pub fn acknowledged(&self) -> usize
+        ensures { result ≡ (scene_of self.now).book.acknowledged }
+    {
+        self.book.acknowledged()
+    }
+
+    // A writer sets out with what was planned.
+    fn set_out(&mut self, command: Command, planned: Planned) -> Result<Vec<u8>, NoMemory>
+        requires planned { IsPlanned (tree_of (scene_of self.old)) planned.plan }
+        requires none { (scene_of self.old).writer ≡ None }
+        ensures does { IfOk result (λ text. (scene_of self.new ≡ record (scene_of self.old) { writer = Some (new_writer planned); book = with_pending command (scene_of self.old).book }) × (text.items ≡ word_line (codes "begin ok"))) }
+        ensures count { length self.new.readers.items ≡ length self.old.readers.items }
+    {
+        self.book.begin(command)?;
+        self.writer = Some(writer_of(planned));
+        word_line(self.alloc, b"begin ok")
+    }
+
+    fn begin(&mut self, command: Command) -> Result<Vec<u8>, NoMemory>
+        requires { IsValid command }
+        ensures does { IfOk result (λ text. Happens (Begin command) (scene_of self.old) (scene_of self.new) text.items) }
         ensures count { length self.new.readers.items ≡ length self.old.readers.items }
     {
         if self.writer.is_some() {
             return word_line(self.alloc, b"busy");
         }
-        match begin(self.alloc, &mut self.files, command, WHO) {
-            Begun::Ready(planned) => {
-                self.writer = Some(writer_of(planned));
-                word_line(self.alloc, b"begin ok")
-            }
+        match begin(self.alloc, &mut self.files, &command, WHO) {
+            Begun::Ready(planned) => self.set_out(command, planned),
             Begun::Refused(answer) => refused(self.alloc, &answer),
         }
     }
 
-    // Keeps a writer that has something left to do.
-    fn keep(&mut self, working: Working)
+    // Notes how far a writer has come, and keeps it where it has something left to do.
+    fn keep(&mut self, working: Working) -> Result<(), NoMemory>
         requires at_work { CanGoOn (tree_of (scene_of self.old)) working }
         requires none { (scene_of self.old).writer ≡ None }
-        ensures does { (scene_of self.new) ≡ record (scene_of self.old) { writer = writer_left (asked working.machine) working } }
+        ensures does { OnOk result ((scene_of self.new) ≡ record (scene_of self.old) { writer = writer_left (asked working.machine) working; book = book_left (asked working.machine) (book_at working.machine (scene_of self.old).book) }) }
         ensures count { length self.new.readers.items ≡ length self.old.readers.items }
     {
-        if !working.has_ended() {
+        let machine = &working.machine;
+        self.book
+            .note(machine.is_published(), machine.is_acknowledged())?;
+        if working.has_ended() {
+            self.book.end();
+        } else {
             self.writer = Some(working);
         }
+        Ok(())
     }
 
     fn act(&mut self, deed: Deed, words: &[u8]) -> Result<Vec<u8>, NoMemory>
@@ -159,7 +191,7 @@ impl World {
         };
         working.act(&mut self.files, deed)?;
         let line = working.line(self.alloc, words)?;
-        self.keep(working);
+        self.keep(working)?;
         Ok(line)
     }
 
@@ -172,7 +204,7 @@ impl World {
         };
         working.run(&mut self.files, goal)?;
         let line = working.line(self.alloc, words)?;
-        self.keep(working);
+        self.keep(working)?;
         Ok(line)
     }
 
@@ -193,6 +225,7 @@ impl World {
             return word_line(self.alloc, b"idle");
         };
         working.stop(&mut self.files, count)?;
+        self.book.end();
         self.forget()?;
         word_line(self.alloc, b"stopped")
     }
@@ -205,6 +238,9 @@ impl World {
             return word_line(self.alloc, b"busy");
         }
         let recovered = recover(self.alloc, &mut self.files);
+        if let RecoverAnswer::Restored = recovered.outcome {
+            self.book.take_back();
+        }
         self.forget()?;
         recovered_text(self.alloc, &recovered)
     }
@@ -277,37 +313,37 @@ impl World {
     }
 
     // What an event writes.
-    fn text_of(&mut self, event: &Event) -> Result<Vec<u8>, NoMemory>
-        requires { CanCome (length self.old.readers.items) event.now }
-        ensures happens { IfOk result (λ text. Happens event.now (scene_of self.old) (scene_of self.new) text.items) }
+    fn text_of(&mut self, event: Event) -> Result<Vec<u8>, NoMemory>
+        requires { CanCome (length self.old.readers.items) event }
+        ensures happens { IfOk result (λ text. Happens event (scene_of self.old) (scene_of self.new) text.items) }
         ensures count { length self.new.readers.items ≡ length self.old.readers.items }
     {
         match event {
             Event::Begin(command) => self.begin(command),
             Event::Write(None) => self.act(Deed::All, b"wrote"),
-            Event::Write(Some(count)) => self.act(Deed::Part(*count), b"wrote"),
-            Event::Fail(count) => self.act(Deed::Fail(*count), b"failed"),
+            Event::Write(Some(count)) => self.act(Deed::Part(count), b"wrote"),
+            Event::Fail(count) => self.act(Deed::Fail(count), b"failed"),
             Event::UntilPublish => self.run(Goal::Publishing, b"at publish"),
             Event::UntilClean => self.run(Goal::Cleaning, b"at clean"),
-            Event::Stop(count) => self.stop(*count),
+            Event::Stop(count) => self.stop(count),
             Event::Recover => self.recover(),
             Event::Finish => self.run(Goal::End, b""),
-            Event::Open(reader) => self.open(*reader),
-            Event::Read(reader) => self.read(*reader),
-            Event::Load(reader) => self.load(*reader),
-            Event::Log(reader) => self.log(*reader),
+            Event::Open(reader) => self.open(reader),
+            Event::Read(reader) => self.read(reader),
+            Event::Load(reader) => self.load(reader),
+            Event::Log(reader) => self.log(reader),
             Event::Cat { reader, rev, path } => {
-                self.body(*reader, rev.as_slice(), path.as_slice())
+                self.body(reader, rev.as_slice(), path.as_slice())
             }
-            Event::Phase { reader, rev } => self.phase(*reader, rev.as_slice()),
-            Event::Bookmarks(reader) => self.bookmarks(*reader),
+            Event::Phase { reader, rev } => self.phase(reader, rev.as_slice()),
+            Event::Bookmarks(reader) => self.bookmarks(reader),
         }
     }
 
     /// Makes an event happen, and gives what it writes. Once there was no memory nothing happens any more.
-    pub fn step(&mut self, event: &Event) -> Seen
-        requires { CanCome (length self.old.readers.items) event.now }
-        ensures seen { IsSeen event.now (scene_of self.old) (scene_of self.new) result }
+    pub fn step(&mut self, event: Event) -> Seen
+        requires { CanCome (length self.old.readers.items) event }
+        ensures seen { IsSeen event (scene_of self.old) (scene_of self.new) result }
         ensures readers { length self.new.readers.items ≡ length self.old.readers.items }
     {
         if self.spent {

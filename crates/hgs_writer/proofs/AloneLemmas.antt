@@ -105,7 +105,8 @@ refusal-answered r (refusals.NothingChanged rev) u s = (refl, s)
 -- what is refused as the repository refuses it, or for its limit, leaves the repository as it was
 fault-answered : (u : Tree) (r : Repo) (command : Command) (fault : PlanFault) (stepped : Result Next Refusal) (v : Tree) → AnswersAs u r command (Err fault) stepped → Stands v r → IsAnswered r stepped (outcome_of_plan fault) v
 fault-answered u r command fault (Err e) v is s = subst (λ f. IsAnswered r (Err e) (outcome_of_plan f) v) (sym is) (refusal-answered r e v s)
-fault-answered u r command fault (Ok next) v is s = subst (λ f. IsAnswered r (Ok next) (outcome_of_plan f) v) (sym is.0) s
+fault-answered u r command fault (Ok next) v (inl is) s = subst (λ f. IsAnswered r (Ok next) (outcome_of_plan f) v) (sym is.0) s
+fault-answered u r command fault (Ok next) v (inr is) s = subst (λ f. IsAnswered r (Ok next) (outcome_of_plan f) v) (sym is.0) s
 
 read-answered : (r : Repo) (stepped : Result Next Refusal) (e : ReadAnswer) (v : Tree) → Stands v r → IsAnswered r stepped (outcome_of_read e) v
 read-answered r stepped (reads.Damaged d) v s = s

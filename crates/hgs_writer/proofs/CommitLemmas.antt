@@ -1,5 +1,5 @@
 -- What a commit comes to is what the repository makes of it.
-use Rattle.std.proofs.Common.{◌≡◌, ℕ, ◌+◌, List, [], Bool, false, drop, length, refl, sym, ◌∙◌, ap, subst}
+use Rattle.std.proofs.Common.{inl, inr, ◌≡◌, ℕ, ◌+◌, List, [], Bool, false, drop, length, refl, sym, ◌∙◌, ap, subst}
 use Rattle.std.specs.Prelude.{◌<◌, ◌≤◌, ◌^◌, Option, Result, Ok, Err, ⊤, sum_by, unwrap_or}
 use Rattle.std.specs.Bool.{MatchBool}
 use Rattle.hgs_bytes.specs.Bytes.{same}
@@ -9,6 +9,8 @@ use Rattle.hgs_commit.specs.declared.fault.CommitFault.TheVariants as commits
 use Rattle.hgs_answers.specs.declared.outcome.Outcome.{Outcome}
 use Rattle.hgs_answers.specs.declared.outcome.Outcome.TheVariants as outcomes
 use Rattle.hgs_index.specs.declared.kinds.Which.{Which}
+use Rattle.hgs_index.specs.Either.{chunks_either}
+use Rattle.hgs_index.specs.Inline.{is_inline}
 use Rattle.hgs_index.specs.Revision.{Revision}
 use Rattle.hgs_index.specs.Revlog.{chunk_of}
 use Rattle.hgs_files.specs.declared.op.Op.{Op}
@@ -25,7 +27,7 @@ use Rattle.hgs_model.specs.declared.command.Refusal.{Refusal}
 use Rattle.hgs_ops.specs.Operations.{lock_path, wlock_path}
 use Rattle.hgs_ops.specs.Unhindered.{IsReady}
 use Rattle.hgs_path.specs.declared.name.Ext.{Ext}
-use Rattle.hgs_path.specs.declared.name.Ext.TheVariants.{D}
+use Rattle.hgs_path.specs.declared.name.Ext.TheVariants.{I, D}
 use Rattle.hgs_path.specs.ListedNames.{names_of}
 use Rattle.hgs_path.specs.StoreName.{store_name}
 use Rattle.hgs_planned.specs.Commits.{AnswersWith, CanBeRead}
@@ -35,7 +37,7 @@ use Rattle.hgs_load.specs.Answer.{is_of_outside}
 use Rattle.hgs_load.specs.declared.answer.ReadAnswer.{ReadAnswer}
 use Rattle.hgs_revlog.specs.Held.{AreWithinLimits}
 use Rattle.hgs_revlog.specs.Load.{most_data}
-use Rattle.hgs_stands.specs.Places.{changelog_data, fncache_path, manifest_data}
+use Rattle.hgs_stands.specs.Places.{changelog_data, changelog_index, fncache_path, manifest_data, manifest_index}
 use Rattle.hgs_stands.specs.Stands.{Stands}
 use Rattle.hgs_steps.specs.Fault.{is_memory}
 use Rattle.hgs_steps.specs.Parents.{named_all, parents_answer}
@@ -43,7 +45,7 @@ use Rattle.hgs_steps.specs.Planned.{IsLoadedOf, IsStepOf}
 use Rattle.hgs_steps.specs.declared.fault.PlanFault.{PlanFault}
 use Rattle.hgs_steps.specs.declared.loaded.Loaded.{Loaded}
 use Rattle.hgs_steps.specs.declared.step.Step.{Step}
-use Rattle.hgs_writer.specs.Alone.{HasWhatItNeeds, IsCommitWithoutRoom, IsOutcomeOf, LacksRoom, PassesLimit, ReadsWithin}
+use Rattle.hgs_writer.specs.Alone.{HasWhatItNeeds, IsCommitWithoutRoom, IsOutcomeOf, IsPassed, LacksRoom, PassesLimit, ReadsWithin}
 use Rattle.hgs_writer.specs.Below.{Below}
 
 -- ---- under the locks
@@ -78,7 +80,7 @@ module _ (laws : Below) (t : Tree) (who : List ℕ) (locking : List Op) (locks :
   read-stays : (r : Repo) → CanBeRead t r → CanBeRead (after_all locking t) r
   read-stays r read = record {
     trees = read.trees;
-    filelogs = λ path used. subst (AreWithinLimits ((history r.changesets).filelog path)) (filelog-stays path D) (read.filelogs path used);
+    filelogs = λ path used. subst (AreWithinLimits ((history r.changesets).filelog path)) (λ i. chunks_either (filelog-stays path I i) (filelog-stays path D i)) (read.filelogs path used);
   }
 
   pub reads-under-locks : (r : Repo) (command : Command) → ReadsWithin t r command → ReadsWithin (after_all locking t) r command
@@ -88,19 +90,20 @@ module _ (laws : Below) (t : Tree) (who : List ℕ) (locking : List Op) (locks :
   reads-under-locks r (Unmark mark) within = tt
 
   -- there is as much room
-  revlog-stays : (chunks : List ℕ) (old all : List Revision) → bytes_at t chunks ≡ bytes_at (after_all locking t) chunks → HasRoomFor t chunks old all → HasRoomFor (after_all locking t) chunks old all
-  revlog-stays chunks old all same_bytes room = record {
+  revlog-stays : (index chunks : List ℕ) (old all : List Revision) → bytes_at t index ≡ bytes_at (after_all locking t) index → bytes_at t chunks ≡ bytes_at (after_all locking t) chunks → HasRoomFor t index chunks old all → HasRoomFor (after_all locking t) index chunks old all
+  revlog-stays index chunks old all same_index same_bytes room = record {
     few = room.few;
-    data_end = subst (λ (b : List ℕ). length b + sum_by (λ (x : Revision). length (chunk_of x.text)) (drop (length old) all) ≤ most_data) same_bytes room.data_end;
+    data_end = subst (λ (b : List ℕ). length b + sum_by (λ (x : Revision). length (chunk_of x.text)) (drop (length old) all) ≤ most_data) (λ i. chunks_either (same_index i) (same_bytes i)) room.data_end;
     new = room.new;
   }
 
   room-stays : (r next : Repo) → IsFree t r next → IsFree (after_all locking t) r next
   room-stays r next free = record {
     bookmarks = free.bookmarks;
-    changelog = revlog-stays changelog_data (history r.changesets).changelog (history next.changesets).changelog (bytes-stay changelog_data refl refl) free.changelog;
-    manifest = revlog-stays manifest_data (history r.changesets).manifest (history next.changesets).manifest (bytes-stay manifest_data refl refl) free.manifest;
-    filelogs = λ path. revlog-stays (store_name path D) ((history r.changesets).filelog path) ((history next.changesets).filelog path) (filelog-stays path D) (free.filelogs path);
+    separate = ap is_inline (sym (bytes-stay manifest_index refl refl)) ∙ free.separate;
+    changelog = revlog-stays changelog_index changelog_data (history r.changesets).changelog (history next.changesets).changelog (bytes-stay changelog_index refl refl) (bytes-stay changelog_data refl refl) free.changelog;
+    manifest = revlog-stays manifest_index manifest_data (history r.changesets).manifest (history next.changesets).manifest (bytes-stay manifest_index refl refl) (bytes-stay manifest_data refl refl) free.manifest;
+    filelogs = λ path. revlog-stays (store_name path I) (store_name path D) ((history r.changesets).filelog path) ((history next.changesets).filelog path) (filelog-stays path I) (filelog-stays path D) (free.filelogs path);
     files = λ path ext there none. sym (filelog-stays path ext) ∙ free.files path ext there none;
   }
 
@@ -114,25 +117,33 @@ module _ (laws : Below) (t : Tree) (who : List ℕ) (locking : List Op) (locks :
   commit-before r (Mark mark name) stepped lacks = lacks
   commit-before r (Unmark mark) stepped lacks = lacks
 
+  -- the manifest's form stays
+  form-stays : is_inline (bytes_at (after_all locking t) manifest_index) ≡ is_inline (bytes_at t manifest_index)
+  form-stays = ap is_inline (sym (bytes-stay manifest_index refl refl))
+
+  passed-before : (r : Repo) (which : Which) (stepped : Result Next Refusal) → IsPassed (after_all locking t) r which stepped → IsPassed t r which stepped
+  passed-before r which stepped (inl marks) = inl marks
+  passed-before r which stepped (inr form) = inr (form.0, form.1, sym form-stays ∙ form.2)
+
   limit-before : (r : Repo) (command : Command) (which : Which) (stepped : Result Next Refusal) → PassesLimit (after_all locking t) r command which stepped → PassesLimit t r command which stepped
   limit-before r (Commit n) which stepped passes = lacks-before r stepped passes
-  limit-before r (Move name to force) which stepped passes = passes
-  limit-before r (Mark mark name) which stepped passes = passes
-  limit-before r (Unmark mark) which stepped passes = passes
+  limit-before r (Move name to force) which stepped passes = passed-before r which stepped passes
+  limit-before r (Mark mark name) which stepped passes = passed-before r which stepped passes
+  limit-before r (Unmark mark) which stepped passes = passed-before r which stepped passes
 
   -- what a command comes to under the locks it comes to
   pub outcome-before : (r : Repo) (command : Command) (stepped : Result Next Refusal) (outcome : Outcome) → IsOutcomeOf (after_all locking t) r command stepped outcome → IsOutcomeOf t r command stepped outcome
   outcome-before r command stepped (outcomes.Limit which) is = limit-before r command which stepped is
   outcome-before r command stepped (outcomes.InTheWay path) is = commit-before r command stepped is
   outcome-before r command stepped (outcomes.Collision path rev) is = commit-before r command stepped is
-  outcome-before r command stepped (outcomes.Done rev node) is = is
+  outcome-before r command stepped (outcomes.Done rev node) is = (is.0, sym form-stays ∙ is.1)
   outcome-before r command stepped (outcomes.LockHeld holder) is = is
   outcome-before r command stepped outcomes.Abandoned is = is
   outcome-before r command stepped outcomes.UnknownRevision is = is
   outcome-before r command stepped (outcomes.NothingChanged rev) is = is
   outcome-before r command stepped (outcomes.Damaged damage) is = is
   outcome-before r command stepped outcomes.Fault is = is
-  outcome-before r command stepped (outcomes.Unfinished published) is = is
+  outcome-before r command stepped (outcomes.Unfinished published) is = (is.0, sym form-stays ∙ is.1)
   outcome-before r command stepped (outcomes.NameClash path) is = is
   outcome-before r command stepped (outcomes.NeedsForce rev) is = is
   outcome-before r command stepped outcomes.Memory is = is

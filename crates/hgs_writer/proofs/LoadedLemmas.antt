@@ -5,7 +5,7 @@ use Rattle.std.specs.Result.{result_map_both}
 use Rattle.hgs_files.specs.Tree.{Tree, bytes_at}
 use Rattle.hgs_index.specs.declared.kinds.Which.TheVariants.{Part}
 use Rattle.hgs_loading.specs.Found.{and_then, whole_in}
-use Rattle.hgs_loading.specs.Logs.{index_in, log_in, whole_log_in}
+use Rattle.hgs_loading.specs.Logs.{either_log_in, whole_log_in}
 use Rattle.hgs_loading.specs.Small.{File, Small, bookmarks_in, dirstate_in, dirstate_said, file_in, fncache_in, fncache_path, fncache_refusal, fncache_said, marks_said, most_fncache, roots_in, small_in, with_bytes}
 use Rattle.hgs_loading.specs.Store.{Loaded as Read, loaded_in, loaded_with, logs_in}
 use Rattle.hgs_marks.specs.Bookmarks.{read_bookmarks}
@@ -23,7 +23,7 @@ use Rattle.hgs_load.specs.View.{changelog_data, changelog_index}
 use Rattle.hgs_load.specs.Whole.{is_above}
 use Rattle.hgs_load.specs.declared.answer.ReadAnswer.{ReadAnswer}
 use Rattle.hgs_load.specs.declared.answer.ReadAnswer.TheVariants.{Limit}
-use Rattle.hgs_revlog.specs.Load.{loaded}
+use Rattle.hgs_revlog.specs.Load.{loaded_either}
 use Rattle.hgs_revlog.specs.Log.{Log}
 use Rattle.hgs_revlog.specs.declared.fault.Tail.TheVariants.{Refuse}
 use Rattle.hgs_steps.specs.Planned.{IsLoadedOf}
@@ -85,7 +85,7 @@ small-is t s h =
 
 -- an index that loads was read whole
 abbrev pub AreReadWhole : Type 0
-AreReadWhole = (index : List ℕ) (t : Tree) (log : Log) → log_in index t ≡ Ok log → (index_in index t ≡ bytes_at t index) × (loaded Refuse (bytes_at t index) ≡ Ok log)
+AreReadWhole = (index : List ℕ) (t : Tree) (log : Log) → either_log_in index t ≡ Ok log → loaded_either Refuse (bytes_at t index) ≡ Ok log
 
 pub loaded-is : AreReadWhole → (t : Tree) (s : Read) (l : Loaded) → loaded_in t ≡ Ok s → IsLoadedFrom s l → IsLoadedOf t l
 loaded-is read_whole t s l h from =
@@ -102,8 +102,8 @@ loaded-is read_whole t s l h from =
     let working : e.0 ≡ working_of l.working = ap (λ (r : Read). r.working) same ∙ sym from.working in
     let small = small-is t a.0 a.1 in
     record {
-      changelog = (read_whole changelog_index t c.0 (whole changelog_index changelog_data t c.0 c.1)).1 ∙ ap (λ (x : Log × Log). Ok x.0) logs ∙ ap (λ x. Ok x) changelog;
-      manifest = (read_whole manifest_index t d.0 (whole manifest_index manifest_data t d.0 d.1)).1 ∙ ap (λ (x : Log × Log). Ok x.1) logs ∙ ap (λ x. Ok x) manifest;
+      changelog = (read_whole changelog_index t c.0 (whole changelog_index changelog_data t c.0 c.1)) ∙ ap (λ (x : Log × Log). Ok x.0) logs ∙ ap (λ x. Ok x) changelog;
+      manifest = (read_whole manifest_index t d.0 (whole manifest_index manifest_data t d.0 d.1)) ∙ ap (λ (x : Log × Log). Ok x.1) logs ∙ ap (λ x. Ok x) manifest;
       bookmarks = small.bookmarks.1 ∙ ap (λ (x : Small). Ok x.bookmarks.1) files ∙ ap (λ x. Ok x) (sym from.bookmarks);
       roots = a.0.roots.1;
       roots_text = small.roots.1;

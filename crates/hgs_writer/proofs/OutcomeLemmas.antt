@@ -1,5 +1,5 @@
 -- What a command comes to over files that stand for a repository, within the limits.
-use Rattle.std.proofs.Common.{◌≡◌, ◌≤◌, ℕ, List, [], Bool, true, false, refl, sym, ap, subst}
+use Rattle.std.proofs.Common.{◌≡◌, ◌≤◌, ℕ, List, [], Bool, true, false, inl, inr, refl, sym, ap, subst}
 use Rattle.std.specs.Prelude.{Option, Result, Ok, Err, ⊤, length, unwrap_or}
 use Rattle.std.specs.Bool.{MatchBool}
 use Rattle.hgs_answers.specs.declared.answer.Answer.{Answer}
@@ -8,9 +8,12 @@ use Rattle.hgs_commit.specs.Commit.{Steps}
 use Rattle.hgs_commit.specs.declared.fault.CommitFault.{CommitFault}
 use Rattle.hgs_commit.specs.declared.fault.CommitFault.TheVariants as commits
 use Rattle.hgs_files.specs.declared.op.Op.{Op}
-use Rattle.hgs_files.specs.Tree.{Tree, after_all}
-use Rattle.hgs_index.specs.declared.kinds.Which.TheVariants.{Bookmarks}
+use Rattle.hgs_files.specs.Tree.{Tree, after_all, bytes_at}
+use Rattle.hgs_index.specs.declared.kinds.Which.{Which}
+use Rattle.hgs_index.specs.declared.kinds.Which.TheVariants.{Bookmarks, Inline}
 use Rattle.hgs_index.specs.declared.node.Node.{Node}
+use Rattle.hgs_index.specs.Either.{chunks_either}
+use Rattle.hgs_index.specs.Inline.{is_inline}
 use Rattle.hgs_loading.specs.Store.{Loaded as Read, loaded_in}
 use Rattle.hgs_machine.specs.Locks.{AreLocked, IsTurnedAway}
 use Rattle.hgs_machine.specs.declared.ended.Short.{Short}
@@ -31,7 +34,7 @@ use Rattle.hgs_load.specs.declared.answer.ReadAnswer.TheVariants as reads
 use Rattle.hgs_load.specs.Answer.{is_of_outside}
 use Rattle.hgs_revlog.specs.Held.{AreWithinLimits}
 use Rattle.hgs_model.specs.History.{history}
-use Rattle.hgs_stands.specs.Places.{bookmarks_path, changelog_data, dirstate_path, fncache_path, manifest_data, roots_path}
+use Rattle.hgs_stands.specs.Places.{bookmarks_path, changelog_data, dirstate_path, fncache_path, manifest_data, manifest_index, roots_path}
 use Rattle.hgs_load.specs.Open.{most_bookmarks_text, most_dirstate, most_roots}
 use Rattle.hgs_loading.specs.Small.{most_fncache}
 use Rattle.hgs_stands.specs.Stands.{Stands}
@@ -43,7 +46,7 @@ use Rattle.hgs_steps.specs.declared.loaded.Loaded.{Loaded}
 use Rattle.hgs_steps.specs.declared.fault.PlanFault.{PlanFault}
 use Rattle.hgs_steps.specs.declared.fault.PlanFault.TheVariants as plans
 use Rattle.hgs_steps.specs.declared.step.Step.{Step}
-use Rattle.hgs_writer.specs.Alone.{IsOutcomeOf, PassesLimit, ReadsWithin}
+use Rattle.hgs_writer.specs.Alone.{IsOutcomeOf, IsPassed, PassesLimit, ReadsWithin}
 use Rattle.hgs_writer.specs.Below.{Below}
 use Rattle.hgs_writer.specs.Limits.{LoadsWithin}
 use Rattle.hgs_writer.specs.Outcomes.{outcome_of_commit, outcome_of_ended, outcome_of_lock, outcome_of_plan, outcome_of_read}
@@ -66,7 +69,7 @@ within-locks files t r who locking locks within =
       roots = subst (λ (b : List ℕ). length b ≤ most_roots) (at roots_path refl refl) within.roots;
       fncache = subst (λ (b : List ℕ). length b ≤ most_fncache) (at fncache_path refl refl) within.fncache;
       changelog = subst (AreWithinLimits (history r.changesets).changelog) (at changelog_data refl refl) within.changelog;
-      manifest = subst (AreWithinLimits (history r.changesets).manifest) (at manifest_data refl refl) within.manifest;
+      manifest = subst (AreWithinLimits (history r.changesets).manifest) (λ i. chunks_either (at manifest_index refl refl i) (at manifest_data refl refl i)) within.manifest;
     }
 
 -- ---- refusals
@@ -76,13 +79,14 @@ refusal-outcome t r command refusals.UnknownRevision = refl
 refusal-outcome t r command (refusals.NeedsForce rev) = refl
 refusal-outcome t r command (refusals.NothingChanged rev) = refl
 
--- a command whose bookmarks pass their limit
+-- a command that passes a limit
 abbrev MayPass : Tree → Repo → Command → Type 0
-MayPass t r command = (next : Next) → passes_limit r next.0 ≡ true → PassesLimit t r command Bookmarks (Ok next)
+MayPass t r command = (which : Which) (next : Next) → IsPassed t r which (Ok next) → PassesLimit t r command which (Ok next)
 
 fault-outcome : (u : Tree) (r : Repo) (command : Command) (fault : PlanFault) (stepped : Result Next Refusal) → MayPass u r command → AnswersAs u r command (Err fault) stepped → IsOutcomeOf u r command stepped (outcome_of_plan fault)
 fault-outcome u r command fault (Err e) passes is = subst (λ f. IsOutcomeOf u r command (Err e) (outcome_of_plan f)) (sym is) (refusal-outcome u r command e)
-fault-outcome u r command fault (Ok next) passes is = subst (λ f. IsOutcomeOf u r command (Ok next) (outcome_of_plan f)) (sym is.0) (passes next is.1)
+fault-outcome u r command fault (Ok next) passes (inl is) = subst (λ f. IsOutcomeOf u r command (Ok next) (outcome_of_plan f)) (sym is.0) (passes Bookmarks next (inl (refl, (next, refl, is.1))))
+fault-outcome u r command fault (Ok next) passes (inr is) = subst (λ f. IsOutcomeOf u r command (Ok next) (outcome_of_plan f)) (sym is.0) (passes Inline next (inr (refl, (next, refl, is.1), is.2)))
 
 given-outcome : (u : Tree) (r : Repo) (command : Command) (fault : PlanFault) (stepped : Result Next Refusal) (a : Result Step PlanFault) → MayPass u r command → MatchBool (is_memory fault) ⊤ (a ≡ Err fault) → AnswersAs u r command a stepped → IsOutcomeOf u r command stepped (outcome_of_plan fault)
 given-outcome u r command plans.Memory stepped a passes m is = tt
@@ -115,11 +119,11 @@ read-outcome r command t read stepped reads.NotARepository is m = tt
 read-outcome r command t read stepped (reads.Requirement w) is m = tt
 read-outcome r command t read stepped reads.Memory is m = tt
 
-ended-outcome : (t : Tree) (r : Repo) (command : Command) (next : Next) (few : passes_limit r next.0 ≡ false) (rev : ℕ) (node : Node) (ended : Short) → IsOutcomeOf t r command (Ok next) (outcome_of_ended ended rev node)
-ended-outcome t r command next few rev node shorts.Done = (next, refl, few)
-ended-outcome t r command next few rev node shorts.Fault = tt
-ended-outcome t r command next few rev node (shorts.Unfinished published) = (next, refl, few)
-ended-outcome t r command next few rev node shorts.Memory = tt
+ended-outcome : (t : Tree) (r : Repo) (command : Command) (next : Next) (few : passes_limit r next.0 ≡ false) (separate : is_inline (bytes_at t manifest_index) ≡ false) (rev : ℕ) (node : Node) (ended : Short) → IsOutcomeOf t r command (Ok next) (outcome_of_ended ended rev node)
+ended-outcome t r command next few separate rev node shorts.Done = ((next, refl, few), separate)
+ended-outcome t r command next few separate rev node shorts.Fault = tt
+ended-outcome t r command next few separate rev node (shorts.Unfinished published) = ((next, refl, few), separate)
+ended-outcome t r command next few separate rev node shorts.Memory = tt
 
 module _ (laws : Below) (files : FilesLaw) (reads_of : (t : Tree) (r : Repo) → Stands t r → LoadsWithin t r → (read : Read) × (loaded_in t ≡ Ok read)) where
   lock-outcome : (t : Tree) (r : Repo) (command : Command) (who : List ℕ) (why : LockRefusal) (swept : Bool) (log : List Op) (stepped : Result Next Refusal) → Stands t r → IsTurnedAway who t why swept log → IsOutcomeOf t r command stepped (outcome_of_lock why)
@@ -150,9 +154,9 @@ module _ (laws : Below) (files : FilesLaw) (reads_of : (t : Tree) (r : Repo) →
   refused-outcome u r l (Commit n) (plans.NameClash p) within s is comes = commit-outcome u r l n (plans.NameClash p) refl within.0 s is comes.0
   refused-outcome u r l (Commit n) (plans.InTheWay p) within s is comes = commit-outcome u r l n (plans.InTheWay p) refl within.0 s is comes.0
   refused-outcome u r l (Commit n) (plans.Collision p rev) within s is comes = commit-outcome u r l n (plans.Collision p rev) refl within.0 s is comes.0
-  refused-outcome u r l (Move name to force) fault within s is comes = given-outcome u r (Move name to force) fault (step r (Move name to force)) (planned l (move_of l name to force)) (λ next e. (refl, (next, refl, e))) comes (laws.moved u r l name to force s is)
-  refused-outcome u r l (Mark mark name) fault within s is comes = given-outcome u r (Mark mark name) fault (step r (Mark mark name)) (planned l (mark_of l mark name)) (λ next e. (refl, (next, refl, e))) comes (laws.marked u r l mark name s is)
-  refused-outcome u r l (Unmark mark) fault within s is comes = given-outcome u r (Unmark mark) fault (step r (Unmark mark)) (planned l (unmark_of l mark)) (λ next e. (refl, (next, refl, e))) comes (laws.unmarked u r l mark s is)
+  refused-outcome u r l (Move name to force) fault within s is comes = given-outcome u r (Move name to force) fault (step r (Move name to force)) (planned l (move_of l name to force)) (λ which next e. e) comes (laws.moved u r l name to force s is)
+  refused-outcome u r l (Mark mark name) fault within s is comes = given-outcome u r (Mark mark name) fault (step r (Mark mark name)) (planned l (mark_of l mark name)) (λ which next e. e) comes (laws.marked u r l mark name s is)
+  refused-outcome u r l (Unmark mark) fault within s is comes = given-outcome u r (Unmark mark) fault (step r (Unmark mark)) (planned l (unmark_of l mark)) (λ which next e. e) comes (laws.unmarked u r l mark s is)
 
   -- what a command comes to that is not planned
   fault-comes : (u : Tree) (r : Repo) (l : Loaded) (command : Command) (fault : CommitFault) → ReadsWithin u r command → Stands u r → IsLoadedOf u l → ComesTo u l command (Err fault) → IsOutcomeOf u r command (step r command) (outcome_of_commit fault)
@@ -177,4 +181,4 @@ module _ (laws : Below) (files : FilesLaw) (reads_of : (t : Tree) (r : Repo) →
       subst (IsOutcomeOf t r command (step r command)) (sym outcome) (outcome-before laws t who locking locks r command (step r command) (outcome_of_commit fault) (not-planned-outcome u r command fault read.0 (reads-under-locks laws t who locking locks r command reads_within) stands read.1 plan))
   outcome-of t r command who answer done s within reads_within (is_carried_out planned locking carrying locks plan c whole) =
       let made = planned-step laws (after_all locking t) r plan.loaded command plan.step (reads-fit t r command reads_within) (laws.stands t r who locking locks s) plan.is_loaded plan.comes in
-      subst (IsOutcomeOf t r command (step r command)) (sym c.outcome) (subst (λ x. IsOutcomeOf t r command x (outcome_of_ended c.ended planned.rev planned.node)) (sym made.accepted) (ended-outcome t r command made.next made.as_step.few planned.rev planned.node c.ended))
+      subst (IsOutcomeOf t r command (step r command)) (sym c.outcome) (subst (λ x. IsOutcomeOf t r command x (outcome_of_ended c.ended planned.rev planned.node)) (sym made.accepted) (outcome-before laws t who locking locks r command (Ok made.next) (outcome_of_ended c.ended planned.rev planned.node) (ended-outcome (after_all locking t) r command made.next made.as_step.few made.as_step.separate planned.rev planned.node c.ended)))

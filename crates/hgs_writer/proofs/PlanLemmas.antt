@@ -1,5 +1,5 @@
 -- A plan that is made of what was read can be carried out.
-use Rattle.std.proofs.Common.{◌≡◌, ◌*◌, ℕ, List, Bool, length, Option, Some, None, Result, Ok, Err, IfOk, IfSome, sym, subst}
+use Rattle.std.proofs.Common.{◌≡◌, ◌*◌, ℕ, List, Bool, false, length, Option, Some, None, Result, Ok, Err, IfOk, IfSome, sym, subst}
 use Rattle.hgs_bytes.specs.Answer.{Gives}
 use Rattle.hgs_commit.specs.Commit.{AtRest, Steps}
 use Rattle.hgs_commit.specs.OfCommit.{ArePartsOfCommit}
@@ -21,7 +21,7 @@ use Rattle.hgs_steps.specs.Steps.{mark_of, move_of, planned, unmark_of}
 use Rattle.hgs_steps.specs.declared.loaded.Loaded.{Loaded}
 use Rattle.hgs_steps.specs.declared.step.Step.{Step}
 
-pub weaker : (l : Loaded) (r : Result Step CommitFault) → IfOk r (λ step. (t : Tree) → AreSound t step.parts) → IfOk r (λ step. (t : Tree) → length (bytes_at t changelog_index) ≡ 64 * length l.changelog.entries → AreSound t step.parts)
+pub weaker : (l : Loaded) (r : Result Step CommitFault) → IfOk r (λ step. (t : Tree) → AreSound t step.parts) → IfOk r (λ step. (t : Tree) → (l.changelog.inline ≡ false → length (bytes_at t changelog_index) ≡ 64 * length l.changelog.entries) → AreSound t step.parts)
 weaker l (Ok step) h = λ t e. h t
 weaker l (Err fault) h = tt
 

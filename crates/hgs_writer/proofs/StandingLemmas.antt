@@ -1,5 +1,5 @@
 -- A tree that stands for a repository is read.
-use Rattle.std.proofs.Common.{◌≡◌, ℕ, ◌*◌, ◌/◌, ◌≤◌, ◌==◌, List, [], ◌++◌, length, Bool, true, false, Option, Some, None, Result, Ok, Err, refl, sym, ◌∙◌, ap, arith, append-nil}
+use Rattle.std.proofs.Common.{◌≡◌, ℕ, ◌*◌, ◌/◌, ◌≤◌, ◌==◌, List, [], ◌++◌, length, Bool, true, false, Option, Some, None, Result, Ok, Err, refl, sym, ◌∙◌, ap, subst, arith, append-nil}
 use Rattle.std.specs.Prelude.{unwrap_or, if◌then◌else◌}
 use Rattle.std.proofs.lemmas.Bool.Decides.{nat_tests}
 use Rattle.std.specs.Result.{result_map_both}
@@ -7,11 +7,15 @@ use Rattle.hgs_bytes.specs.Bytes.{IsPrefixOf, among}
 use Rattle.hgs_files.specs.Tree.{Tree, bytes_at}
 use Rattle.hgs_index.specs.declared.entry.Entry.{Entry}
 use Rattle.hgs_index.specs.declared.kinds.Which.TheVariants.{Part}
+use Rattle.hgs_index.specs.Either.{HoldsEither, chunk_bytes, chunks_either}
+use Rattle.hgs_index.specs.Inline.{index_apart, is_inline}
 use Rattle.hgs_index.specs.Node.{null_node}
 use Rattle.hgs_index.specs.Revision.{Revision, nodes}
-use Rattle.hgs_index.specs.Revlog.{HoldsRevisions, all_different}
+use Rattle.hgs_index.specs.Revlog.{Holds, HoldsRevisions, all_different}
+use Rattle.hgs_index.specs.Theorems.EitherLemmas.{separate-holds}
 use Rattle.hgs_loading.specs.Found.{and_then}
-use Rattle.hgs_loading.specs.Logs.{data_in, index_in, log_in, whole_log_in}
+use Rattle.hgs_loading.specs.Logs.{data_in, either_data_in, either_index_in, either_log_in, index_in, whole_log_in}
+use Rattle.hgs_loading.specs.Theorems.IndexLemmas.{inline-index, separate-index}
 use Rattle.hgs_loading.specs.Small.{Listing, Small, dirstate_in, dirstate_said, file_in, fncache_in, fncache_path, fncache_refusal, fncache_said, marks_said, most_fncache, roots_in, small_in, with_bytes}
 use Rattle.hgs_loading.specs.Store.{Loaded as Read, loaded_in, loaded_with, logs_in}
 use Rattle.hgs_marks.specs.Bookmarks.{all_with, read_bookmarks, with_marks}
@@ -30,13 +34,14 @@ use Rattle.hgs_load.specs.Whole.{is_above}
 use Rattle.hgs_load.specs.declared.answer.ReadAnswer.{ReadAnswer}
 use Rattle.hgs_load.specs.declared.answer.ReadAnswer.TheVariants.{Limit}
 use Rattle.hgs_revlog.specs.Held.{Agrees, AreWithinLimits, read_all}
-use Rattle.hgs_revlog.specs.Load.{loaded, most_revisions}
+use Rattle.hgs_revlog.specs.Load.{in_form, loaded, loaded_either, most_revisions}
 use Rattle.hgs_revlog.specs.Log.{Log, nodes_of, stored_sum}
 use Rattle.hgs_revlog.specs.declared.fault.RevFault.TheVariants as faults
 use Rattle.hgs_revlog.specs.declared.fault.Tail.TheVariants.{Refuse}
 use Rattle.hgs_revlog.specs.Theorems.HeldLemmas.{stored_sum-agrees}
 use Rattle.hgs_shown.specs.Shown.{working_nodes}
 use Rattle.hgs_stands.specs.Stands.{Stands}
+use Rattle.hgs_steps.specs.Theorems.SeparateLemmas.{apart-held, held-separate}
 use Rattle.hgs_writer.specs.Limits.{LoadsWithin}
 
 -- what the crates below say of indexes, and of working parents
@@ -67,25 +72,42 @@ mapped f r x e = ap (result_map_both (λ y. y) f) e
 pub record IsRead (t : Tree) (index chunks : List ℕ) (revisions : List Revision) : Type 0 where
   pub log : Log
   pub read : whole_log_in index chunks t ≡ Ok log
-  pub agrees : Agrees (bytes_at t index) (bytes_at t chunks) log.entries revisions
+  pub agrees : Agrees (index_apart (bytes_at t index)) (chunks_either (bytes_at t index) (bytes_at t chunks)) log.entries revisions
 
 same-number : (n m : ℕ) → n ≡ m → n == m ≡ true
 same-number n m e = grind (arith, nat_tests, e)
 
-log-read : (laws : ReadLaws) (t : Tree) (index chunks : List ℕ) (revisions : List Revision) → HoldsRevisions (bytes_at t index) (bytes_at t chunks) revisions → AreWithinLimits revisions (bytes_at t chunks) → IsRead t index chunks revisions
-log-read laws t index chunks revisions held within =
-    let l = laws.loads (bytes_at t index) (bytes_at t chunks) [] revisions held within in
-    let len = laws.index_length (bytes_at t index) (bytes_at t chunks) revisions held in
-    let few = within.few in
-    let whole = laws.short index t (omega (arith, len, few)) in
-    let ends = same-number (length (bytes_at t chunks)) (stored_sum l.0.entries) (sym (stored_sum-agrees (bytes_at t index) (bytes_at t chunks) l.0.entries revisions l.3)) in
-    let of_index : log_in index t ≡ Ok l.0 = ap (λ (b : List ℕ). log_answer index (loaded Refuse b)) whole ∙ ap (log_answer index) l.1 in
-    record {
-      log = l.0;
-      read = ap (λ r. and_then r (λ log. and_then (data_in index chunks log t) (λ x. Ok log))) of_index
-          ∙ ap (λ (b : Bool). and_then (let a : Result Unit ReadAnswer = if b then Ok tt else Err (revlog_refusal index (faults.Tail (length l.0.entries))) in a) (λ x. Ok l.0)) ends;
-      agrees = l.3;
-    }
+log-read : (laws : ReadLaws) (t : Tree) (index chunks : List ℕ) (revisions : List Revision) → HoldsEither (bytes_at t index) (bytes_at t chunks) revisions → AreWithinLimits revisions (chunks_either (bytes_at t index) (bytes_at t chunks)) → IsRead t index chunks revisions
+log-read laws t index chunks revisions held within = record {
+  log = found;
+  read = ap (λ r. and_then r (λ log. and_then (either_data_in index chunks log t) (λ x. Ok log))) of_index ∙ ap (λ r. and_then r (λ x. Ok found)) ends;
+  agrees = l.3;
+}
+  where
+    l : (log : Log) × (loaded Refuse (index_apart (bytes_at t index)) ≡ Ok log) × (read_all log.entries (chunks_either (bytes_at t index) (bytes_at t chunks) ++ []) ≡ Ok revisions) × Agrees (index_apart (bytes_at t index)) (chunks_either (bytes_at t index) (bytes_at t chunks)) log.entries revisions
+    l = laws.loads (index_apart (bytes_at t index)) (chunks_either (bytes_at t index) (bytes_at t chunks)) [] revisions (apart-held (bytes_at t index) (bytes_at t chunks) revisions held) within
+
+    found : Log
+    found = record { inline = is_inline (bytes_at t index); entries = l.0.entries }
+
+    whole : (b : Bool) → is_inline (bytes_at t index) ≡ b → either_index_in index t ≡ bytes_at t index
+    whole true is = inline-index index t is
+    whole false is =
+        let len = laws.index_length (bytes_at t index) (bytes_at t chunks) revisions (subst (λ b. Holds b (bytes_at t index) (bytes_at t chunks) revisions) is held) in
+        let few = within.few in
+        separate-index index t is ∙ laws.short index t (omega (arith, len, few))
+
+    of_index : either_log_in index t ≡ Ok found
+    of_index = ap (λ (b : List ℕ). log_answer index (loaded_either Refuse b)) (whole (is_inline (bytes_at t index)) refl) ∙ ap (λ r. log_answer index (in_form (is_inline (bytes_at t index)) r)) l.1
+
+    ends-in : (b : Bool) → is_inline (bytes_at t index) ≡ b → (let a : Result Unit ReadAnswer = if b then Ok tt else data_in index chunks found t in a) ≡ Ok tt
+    ends-in true is = refl
+    ends-in false is =
+        let sum = ap (λ b. length (chunk_bytes b (bytes_at t index) (bytes_at t chunks))) (sym is) ∙ sym (stored_sum-agrees (index_apart (bytes_at t index)) (chunks_either (bytes_at t index) (bytes_at t chunks)) l.0.entries revisions l.3) in
+        ap (λ (b : Bool). let a : Result Unit ReadAnswer = if b then Ok tt else Err (revlog_refusal index (faults.Tail (length l.0.entries))) in a) (same-number (length (bytes_at t chunks)) (stored_sum l.0.entries) sum)
+
+    ends : either_data_in index chunks found t ≡ Ok tt
+    ends = ends-in (is_inline (bytes_at t index)) refl
 
 -- ---- the whole
 
@@ -98,9 +120,11 @@ tree-read laws t r s within =
     let listed : Listing = lists s.fncache.names in
     let f = file-read most_fncache fncache_path fncache_said t listed within.fncache (mapped fncache_refusal (files_of (bytes_at t fncache_path)) listed (ap as_files s.fncache.text)) in
     let small : Small = record { bookmarks = (t bookmarks_path, marks); dirstate = (t dirstate_path, s.dirstate.dirstate); roots = (t roots_path, s.phases.roots); fncache = (t fncache_path, listed) } in
-    let c = log-read laws t changelog_index changelog_data (history r.changesets).changelog s.revlogs.changelog within.changelog in
+    let plain = held-separate (bytes_at t changelog_index) (bytes_at t changelog_data) (history r.changesets).changelog s.revlogs.changelog in
+    let c = log-read laws t changelog_index changelog_data (history r.changesets).changelog (separate-holds (bytes_at t changelog_index) (bytes_at t changelog_data) (history r.changesets).changelog s.revlogs.changelog)
+    (subst (λ b. AreWithinLimits (history r.changesets).changelog (chunk_bytes b (bytes_at t changelog_index) (bytes_at t changelog_data))) (sym plain) within.changelog) in
     let n = log-read laws t manifest_index manifest_data (history r.changesets).manifest s.revlogs.manifest within.manifest in
-    let known = laws.entry_nodes (bytes_at t changelog_index) (bytes_at t changelog_data) c.log.entries (history r.changesets).changelog c.agrees in
+    let known = laws.entry_nodes (index_apart (bytes_at t changelog_index)) (chunks_either (bytes_at t changelog_index) (bytes_at t changelog_data)) c.log.entries (history r.changesets).changelog c.agrees in
     let working = laws.working c.log.entries r r s.repository ([], sym (append-nil r.changesets)) known s.revlogs.changelog.different s.revlogs.changelog.not_null in
     let nodes_are : working_answer c.log.entries (s.dirstate.dirstate.p1, s.dirstate.dirstate.p2) ≡ Ok r.working = (λ i. working_answer c.log.entries (s.dirstate.first i, s.dirstate.second i)) ∙ working in
     let read : Read = record { files = small; changelog = c.log; manifest = n.log; working = r.working; phases = phases_by s.phases.roots c.log.entries } in

@@ -4,9 +4,10 @@ use Rattle.hgs_answers.specs.declared.outcome.Outcome.{Outcome}
 use Rattle.hgs_answers.specs.declared.outcome.Outcome.TheVariants.{Done, LockHeld, Abandoned, UnknownRevision, NothingChanged, Fault, Unfinished, Limit, NameClash, InTheWay, Collision, NeedsForce, Memory}
 use Rattle.hgs_answers.specs.declared.outcome.Published.{Published}
 use Rattle.hgs_answers.specs.declared.outcome.Published.TheVariants.{No, Yes, Unknown}
-use Rattle.hgs_files.specs.Tree.{Tree}
+use Rattle.hgs_files.specs.Tree.{Tree, bytes_at}
+use Rattle.hgs_index.specs.Inline.{is_inline}
 use Rattle.hgs_index.specs.declared.kinds.Which.{Which}
-use Rattle.hgs_index.specs.declared.kinds.Which.TheVariants.{Bookmarks}
+use Rattle.hgs_index.specs.declared.kinds.Which.TheVariants.{Bookmarks, Inline}
 use Rattle.hgs_index.specs.declared.node.Node.{Node}
 use Rattle.hgs_model.specs.Repo.{Repo}
 use Rattle.hgs_model.specs.Step.{Next, step}
@@ -17,6 +18,7 @@ use Rattle.hgs_model.specs.declared.command.Refusal.{Refusal}
 use Rattle.hgs_model.specs.declared.command.Refusal.TheVariants as refusals
 use Rattle.hgs_ops.specs.Operations.{strays}
 use Rattle.hgs_stands.specs.Open.{IsOpen}
+use Rattle.hgs_stands.specs.Places.{manifest_index}
 use Rattle.hgs_stands.specs.Stands.{Stands}
 use Rattle.hgs_steps.specs.Planned.{passes_limit}
 use Rattle.hgs_planned.specs.Commits.{CanBeRead}
@@ -81,6 +83,10 @@ IsBarred outcome = IsHeld outcome
 abbrev pub IsAccepted : Repo → Bool → Result Next Refusal → Type 0
 IsAccepted r passes stepped = (next : Next) × (stepped ≡ Ok next) × (passes_limit r next.0 ≡ passes)
 
+-- It does, neither is past it, and the manifest is separate.
+abbrev pub MayBeWritten : Tree → Repo → Result Next Refusal → Type 0
+MayBeWritten t r stepped = IsAccepted r false stepped × (is_inline (bytes_at t manifest_index) ≡ false)
+
 -- The repository accepts the commit.
 abbrev pub IsAcceptedCommit : Command → Result Next Refusal → Type 0
 IsAcceptedCommit (Commit n) stepped = IsOk stepped
@@ -95,10 +101,16 @@ abbrev pub IsCommitWithoutRoom : Tree → Repo → Command → Result Next Refus
 IsCommitWithoutRoom t r (Commit n) stepped = LacksRoom t r stepped
 IsCommitWithoutRoom t r command stepped = ⊥
 
--- The limit is passed: for want of room for a commit, or by the bookmarks of another command.
+-- The limit is passed: by the bookmarks, or by a manifest that is inline, to which no writer appends.
+abbrev pub IsPassed : Tree → Repo → Which → Result Next Refusal → Type 0
+IsPassed t r which stepped =
+    ((which ≡ Bookmarks) × IsAccepted r true stepped)
+    ⊎ ((which ≡ Inline) × IsAccepted r false stepped × (is_inline (bytes_at t manifest_index) ≡ true))
+
+-- It is passed for want of room for a commit, or so by another command.
 abbrev pub PassesLimit : Tree → Repo → Command → Which → Result Next Refusal → Type 0
 PassesLimit t r (Commit n) which stepped = LacksRoom t r stepped
-PassesLimit t r command which stepped = (which ≡ Bookmarks) × IsAccepted r true stepped
+PassesLimit t r command which stepped = IsPassed t r which stepped
 
 -- What a command comes to where the files are within the limits: where the repository accepts it, it is done, or left
 -- unfinished, or passes a limit, or if it is a commit there is no room for it, or it is told of a clash of names; else it is
@@ -107,8 +119,8 @@ abbrev pub IsOutcomeOf : Tree → Repo → Command → Result Next Refusal → O
 IsOutcomeOf t r command stepped (LockHeld holder) = Unit {0}
 IsOutcomeOf t r command stepped Fault = Unit {0}
 IsOutcomeOf t r command stepped Memory = Unit {0}
-IsOutcomeOf t r command stepped (Done rev node) = IsAccepted r false stepped
-IsOutcomeOf t r command stepped (Unfinished published) = IsAccepted r false stepped
+IsOutcomeOf t r command stepped (Done rev node) = MayBeWritten t r stepped
+IsOutcomeOf t r command stepped (Unfinished published) = MayBeWritten t r stepped
 IsOutcomeOf t r command stepped (Limit which) = PassesLimit t r command which stepped
 IsOutcomeOf t r command stepped (NameClash path) = IsAcceptedCommit command stepped
 IsOutcomeOf t r command stepped (InTheWay path) = IsCommitWithoutRoom t r command stepped

@@ -1,6 +1,6 @@
 //! What the parts of a step are, and what a call leaves. Each function is one law; none does anything but to call laws that it
 //! rests on.
-ghost use Rattle.std.specs.Prelude.{◌≡◌, ◌*◌, ◌++◌, length, List, None, Option, Result, Ok, true, ℕ};
+ghost use Rattle.std.specs.Prelude.{false, ◌≡◌, ◌*◌, ◌++◌, length, List, None, Option, Result, Ok, true, ℕ};
 ghost use Rattle.hgs_answers.specs.declared.answer.Answer.{Answer};
 ghost use Rattle.hgs_answers.specs.declared.outcome.Outcome.TheVariants.{Done, LockHeld};
 ghost use Rattle.hgs_commit.specs.OfCommit.{ArePartsOfCommit};
@@ -62,9 +62,9 @@ pub fn commits_are_sound()
     ensures { (t : Tree) (log : Log) (p : Parts) → ArePartsOfCommit log p → length (bytes_at t changelog_index) ≡ 64 * length log.entries → AreSound t p }
 {}
 
-/// The changelog that was loaded of a tree is as long as its entries.
+/// A separate changelog that was loaded of a tree is as long as its entries.
 pub fn changelogs_are_counted()
-    ensures { (t : Tree) (l : LoadedOf) → AreEntries l.changelog.entries → loaded_in t ≡ Ok l → length (bytes_at t changelog_index) ≡ 64 * length l.changelog.entries }
+    ensures { (t : Tree) (l : LoadedOf) → AreEntries l.changelog.entries → l.changelog.inline ≡ false → loaded_in t ≡ Ok l → length (bytes_at t changelog_index) ≡ 64 * length l.changelog.entries }
 {}
 
 /// What was read of a tree is what its files say, whole.

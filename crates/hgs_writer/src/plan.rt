@@ -143,13 +143,13 @@ fn committed<R: Reads>(
     loaded: Loaded,
     change: &NewChange,
 ) -> Result<Step, CommitFault>
-    requires changelog { AreEntries loaded.changelog.entries × (loaded.changelog.inline ≡ false) }
-    requires manifest { AreEntries loaded.manifest.entries × (loaded.manifest.inline ≡ false) }
+    requires changelog { AreEntries loaded.changelog.entries }
+    requires manifest { AreEntries loaded.manifest.entries }
     requires valid { IsNewChange change.now }
     ensures comes { AtRest R.alone (R.seen files.new) (R.start files.new) (λ t. Steps loaded change.now t result) }
     ensures parts { IfOk result (λ step. ArePartsOfCommit loaded.changelog step.parts) }
     ensures ready { IfOk result (λ step. CanBeAssembled step.parts) }
-    ensures sound { IfOk result (λ step. (t : Tree) → length (bytes_at t changelog_index) ≡ 64 * length loaded.changelog.entries → AreSound t step.parts) }
+    ensures sound { IfOk result (λ step. (t : Tree) → (loaded.changelog.inline ≡ false → length (bytes_at t changelog_index) ≡ 64 * length loaded.changelog.entries) → AreSound t step.parts) }
     ensures same_start { R.start files.new ≡ R.start files.old }
     ensures still { R.alone ≡ true → R.seen files.new ≡ R.seen files.old }
     ensures later { R.faults files.old ≤ R.faults files.new }
@@ -170,12 +170,12 @@ fn step_of<R: Reads>(
     loaded: Loaded,
     command: &Command,
 ) -> Result<Step, CommitFault>
-    requires changelog { AreEntries loaded.changelog.entries × (loaded.changelog.inline ≡ false) }
-    requires manifest { AreEntries loaded.manifest.entries × (loaded.manifest.inline ≡ false) }
+    requires changelog { AreEntries loaded.changelog.entries }
+    requires manifest { AreEntries loaded.manifest.entries }
     requires valid { IsValid command.now }
     ensures comes { AtRest R.alone (R.seen files.new) (R.start files.new) (λ t. ComesTo t loaded command.now result) }
     ensures ready { IfOk result (λ step. CanBeAssembled step.parts) }
-    ensures sound { IfOk result (λ step. (t : Tree) → length (bytes_at t changelog_index) ≡ 64 * length loaded.changelog.entries → AreSound t step.parts) }
+    ensures sound { IfOk result (λ step. (t : Tree) → (loaded.changelog.inline ≡ false → length (bytes_at t changelog_index) ≡ 64 * length loaded.changelog.entries) → AreSound t step.parts) }
     ensures same_start { R.start files.new ≡ R.start files.old }
     ensures still { R.alone ≡ true → R.seen files.new ≡ R.seen files.old }
     ensures later { R.faults files.old ≤ R.faults files.new }

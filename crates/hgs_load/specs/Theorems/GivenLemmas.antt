@@ -1,10 +1,10 @@
 -- How many bytes a question was given, one read after another.
-use Rattle.std.proofs.Common.{◌≡◌, ◌⊎◌, inl, inr, ℕ, ◌+◌, ◌≤◌, ◌<◌, min, Bool, true, false, List, [], ◌++◌, length, Option, Some, None, Result, Ok, Err, refl, sym, ◌∙◌, ap, subst, arith}
-use Rattle.std.specs.Prelude.{IfSome, unwrap_or, ⊤, IsErr, IsErrAnd}
+use Rattle.std.proofs.Common.{◌≡◌, inl, inr, ℕ, ◌+◌, Bool, true, false, List, Option, Result, Ok, Err, refl, sym, ap, subst, arith}
+use Rattle.std.specs.Prelude.{⊤, IsErr, IsErrAnd}
 use Rattle.std.specs.Bool.{MatchBool}
 use Rattle.hgs_bytes.specs.Answer.{Gives}
 use Rattle.hgs_files.specs.declared.op.Op.{Op}
-use Rattle.hgs_files.specs.Reads.{greatest, Grows}
+use Rattle.hgs_files.specs.Reads.{Grows}
 use Rattle.hgs_files.specs.Tree.{Tree}
 use Rattle.hgs_load.specs.declared.answer.ReadAnswer.{ReadAnswer}
 use Rattle.hgs_load.specs.declared.answer.ReadAnswer.TheVariants.{Memory}

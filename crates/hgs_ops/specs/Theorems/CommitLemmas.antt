@@ -75,10 +75,10 @@ abbrev pub part_files : Tree → Repo → Repo → List Op
 part_files t r next = filelogs_grow t (history r.changesets).filelog (history next.changesets).filelog (new_paths r next)
 
 abbrev pub part_lines : Repo → Repo → List ℕ
-part_lines r next = flat_map line (new_names (history r.changesets).filelog (new_paths r next))
+part_lines r next = flat_map line (new_names (history r.changesets).filelog (history next.changesets).filelog (new_paths r next))
 
 abbrev pub part_manifest : Tree → Repo → Repo → List Op
-part_manifest t r next = grown t manifest_index manifest_data (history r.changesets).manifest (history next.changesets).manifest
+part_manifest t r next = grown false t manifest_index manifest_data (history r.changesets).manifest (history next.changesets).manifest
 
 abbrev pub part_data : Tree → Repo → Repo → List ℕ
 part_data t r next = new_chunks (new_items (length (bytes_at t changelog_data)) (history r.changesets).changelog (drop (length (history r.changesets).changelog) (history next.changesets).changelog))
@@ -95,14 +95,14 @@ growth-quiet t r next q e =
     four-touched q (part_files t r next) (append_some fncache_path (part_lines r next)) (part_manifest t r next) (append_some changelog_data (part_data t r next))
     (filelogs-touched t (history r.changesets).filelog (history next.changesets).filelog (new_paths r next) q (not-stores q (quiet-fixed q e) (new_paths r next)))
     (touched-some q fncache_path (part_lines r next) (not-in fncache_path q refl e))
-    (grown-touched t manifest_index manifest_data q (history r.changesets).manifest (history next.changesets).manifest (not-in manifest_index q refl e) (not-in manifest_data q refl e))
+    (grown-touched false t manifest_index manifest_data q (history r.changesets).manifest (history next.changesets).manifest (not-in manifest_index q refl e) (not-in manifest_data q refl e))
     (touched-some q changelog_data (part_data t r next) (not-in changelog_data q refl e))
 
 pub growth-appends : (t : Tree) (r next : Repo) → list_all is_append (growth t r next) ≡ true
 growth-appends t r next =
     four-append (part_files t r next) (append_some fncache_path (part_lines r next)) (part_manifest t r next) (append_some changelog_data (part_data t r next))
     (filelogs-appends t (history r.changesets).filelog (history next.changesets).filelog (new_paths r next)) (some-appends fncache_path (part_lines r next))
-    (grown-appends t manifest_index manifest_data (history r.changesets).manifest (history next.changesets).manifest) (some-appends changelog_data (part_data t r next))
+    (grown-appends false t manifest_index manifest_data (history r.changesets).manifest (history next.changesets).manifest) (some-appends changelog_data (part_data t r next))
 
 -- nor the changelog's index
 pub growth-index : (t : Tree) (r next : Repo) → touched changelog_index (growth t r next) ≡ false
@@ -110,7 +110,7 @@ growth-index t r next =
     four-touched changelog_index (part_files t r next) (append_some fncache_path (part_lines r next)) (part_manifest t r next) (append_some changelog_data (part_data t r next))
     (filelogs-touched t (history r.changesets).filelog (history next.changesets).filelog (new_paths r next) changelog_index (not-stores changelog_index refl (new_paths r next)))
     (touched-some changelog_index fncache_path (part_lines r next) refl)
-    (grown-touched t manifest_index manifest_data changelog_index (history r.changesets).manifest (history next.changesets).manifest refl refl)
+    (grown-touched false t manifest_index manifest_data changelog_index (history r.changesets).manifest (history next.changesets).manifest refl refl)
     (touched-some changelog_index changelog_data (part_data t r next) refl)
 
 -- ---- bookmarks

@@ -9,12 +9,14 @@ use Rattle.hgs_bytes.specs.Text.{ascends}
 use Rattle.hgs_bytes.specs.Theorems.ByteLemmas.{same-refl, same-eq}
 use Rattle.hgs_files.specs.declared.op.Op.{Op}
 use Rattle.hgs_files.specs.Tree.{Tree, bytes_at}
+use Rattle.hgs_index.specs.Either.{chunk_bytes}
 use Rattle.hgs_index.specs.Revision.{Revision}
+use Rattle.hgs_index.specs.Revlog.{Item}
 use Rattle.hgs_model.specs.Theorems.ListLemmas.{all-map, ascends-head, ascends-tail, below-trans}
 use Rattle.hgs_path.specs.declared.name.Ext.TheVariants.{I, D}
 use Rattle.hgs_path.specs.StoreName.{store_name}
 use Rattle.hgs_stands.specs.Theorems.ApartLemmas.{kinds-apart}
-use Rattle.hgs_ops.specs.Growth.{append_some, filelogs_grow, grown, new_chunks, new_entries, new_items}
+use Rattle.hgs_ops.specs.Growth.{append_some, filelog_growth, filelogs_grow, grown, grows_inline, new_data, new_entries, new_items}
 use Rattle.hgs_ops.specs.Theorems.Touch.{touched, touched-append, appended, appended-append, appended-none, all-append, bool, never, or-left, or-right, or-both, same-sym}
 use Rattle.hgs_ops.specs.Theorems.CommitTree.{is_append}
 
@@ -34,34 +36,41 @@ some-appends path (b ∷ bytes) = refl
 
 -- ---- the growth of one revlog
 
-pub grown-appends : (t : Tree) (index data_path : List ℕ) (old all : List Revision) → list_all is_append (grown t index data_path old all) ≡ true
-grown-appends t index data_path old all =
-    all-append is_append (append_some data_path (new_chunks (new_items (length (bytes_at t data_path)) old (drop (length old) all)))) _ (some-appends data_path _) (some-appends index _)
+abbrev pub added : Bool → Tree → List ℕ → List ℕ → List Revision → List Revision → List Item
+added f t index data_path old all = new_items (length (chunk_bytes f (bytes_at t index) (bytes_at t data_path))) old (drop (length old) all)
 
-pub grown-touched : (t : Tree) (index data_path p : List ℕ) (old all : List Revision) → same index p ≡ false → same data_path p ≡ false → touched p (grown t index data_path old all) ≡ false
-grown-touched t index data_path p old all a b =
-    touched-append p (append_some data_path (new_chunks (new_items (length (bytes_at t data_path)) old (drop (length old) all)))) _ (touched-some p data_path _ b) (touched-some p index _ a)
+pub grown-appends : (f : Bool) (t : Tree) (index data_path : List ℕ) (old all : List Revision) → list_all is_append (grown f t index data_path old all) ≡ true
+grown-appends f t index data_path old all =
+    all-append is_append (append_some data_path (new_data f (added f t index data_path old all))) _ (some-appends data_path _) (some-appends index _)
 
-pub grown-index : (t : Tree) (index data_path : List ℕ) (old all : List Revision) → same data_path index ≡ false
-    → appended index (grown t index data_path old all) ≡ new_entries old (new_items (length (bytes_at t data_path)) old (drop (length old) all))
-grown-index t index data_path old all e =
-    appended-append index (append_some data_path (new_chunks (new_items (length (bytes_at t data_path)) old (drop (length old) all)))) (append_some index (new_entries old (new_items (length (bytes_at t data_path)) old (drop (length old) all))))
-    ∙ ap (λ l. l ++ appended index (append_some index (new_entries old (new_items (length (bytes_at t data_path)) old (drop (length old) all))))) (appended-none (append_some data_path (new_chunks (new_items (length (bytes_at t data_path)) old (drop (length old) all)))) index (touched-some index data_path _ e))
-    ∙ appended-some index index (new_entries old (new_items (length (bytes_at t data_path)) old (drop (length old) all))) (same-refl index)
+pub grown-touched : (f : Bool) (t : Tree) (index data_path p : List ℕ) (old all : List Revision) → same index p ≡ false → same data_path p ≡ false → touched p (grown f t index data_path old all) ≡ false
+grown-touched f t index data_path p old all a b =
+    touched-append p (append_some data_path (new_data f (added f t index data_path old all))) _ (touched-some p data_path _ b) (touched-some p index _ a)
 
-pub grown-data : (t : Tree) (index data_path : List ℕ) (old all : List Revision) → same index data_path ≡ false
-    → appended data_path (grown t index data_path old all) ≡ new_chunks (new_items (length (bytes_at t data_path)) old (drop (length old) all))
-grown-data t index data_path old all e =
-    appended-append data_path (append_some data_path (new_chunks (new_items (length (bytes_at t data_path)) old (drop (length old) all)))) (append_some index (new_entries old (new_items (length (bytes_at t data_path)) old (drop (length old) all))))
-    ∙ ap (λ l. appended data_path (append_some data_path (new_chunks (new_items (length (bytes_at t data_path)) old (drop (length old) all)))) ++ l) (appended-none (append_some index (new_entries old (new_items (length (bytes_at t data_path)) old (drop (length old) all)))) data_path (touched-some data_path index _ e))
+pub grown-index : (f : Bool) (t : Tree) (index data_path : List ℕ) (old all : List Revision) → same data_path index ≡ false
+    → appended index (grown f t index data_path old all) ≡ new_entries f old (added f t index data_path old all)
+grown-index f t index data_path old all e =
+    appended-append index (append_some data_path (new_data f (added f t index data_path old all))) (append_some index (new_entries f old (added f t index data_path old all)))
+    ∙ ap (λ l. l ++ appended index (append_some index (new_entries f old (added f t index data_path old all)))) (appended-none (append_some data_path (new_data f (added f t index data_path old all))) index (touched-some index data_path _ e))
+    ∙ appended-some index index (new_entries f old (added f t index data_path old all)) (same-refl index)
+
+pub grown-data : (f : Bool) (t : Tree) (index data_path : List ℕ) (old all : List Revision) → same index data_path ≡ false
+    → appended data_path (grown f t index data_path old all) ≡ new_data f (added f t index data_path old all)
+grown-data f t index data_path old all e =
+    appended-append data_path (append_some data_path (new_data f (added f t index data_path old all))) (append_some index (new_entries f old (added f t index data_path old all)))
+    ∙ ap (λ l. appended data_path (append_some data_path (new_data f (added f t index data_path old all))) ++ l) (appended-none (append_some index (new_entries f old (added f t index data_path old all))) data_path (touched-some data_path index _ e))
     ∙ append-nil _
-    ∙ appended-some data_path data_path (new_chunks (new_items (length (bytes_at t data_path)) old (drop (length old) all))) (same-refl data_path)
+    ∙ appended-some data_path data_path (new_data f (added f t index data_path old all)) (same-refl data_path)
 
 -- ---- the growth of the filelogs
 
+-- the form in which a path's filelog grows
+abbrev pub form : Tree → (List ℕ → List Revision) → (List ℕ → List Revision) → List ℕ → Bool
+form t old new q = grows_inline (bytes_at t (store_name q I)) (old q) (new q)
+
 pub filelogs-appends : (t : Tree) (old new : List ℕ → List Revision) (paths : List (List ℕ)) → list_all is_append (filelogs_grow t old new paths) ≡ true
 filelogs-appends t old new [] = refl
-filelogs-appends t old new (q ∷ paths) = all-append is_append (grown t (store_name q I) (store_name q D) (old q) (new q)) _ (grown-appends t (store_name q I) (store_name q D) (old q) (new q)) (filelogs-appends t old new paths)
+filelogs-appends t old new (q ∷ paths) = all-append is_append (filelog_growth t q (old q) (new q)) _ (grown-appends (form t old new q) t (store_name q I) (store_name q D) (old q) (new q)) (filelogs-appends t old new paths)
 
 -- a path that is no store name of these
 abbrev pub AreNot : List ℕ → List (List ℕ) → Type 0
@@ -69,7 +78,7 @@ AreNot p paths = AllByRecursion (λ q. (same (store_name q I) p ≡ false) × (s
 
 pub filelogs-touched : (t : Tree) (old new : List ℕ → List Revision) (paths : List (List ℕ)) (p : List ℕ) → AreNot p paths → touched p (filelogs_grow t old new paths) ≡ false
 filelogs-touched t old new [] p all = refl
-filelogs-touched t old new (q ∷ paths) p all = touched-append p (grown t (store_name q I) (store_name q D) (old q) (new q)) _ (grown-touched t (store_name q I) (store_name q D) p (old q) (new q) all.0.0 all.0.1) (filelogs-touched t old new paths p all.1)
+filelogs-touched t old new (q ∷ paths) p all = touched-append p (filelog_growth t q (old q) (new q)) _ (grown-touched (form t old new q) t (store_name q I) (store_name q D) p (old q) (new q) all.0.0 all.0.1) (filelogs-touched t old new paths p all.1)
 
 -- the store names of these paths are others than those of q, unless they are q
 abbrev pub AreOthers : List ℕ → List (List ℕ) → Type 0
@@ -116,25 +125,25 @@ filelogs-not t old new paths q others e =
 -- what is appended to the two files of a path that is among them
 abbrev pub FileAppends : Tree → (List ℕ → List Revision) → (List ℕ → List Revision) → List (List ℕ) → List ℕ → Type 0
 FileAppends t old new paths q =
-    (appended (store_name q I) (filelogs_grow t old new paths) ≡ new_entries (old q) (new_items (length (bytes_at t (store_name q D))) (old q) (drop (length (old q)) (new q))))
-    × (appended (store_name q D) (filelogs_grow t old new paths) ≡ new_chunks (new_items (length (bytes_at t (store_name q D))) (old q) (drop (length (old q)) (new q))))
+    (appended (store_name q I) (filelogs_grow t old new paths) ≡ new_entries (form t old new q) (old q) (added (form t old new q) t (store_name q I) (store_name q D) (old q) (new q)))
+    × (appended (store_name q D) (filelogs_grow t old new paths) ≡ new_data (form t old new q) (added (form t old new q) t (store_name q I) (store_name q D) (old q) (new q)))
 
 pub filelogs-among : (t : Tree) (old new : List ℕ → List Revision) (paths : List (List ℕ)) (q : List ℕ) → AreOthers q paths → ascends paths ≡ true → among q paths ≡ true → FileAppends t old new paths q
 filelogs-among t old new [] q others a e = never (sym e)
 filelogs-among t old new (o ∷ paths) q others a e = by (bool (same o q)) (λ h. filelogs-among t old new paths q others.1 (ascends-tail o paths a) h)
   where
     G : List ℕ → List Op
-    G x = grown t (store_name x I) (store_name x D) (old x) (new x)
+    G x = filelog_growth t x (old x) (new x)
 
     here : AreOthers o paths → FileAppends t old new (o ∷ paths) o
     here mine =
         let none = not-these o paths mine (head-others o paths a) in (
           appended-append (store_name o I) (G o) (filelogs_grow t old new paths)
               ∙ ap (λ l. appended (store_name o I) (G o) ++ l) (appended-none (filelogs_grow t old new paths) (store_name o I) (filelogs-touched t old new paths (store_name o I) none.0))
-              ∙ append-nil (appended (store_name o I) (G o)) ∙ grown-index t (store_name o I) (store_name o D) (old o) (new o) (same-sym (store_name o I) (store_name o D) (kinds-apart o o)),
+              ∙ append-nil (appended (store_name o I) (G o)) ∙ grown-index (form t old new o) t (store_name o I) (store_name o D) (old o) (new o) (same-sym (store_name o I) (store_name o D) (kinds-apart o o)),
           appended-append (store_name o D) (G o) (filelogs_grow t old new paths)
               ∙ ap (λ l. appended (store_name o D) (G o) ++ l) (appended-none (filelogs_grow t old new paths) (store_name o D) (filelogs-touched t old new paths (store_name o D) none.1))
-              ∙ append-nil (appended (store_name o D) (G o)) ∙ grown-data t (store_name o I) (store_name o D) (old o) (new o) (kinds-apart o o),
+              ∙ append-nil (appended (store_name o D) (G o)) ∙ grown-data (form t old new o) t (store_name o I) (store_name o D) (old o) (new o) (kinds-apart o o),
         )
 
     differ : same o q ≡ false → (same (store_name o I) (store_name q I) ≡ false) × (same (store_name o D) (store_name q D) ≡ false)
@@ -147,10 +156,10 @@ filelogs-among t old new (o ∷ paths) q others a e = by (bool (same o q)) (λ h
     there h rec =
         let d = differ h in (
           appended-append (store_name q I) (G o) (filelogs_grow t old new paths)
-              ∙ ap (λ l. l ++ appended (store_name q I) (filelogs_grow t old new paths)) (appended-none (G o) (store_name q I) (grown-touched t (store_name o I) (store_name o D) (store_name q I) (old o) (new o) d.0 (same-sym (store_name q I) (store_name o D) (kinds-apart q o))))
+              ∙ ap (λ l. l ++ appended (store_name q I) (filelogs_grow t old new paths)) (appended-none (G o) (store_name q I) (grown-touched (form t old new o) t (store_name o I) (store_name o D) (store_name q I) (old o) (new o) d.0 (same-sym (store_name q I) (store_name o D) (kinds-apart q o))))
               ∙ rec.0,
           appended-append (store_name q D) (G o) (filelogs_grow t old new paths)
-              ∙ ap (λ l. l ++ appended (store_name q D) (filelogs_grow t old new paths)) (appended-none (G o) (store_name q D) (grown-touched t (store_name o I) (store_name o D) (store_name q D) (old o) (new o) (kinds-apart o q) d.1))
+              ∙ ap (λ l. l ++ appended (store_name q D) (filelogs_grow t old new paths)) (appended-none (G o) (store_name q D) (grown-touched (form t old new o) t (store_name o I) (store_name o D) (store_name q D) (old o) (new o) (kinds-apart o q) d.1))
               ∙ rec.1,
         )
 

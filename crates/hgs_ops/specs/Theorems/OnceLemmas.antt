@@ -22,7 +22,7 @@ use Rattle.hgs_stands.specs.Places.{changelog_data, changelog_index, fncache_pat
 use Rattle.hgs_path.specs.declared.name.Ext.TheVariants.{I, D}
 use Rattle.hgs_path.specs.StoreName.{store_name}
 use Rattle.hgs_stands.specs.Theorems.ApartLemmas.{kinds-apart}
-use Rattle.hgs_ops.specs.Growth.{append_some, filelogs_grow, growth, grown, new_changelog_entry, new_paths}
+use Rattle.hgs_ops.specs.Growth.{append_some, filelog_growth, filelogs_grow, growth, grown, new_changelog_entry, new_paths}
 use Rattle.hgs_ops.specs.Replaced.{roots_change, roots_of}
 use Rattle.hgs_ops.specs.Unhindered.{IsReady, IsUnhindered}
 use Rattle.hgs_ops.specs.Theorems.Apart.{fixed, stores-fixed}
@@ -30,7 +30,7 @@ use Rattle.hgs_ops.specs.Theorems.CommitLemmas.{part_data, part_files, part_line
 use Rattle.hgs_ops.specs.Theorems.CommitTree.{first_of}
 use Rattle.hgs_ops.specs.Theorems.StandsCommit.{among-in_order, not-fixed, others-from}
 use Rattle.hgs_ops.specs.Operations.{journal_lines, journal_of}
-use Rattle.hgs_ops.specs.Theorems.FileGrowth.{AreOthers, filelogs-touched, grown-touched, head-others, not-these, touched-some}
+use Rattle.hgs_ops.specs.Theorems.FileGrowth.{AreOthers, form, filelogs-touched, grown-touched, head-others, not-these, touched-some}
 use Rattle.hgs_ops.specs.Theorems.Touch.{and-both, and-left, and-right, or-both, or-left, or-right, same-sym, touched}
 
 -- the paths that a journal of these operations names
@@ -112,16 +112,16 @@ pub some-once : (t : Tree) (path bytes : List ℕ) → no_repeat (named t (appen
 some-once t path [] = refl
 some-once t path (b ∷ bytes) = refl
 
-pub grown-each : (P : List ℕ → Type 0) (t : Tree) (index data_path : List ℕ) (old all : List Revision) → in_store (drop 6 index) ≡ index → in_store (drop 6 data_path) ≡ data_path → P index → P data_path → EachPath P (grown t index data_path old all)
-grown-each P t index data_path old all e f p q = each-joined P (append_some data_path _) (append_some index _) (some-each P data_path _ f q) (some-each P index _ e p)
+pub grown-each : (f : Bool) (P : List ℕ → Type 0) (t : Tree) (index data_path : List ℕ) (old all : List Revision) → in_store (drop 6 index) ≡ index → in_store (drop 6 data_path) ≡ data_path → P index → P data_path → EachPath P (grown f t index data_path old all)
+grown-each form P t index data_path old all e f p q = each-joined P (append_some data_path _) (append_some index _) (some-each P data_path _ f q) (some-each P index _ e p)
 
-pub grown-once : (t : Tree) (index data_path : List ℕ) (old all : List Revision) → in_store (drop 6 index) ≡ index → in_store (drop 6 data_path) ≡ data_path → same index data_path ≡ false → no_repeat (named t (grown t index data_path old all)) ≡ true
-grown-once t index data_path old all e f apart =
+pub grown-once : (f : Bool) (t : Tree) (index data_path : List ℕ) (old all : List Revision) → in_store (drop 6 index) ≡ index → in_store (drop 6 data_path) ≡ data_path → same index data_path ≡ false → no_repeat (named t (grown f t index data_path old all)) ≡ true
+grown-once form t index data_path old all e f apart =
     once-joined t (λ p. Unit {0}) (append_some data_path _) (append_some index _) (some-once t data_path _) (some-once t index _) (some-each (λ p. touched p (append_some index _) ≡ false) data_path _ f (touched-some data_path index _ apart)) (some-each (λ p. Unit {0}) index _ e tt)
 
 pub filelogs-each : (P : List ℕ → Type 0) (t : Tree) (old new : List ℕ → List Revision) (paths : List (List ℕ)) → AllByRecursion (λ q. P (store_name q I) × P (store_name q D)) paths → EachPath P (filelogs_grow t old new paths)
 filelogs-each P t old new [] all = tt
-filelogs-each P t old new (q ∷ paths) all = each-joined P (grown t (store_name q I) (store_name q D) (old q) (new q)) (filelogs_grow t old new paths) (grown-each P t (store_name q I) (store_name q D) (old q) (new q) refl refl all.0.0 all.0.1) (filelogs-each P t old new paths all.1)
+filelogs-each P t old new (q ∷ paths) all = each-joined P (filelog_growth t q (old q) (new q)) (filelogs_grow t old new paths) (grown-each (form t old new q) P t (store_name q I) (store_name q D) (old q) (new q) refl refl all.0.0 all.0.1) (filelogs-each P t old new paths all.1)
 
 -- each path is apart from those behind it
 abbrev pub AreAllOthers : List (List ℕ) → Type 0
@@ -136,9 +136,9 @@ pub filelogs-once : (t : Tree) (old new : List ℕ → List Revision) (paths : L
 filelogs-once t old new [] others a = refl
 filelogs-once t old new (q ∷ paths) others a =
     let away = not-these q paths others.0 (head-others q paths a) in
-    once-joined t (λ p. Unit {0}) (grown t (store_name q I) (store_name q D) (old q) (new q)) (filelogs_grow t old new paths)
-    (grown-once t (store_name q I) (store_name q D) (old q) (new q) refl refl (kinds-apart q q)) (filelogs-once t old new paths others.1 (ascends-tail q paths a))
-    (grown-each (λ p. touched p (filelogs_grow t old new paths) ≡ false) t (store_name q I) (store_name q D) (old q) (new q) refl refl
+    once-joined t (λ p. Unit {0}) (filelog_growth t q (old q) (new q)) (filelogs_grow t old new paths)
+    (grown-once (form t old new q) t (store_name q I) (store_name q D) (old q) (new q) refl refl (kinds-apart q q)) (filelogs-once t old new paths others.1 (ascends-tail q paths a))
+    (grown-each (form t old new q) (λ p. touched p (filelogs_grow t old new paths) ≡ false) t (store_name q I) (store_name q D) (old q) (new q) refl refl
     (filelogs-touched t old new paths (store_name q I) away.0) (filelogs-touched t old new paths (store_name q D) away.1))
     (filelogs-each (λ p. Unit {0}) t old new paths (units paths))
 
@@ -214,7 +214,7 @@ module _ (t : Tree) (r next : Repo) (un : IsUnhindered t r next) where
   two-each P each a = each-joined P fl fn (fl-each P each) (some-each P fncache_path (part_lines r next) refl a)
 
   mf-each : (P : List ℕ → Type 0) → P manifest_index → P manifest_data → EachPath P mf
-  mf-each P a b = grown-each P t manifest_index manifest_data (history r.changesets).manifest (history next.changesets).manifest refl refl a b
+  mf-each P a b = grown-each false P t manifest_index manifest_data (history r.changesets).manifest (history next.changesets).manifest refl refl a b
 
   three-each : (P : List ℕ → Type 0) → Everywhere P → EachPath P (fl ++ fn ++ mf)
   three-each P e = each-joined P (fl ++ fn) mf (two-each P e.stores e.list) (mf-each P e.index e.chunks)
@@ -231,7 +231,7 @@ module _ (t : Tree) (r next : Repo) (un : IsUnhindered t r next) where
       (some-once t fncache_path (part_lines r next))
       (fl-each (λ p. touched p fn ≡ false) (λ q ext. touched-some (store_name q ext) fncache_path (part_lines r next) (away-store fncache_path refl q ext)))
       (some-each (λ p. Unit {0}) fncache_path (part_lines r next) refl tt))
-      (grown-once t manifest_index manifest_data (history r.changesets).manifest (history next.changesets).manifest refl refl refl)
+      (grown-once false t manifest_index manifest_data (history r.changesets).manifest (history next.changesets).manifest refl refl refl)
       (two-each (λ p. touched p mf ≡ false) (λ q ext. mf-away (store_name q ext) (away-store manifest_index refl q ext) (away-store manifest_data refl q ext)) (mf-away fncache_path refl refl))
       (mf-each (λ p. Unit {0}) tt tt))
       (some-once t changelog_data (part_data t r next))
@@ -244,7 +244,7 @@ module _ (t : Tree) (r next : Repo) (un : IsUnhindered t r next) where
       (some-each (λ p. Unit {0}) changelog_data (part_data t r next) refl tt)
     where
       mf-away : (p : List ℕ) → same manifest_index p ≡ false → same manifest_data p ≡ false → touched p mf ≡ false
-      mf-away p a b = grown-touched t manifest_index manifest_data p (history r.changesets).manifest (history next.changesets).manifest a b
+      mf-away p a b = grown-touched false t manifest_index manifest_data p (history r.changesets).manifest (history next.changesets).manifest a b
 
   -- the growth, the rename of the roots, and the publishing append
   commit-once : (rc : Bool) (roots entry : List ℕ) → no_repeat (named t ((growth t r next ++ first_of rc roots) ++ Append changelog_index entry ∷ [])) ≡ true

@@ -8,8 +8,12 @@ use Rattle.hgs_bytes.specs.Theorems.ByteLemmas.{same-refl, same-eq}
 use Rattle.hgs_files.specs.declared.op.Op.{Op}
 use Rattle.hgs_files.specs.declared.op.Op.TheVariants.{Append}
 use Rattle.hgs_files.specs.Tree.{Tree, bytes_at}
-use Rattle.hgs_index.specs.Revision.{Parents}
-use Rattle.hgs_index.specs.Revlog.{HoldsRevisions}
+use Rattle.hgs_index.specs.Revision.{Parents, Revision}
+use Rattle.hgs_index.specs.Either.{chunk_bytes, chunks_either}
+use Rattle.hgs_index.specs.Inline.{is_inline}
+use Rattle.hgs_index.specs.Revlog.{Holds, HoldsRevisions}
+use Rattle.hgs_index.specs.Theorems.EitherLemmas.{held-form, separate-holds}
+use Rattle.hgs_revlog.specs.Load.{most_data}
 use Rattle.hgs_index.specs.TrackedPath.{is_tracked}
 use Rattle.hgs_index.specs.Theorems.RevlogLemmas.{held-none}
 use Rattle.hgs_model.specs.declared.command.NewChange.{NewChange}
@@ -28,17 +32,17 @@ use Rattle.hgs_path.specs.Fncache.{clashes, lists}
 use Rattle.hgs_path.specs.ListedNames.{is_listed, names_of}
 use Rattle.hgs_path.specs.StoreName.{listed_name, store_name}
 use Rattle.hgs_stands.specs.Places.{requires_path, fncache_path, changelog_index, changelog_data, manifest_index, manifest_data}
-use Rattle.hgs_stands.specs.Stands.{HoldsAt, IsUsedName, ListsFilelogs, Stands, listed_file}
+use Rattle.hgs_stands.specs.Stands.{HoldsApart, HoldsAt, has_file, IsUsedName, ListsFilelogs, Stands, listed_file}
 use Rattle.hgs_stands.specs.Theorems.StayLemmas.{holds-stays, names-listed}
-use Rattle.hgs_ops.specs.Growth.{append_some, filelogs_grow, growth, grown, new_changelog_entry, new_chunks, new_entries, new_items, new_names, new_paths}
+use Rattle.hgs_ops.specs.Growth.{append_some, begins_inline, filelogs_grow, growth, grown, grows_inline, new_changelog_entry, new_chunks, new_entries, new_items, new_names, new_paths}
 use Rattle.hgs_ops.specs.Replaced.{roots_of}
 use Rattle.hgs_ops.specs.Unhindered.{IsUnhindered}
 use Rattle.hgs_ops.specs.Theorems.Touch.{bytes-same, touched, touched-append, appended, appends_at, appended-append, appended-none, bool, never, and-left, and-right, same-sym}
 use Rattle.hgs_ops.specs.Theorems.Apart.{fixed, among-part, lines-fixed, stores-fixed}
-use Rattle.hgs_ops.specs.Theorems.GrowLemmas.{GrownHeld, FitsAfter, drop-front, held-kept, held-push, new-text}
+use Rattle.hgs_ops.specs.Theorems.GrowLemmas.{GrownHeld, FitsAfter, chunks-growing, drop-front, held-growing, held-kept, held-push, new-text, none-held, own-form}
 use Rattle.hgs_ops.specs.Theorems.CommitTree.{quiet, is_quiet, CommitLeaves}
-use Rattle.hgs_ops.specs.Theorems.FileGrowth.{filelogs-touched, filelogs-not, filelogs-among, AreNot, AreOthers, appended-some, touched-some, grown-touched, grown-index, grown-data}
-use Rattle.hgs_ops.specs.Theorems.NameLines.{among-left, among-right, lines-all, names-added, new-line, store-or}
+use Rattle.hgs_ops.specs.Theorems.FileGrowth.{added, form, filelogs-touched, filelogs-not, filelogs-among, AreNot, AreOthers, appended-some, touched-some, grown-touched, grown-index, grown-data}
+use Rattle.hgs_ops.specs.Theorems.NameLines.{among-left, among-right, is_part, lines-all, names-added, new-line, store-or}
 
 -- ---- the paths of the new changeset
 
@@ -161,13 +165,13 @@ module _ (t : Tree) (r : Repo) (n : NewChange) (c : Changeset) (f : CommitFacts 
   fl = filelogs_grow t h.filelog k.filelog paths
 
   abbrev new_lines : List (List ℕ)
-  new_lines = new_names h.filelog paths
+  new_lines = new_names h.filelog k.filelog paths
 
   abbrev fn : List Op
   fn = append_some fncache_path (flat_map line new_lines)
 
   abbrev mf : List Op
-  mf = grown t manifest_index manifest_data h.manifest k.manifest
+  mf = grown false t manifest_index manifest_data h.manifest k.manifest
 
   abbrev cl : List Op
   cl = append_some changelog_data (new_chunks (new_items (length (bytes_at t changelog_data)) h.changelog (drop (length h.changelog) k.changelog)))
@@ -186,7 +190,7 @@ module _ (t : Tree) (r : Repo) (n : NewChange) (c : Changeset) (f : CommitFacts 
   Other p = (same fncache_path p ≡ false) × (same manifest_index p ≡ false) × (same manifest_data p ≡ false) × (same changelog_data p ≡ false)
 
   rest-touched : (p : List ℕ) → Other p → touched p fl ≡ false → touched p all_growth ≡ false
-  rest-touched p o e = touched-append p (fl ++ fn ++ mf) cl (touched-append p (fl ++ fn) mf (touched-append p fl fn e (touched-some p fncache_path _ o.0)) (grown-touched t manifest_index manifest_data p h.manifest k.manifest o.1 o.2)) (touched-some p changelog_data _ o.3)
+  rest-touched p o e = touched-append p (fl ++ fn ++ mf) cl (touched-append p (fl ++ fn) mf (touched-append p fl fn e (touched-some p fncache_path _ o.0)) (grown-touched false t manifest_index manifest_data p h.manifest k.manifest o.1 o.2)) (touched-some p changelog_data _ o.3)
 
   pub store-other : (q : List ℕ) (ext : Ext) → Other (store_name q ext)
   store-other q ext = (flip fncache_path refl, flip manifest_index refl, flip manifest_data refl, flip changelog_data refl)
@@ -206,7 +210,7 @@ module _ (t : Tree) (r : Repo) (n : NewChange) (c : Changeset) (f : CommitFacts 
   only-first : (p : List ℕ) → Other p → appended p all_growth ≡ appended p fl
   only-first p o =
       four p ∙ ap (λ l. ((appended p fl ++ l) ++ appended p mf) ++ appended p cl) (appended-none fn p (touched-some p fncache_path _ o.0))
-      ∙ ap (λ l. ((appended p fl ++ []) ++ l) ++ appended p cl) (appended-none mf p (grown-touched t manifest_index manifest_data p h.manifest k.manifest o.1 o.2))
+      ∙ ap (λ l. ((appended p fl ++ []) ++ l) ++ appended p cl) (appended-none mf p (grown-touched false t manifest_index manifest_data p h.manifest k.manifest o.1 o.2))
       ∙ ap (λ l. ((appended p fl ++ []) ++ []) ++ l) (appended-none cl p (touched-some p changelog_data _ o.3))
       ∙ append-nil ((appended p fl ++ []) ++ []) ∙ append-nil (appended p fl ++ []) ∙ append-nil (appended p fl)
 
@@ -223,11 +227,15 @@ module _ (t : Tree) (r : Repo) (n : NewChange) (c : Changeset) (f : CommitFacts 
   old-held : (q : List ℕ) → among q paths ≡ true → HoldsAt t (store_name q I) (store_name q D) (h.filelog q)
   old-held q e = elim (bool (uses r.changesets q)) [
     | inl used ↦ f.stands.revlogs.filelogs q used
-    | inr none ↦ subst (HoldsRevisions (bytes_at t (store_name q I)) (bytes_at t (store_name q D))) (sym (unused-empty r.changesets q none))
-        (subst (λ x. HoldsRevisions x (bytes_at t (store_name q D)) []) (sym (f.un.free q I e none)) (subst (λ y. HoldsRevisions [] y []) (sym (f.un.free q D e none)) held-none))
+    | inr none ↦ subst (HoldsAt t (store_name q I) (store_name q D)) (sym (unused-empty r.changesets q none))
+        (separate-holds _ _ [] (subst (λ x. HoldsRevisions x (bytes_at t (store_name q D)) []) (sym (f.un.free q I e none)) (subst (λ y. HoldsRevisions [] y []) (sym (f.un.free q D e none)) held-none)))
   ]
 
-  file-fits : (q : List ℕ) (file : TreeFile) → among q paths ≡ true → find (λ (g : TreeFile). same g.path q) c.tree ≡ Some file → k.filelog q ≡ h.filelog q ++ file_revision h c file ∷ [] → FitsAfter (length (bytes_at t (store_name q D))) (h.filelog q) (file_revision h c file)
+  -- the form in which a filelog grows
+  abbrev form_of : List ℕ → Bool
+  form_of q = form t h.filelog k.filelog q
+
+  file-fits : (q : List ℕ) (file : TreeFile) → among q paths ≡ true → find (λ (g : TreeFile). same g.path q) c.tree ≡ Some file → k.filelog q ≡ h.filelog q ++ file_revision h c file ∷ [] → FitsAfter (length (chunk_bytes (form_of q) (bytes_at t (store_name q I)) (bytes_at t (store_name q D)))) (h.filelog q) (file_revision h c file)
   file-fits q file used found e =
       let so = sound r f.stands.repository in
       let n1 : length h.placed ≡ length r.changesets = length-placed r.changesets in
@@ -236,7 +244,7 @@ module _ (t : Tree) (r : Repo) (n : NewChange) (c : Changeset) (f : CommitFacts 
       let b = subst (λ z. AreTwoBelow (file_parents h c.parents z) (length (h.filelog z))) (same-eq file.path q (found-has (λ (x : TreeFile). Unit {0}) (λ (g : TreeFile). same g.path q) c.tree file (all-unit c.tree) found).1) (file-revision-below h c.parents file.path so) in
       let at : file_parents h c.parents q ≡ file_parents h c.parents file.path = ap (file_parents h c.parents) (sym (same-eq file.path q (found-has (λ (x : TreeFile). Unit {0}) (λ (g : TreeFile). same g.path q) c.tree file (all-unit c.tree) found).1)) in
       record {
-        offset_room = f.un.room.filelogs q used;
+        offset_room = (let room : length (chunks_either (bytes_at t (store_name q I)) (bytes_at t (store_name q D))) ≤ most_data = f.un.room.filelogs q used in omega (arith, room, ap length (chunks-growing (bytes_at t (store_name q I)) (bytes_at t (store_name q D)) (h.filelog q) (k.filelog q) (old-held q used))));
         count = small-number (length (h.filelog q)) (omega arith);
         text = new-text (h.filelog q) (k.filelog q) (file_revision h c file) e (f.un.filelogs q);
         link = small-number (length h.placed) (omega arith);
@@ -248,21 +256,38 @@ module _ (t : Tree) (r : Repo) (n : NewChange) (c : Changeset) (f : CommitFacts 
       all-unit [] = tt
       all-unit (x ∷ xs) = (tt, all-unit xs)
 
-  file-grown : (q : List ℕ) → among q paths ≡ true → GrownHeld (bytes_at t (store_name q I)) (bytes_at t (store_name q D)) (h.filelog q) (k.filelog q)
-  file-grown q e = elim (filelog-one h c q) [
-    | inl same_log ↦ held-kept _ _ (h.filelog q) (k.filelog q) (old-held q e) (ap (λ (x : History). x.filelog q) push ∙ same_log)
-    | inr (file, found, more) ↦
-        let grew = ap (λ (x : History). x.filelog q) push ∙ more in
-        held-push _ _ (h.filelog q) (k.filelog q) (file_revision h c file) (old-held q e) grew (file-fits q file e found grew) (f.un.filelogs q)
+  file-grown : (q : List ℕ) → among q paths ≡ true → GrownHeld (form_of q) (bytes_at t (store_name q I)) (bytes_at t (store_name q D)) (h.filelog q) (k.filelog q)
+  file-grown q e =
+      let old = held-growing (bytes_at t (store_name q I)) (bytes_at t (store_name q D)) (h.filelog q) (k.filelog q) (old-held q e) in
+      elim (filelog-one h c q) [
+        | inl same_log ↦ held-kept (form_of q) _ _ (h.filelog q) (k.filelog q) old (ap (λ (x : History). x.filelog q) push ∙ same_log)
+        | inr (file, found, more) ↦
+            let grew = ap (λ (x : History). x.filelog q) push ∙ more in
+            held-push (form_of q) _ _ (h.filelog q) (k.filelog q) (file_revision h c file) old grew (file-fits q file e found grew) (f.un.filelogs q)
+      ]
+
+  -- a filelog that is still empty is not inline
+  plain-empty : (q : List ℕ) → k.filelog q ≡ [] → form_of q ≡ false
+  plain-empty q e = elim (filelog-one h c q) [
+    | inl same_log ↦ (λ i. grows_inline (bytes_at t (store_name q I)) ((sym same_log ∙ ap (λ (x : History). x.filelog q) (sym push) ∙ e) i) (e i)) ∙ refl
+    | inr (file, found, more) ↦ no-last (h.filelog q) (file_revision h c file) (sym (ap (λ (x : History). x.filelog q) push ∙ more) ∙ e)
   ]
+    where
+      no-last : {A : Type 0} (old : List Revision) (x : Revision) → old ++ x ∷ [] ≡ [] → A
+      no-last [] x e = cc
+      no-last (y ∷ old) x e = cc
+
+  -- what a filelog of the new changeset holds behind the commit, in the form in which it grew
+  grown-held : (q : List ℕ) → uses (r.changesets ++ c ∷ []) q ≡ true → among q paths ≡ true → Holds (form_of q) (bytes_at u (store_name q I)) (bytes_at u (store_name q D)) (k.filelog q)
+  grown-held q used e =
+      let a = filelogs-among t h.filelog k.filelog paths q (others q used) paths-ascend e in
+      subst (λ x. Holds (form_of q) x (bytes_at u (store_name q D)) (k.filelog q)) (sym (store-bytes q I ∙ ap (λ l. bytes_at t (store_name q I) ++ l) a.0))
+      (subst (λ y. Holds (form_of q) (bytes_at t (store_name q I) ++ new_entries (form_of q) (h.filelog q) (added (form_of q) t (store_name q I) (store_name q D) (h.filelog q) (k.filelog q))) y (k.filelog q)) (sym (store-bytes q D ∙ ap (λ l. bytes_at t (store_name q D) ++ l) a.1))
+      (file-grown q e))
 
   pub filelog-stands : (q : List ℕ) → uses (r.changesets ++ c ∷ []) q ≡ true → HoldsAt u (store_name q I) (store_name q D) (k.filelog q)
   filelog-stands q used = elim (bool (among q paths)) [
-    | inl e ↦
-        let a = filelogs-among t h.filelog k.filelog paths q (others q used) paths-ascend e in
-        subst (λ x. HoldsRevisions x (bytes_at u (store_name q D)) (k.filelog q)) (sym (store-bytes q I ∙ ap (λ l. bytes_at t (store_name q I) ++ l) a.0))
-        (subst (λ y. HoldsRevisions (bytes_at t (store_name q I) ++ new_entries (h.filelog q) (new_items (length (bytes_at t (store_name q D))) (h.filelog q) (drop (length (h.filelog q)) (k.filelog q)))) y (k.filelog q)) (sym (store-bytes q D ∙ ap (λ l. bytes_at t (store_name q D) ++ l) a.1))
-        (file-grown q e))
+    | inl e ↦ own-form (form_of q) _ _ (k.filelog q) (plain-empty q) (grown-held q used e)
     | inr e ↦
         let a = filelogs-not t h.filelog k.filelog paths q (others q used) e in
         subst (HoldsAt u (store_name q I) (store_name q D)) (sym (ap (λ (x : History). x.filelog q) push ∙ filelog-same h c q (sym (among-paths q) ∙ e)))
@@ -274,14 +299,14 @@ module _ (t : Tree) (r : Repo) (n : NewChange) (c : Changeset) (f : CommitFacts 
 
   -- ---- the manifest and the changelog
 
-  manifest-index-bytes : bytes_at u manifest_index ≡ bytes_at t manifest_index ++ new_entries h.manifest (new_items (length (bytes_at t manifest_data)) h.manifest (drop (length h.manifest) k.manifest))
+  manifest-index-bytes : bytes_at u manifest_index ≡ bytes_at t manifest_index ++ new_entries false h.manifest (new_items (length (bytes_at t manifest_data)) h.manifest (drop (length h.manifest) k.manifest))
   manifest-index-bytes =
       leaves.bytes manifest_index refl ∙ append-nil _
       ∙ ap (λ l. bytes_at t manifest_index ++ l) (four manifest_index
       ∙ ap (λ l. ((l ++ appended manifest_index fn) ++ appended manifest_index mf) ++ appended manifest_index cl) (appended-none fl manifest_index (filelogs-touched t h.filelog k.filelog paths manifest_index (not-stores manifest_index refl paths)))
       ∙ ap (λ l. (l ++ appended manifest_index mf) ++ appended manifest_index cl) (appended-none fn manifest_index (touched-some manifest_index fncache_path _ refl))
       ∙ ap (λ l. appended manifest_index mf ++ l) (appended-none cl manifest_index (touched-some manifest_index changelog_data _ refl))
-      ∙ append-nil (appended manifest_index mf) ∙ grown-index t manifest_index manifest_data h.manifest k.manifest refl)
+      ∙ append-nil (appended manifest_index mf) ∙ grown-index false t manifest_index manifest_data h.manifest k.manifest refl)
 
   manifest-data-bytes : bytes_at u manifest_data ≡ bytes_at t manifest_data ++ new_chunks (new_items (length (bytes_at t manifest_data)) h.manifest (drop (length h.manifest) k.manifest))
   manifest-data-bytes =
@@ -290,7 +315,7 @@ module _ (t : Tree) (r : Repo) (n : NewChange) (c : Changeset) (f : CommitFacts 
       ∙ ap (λ l. ((l ++ appended manifest_data fn) ++ appended manifest_data mf) ++ appended manifest_data cl) (appended-none fl manifest_data (filelogs-touched t h.filelog k.filelog paths manifest_data (not-stores manifest_data refl paths)))
       ∙ ap (λ l. (l ++ appended manifest_data mf) ++ appended manifest_data cl) (appended-none fn manifest_data (touched-some manifest_data fncache_path _ refl))
       ∙ ap (λ l. appended manifest_data mf ++ l) (appended-none cl manifest_data (touched-some manifest_data changelog_data _ refl))
-      ∙ append-nil (appended manifest_data mf) ∙ grown-data t manifest_index manifest_data h.manifest k.manifest refl)
+      ∙ append-nil (appended manifest_data mf) ∙ grown-data false t manifest_index manifest_data h.manifest k.manifest refl)
 
   few-changes : length h.placed ≤ 1000000
   few-changes = let n1 : length h.placed ≡ length r.changesets = length-placed r.changesets in let n3 : length r.changesets ≤ 1000000 = f.un.room.changesets in omega arith
@@ -310,23 +335,27 @@ module _ (t : Tree) (r : Repo) (n : NewChange) (c : Changeset) (f : CommitFacts 
         second = b.second;
       }
 
-  manifest-grown : GrownHeld (bytes_at t manifest_index) (bytes_at t manifest_data) h.manifest k.manifest
+  manifest-separate : HoldsRevisions (bytes_at t manifest_index) (bytes_at t manifest_data) h.manifest
+  manifest-separate = subst (λ b. Holds b (bytes_at t manifest_index) (bytes_at t manifest_data) h.manifest) f.un.separate f.stands.revlogs.manifest
+
+  manifest-grown : GrownHeld false (bytes_at t manifest_index) (bytes_at t manifest_data) h.manifest k.manifest
   manifest-grown = elim (with-one h.manifest (manifest_revision h c)) [
-    | inl e ↦ held-kept _ _ h.manifest k.manifest f.stands.revlogs.manifest (ap (λ (x : History). x.manifest) push ∙ e)
+    | inl e ↦ held-kept false _ _ h.manifest k.manifest manifest-separate (ap (λ (x : History). x.manifest) push ∙ e)
     | inr e ↦
         let grew = ap (λ (x : History). x.manifest) push ∙ e in
-        held-push _ _ h.manifest k.manifest (manifest_revision h c) f.stands.revlogs.manifest grew (manifest-fits grew) f.un.manifest
+        held-push false _ _ h.manifest k.manifest (manifest_revision h c) manifest-separate grew (manifest-fits grew) f.un.manifest
   ]
 
   pub manifest-stands : HoldsAt u manifest_index manifest_data k.manifest
   manifest-stands =
-      subst (λ x. HoldsRevisions x (bytes_at u manifest_data) k.manifest) (sym manifest-index-bytes)
-      (subst (λ y. HoldsRevisions (bytes_at t manifest_index ++ new_entries h.manifest (new_items (length (bytes_at t manifest_data)) h.manifest (drop (length h.manifest) k.manifest))) y k.manifest) (sym manifest-data-bytes) manifest-grown)
+      separate-holds _ _ k.manifest
+      (subst (λ x. HoldsRevisions x (bytes_at u manifest_data) k.manifest) (sym manifest-index-bytes)
+      (subst (λ y. HoldsRevisions (bytes_at t manifest_index ++ new_entries false h.manifest (new_items (length (bytes_at t manifest_data)) h.manifest (drop (length h.manifest) k.manifest))) y k.manifest) (sym manifest-data-bytes) manifest-grown))
 
   index-untouched : touched changelog_index all_growth ≡ false
   index-untouched = rest-touched changelog_index (refl, refl, refl, refl) (filelogs-touched t h.filelog k.filelog paths changelog_index (not-stores changelog_index refl paths))
 
-  changelog-index-bytes : bytes_at u changelog_index ≡ bytes_at t changelog_index ++ new_entries h.changelog (new_items (length (bytes_at t changelog_data)) h.changelog (drop (length h.changelog) k.changelog))
+  changelog-index-bytes : bytes_at u changelog_index ≡ bytes_at t changelog_index ++ new_entries false h.changelog (new_items (length (bytes_at t changelog_data)) h.changelog (drop (length h.changelog) k.changelog))
   changelog-index-bytes =
       leaves.bytes changelog_index refl
       ∙ ap (λ l. (bytes_at t changelog_index ++ l) ++ new_changelog_entry t r next) (appended-none all_growth changelog_index index-untouched)
@@ -338,17 +367,17 @@ module _ (t : Tree) (r : Repo) (n : NewChange) (c : Changeset) (f : CommitFacts 
       ∙ ap (λ l. bytes_at t changelog_data ++ l) (four changelog_data
       ∙ ap (λ l. ((l ++ appended changelog_data fn) ++ appended changelog_data mf) ++ appended changelog_data cl) (appended-none fl changelog_data (filelogs-touched t h.filelog k.filelog paths changelog_data (not-stores changelog_data refl paths)))
       ∙ ap (λ l. (l ++ appended changelog_data mf) ++ appended changelog_data cl) (appended-none fn changelog_data (touched-some changelog_data fncache_path _ refl))
-      ∙ ap (λ l. l ++ appended changelog_data cl) (appended-none mf changelog_data (grown-touched t manifest_index manifest_data changelog_data h.manifest k.manifest refl refl))
+      ∙ ap (λ l. l ++ appended changelog_data cl) (appended-none mf changelog_data (grown-touched false t manifest_index manifest_data changelog_data h.manifest k.manifest refl refl))
       ∙ appended-some changelog_data changelog_data _ refl)
 
-  pub changelog-stands : HoldsAt u changelog_index changelog_data k.changelog
+  pub changelog-stands : HoldsApart u changelog_index changelog_data k.changelog
   changelog-stands =
       let grew = ap (λ (x : History). x.changelog) push ∙ changelog-one h c f.next_changeset in
       let n0 : length h.changelog ≡ length r.changesets = length-changelog r f.stands.repository in
       let n3 : length r.changesets ≤ 1000000 = f.un.room.changesets in
       subst (λ x. HoldsRevisions x (bytes_at u changelog_data) k.changelog) (sym changelog-index-bytes)
-      (subst (λ y. HoldsRevisions (bytes_at t changelog_index ++ new_entries h.changelog (new_items (length (bytes_at t changelog_data)) h.changelog (drop (length h.changelog) k.changelog))) y k.changelog) (sym changelog-data-bytes)
-      (held-push _ _ h.changelog k.changelog (changeset_revision h c) f.stands.revlogs.changelog grew (record {
+      (subst (λ y. HoldsRevisions (bytes_at t changelog_index ++ new_entries false h.changelog (new_items (length (bytes_at t changelog_data)) h.changelog (drop (length h.changelog) k.changelog))) y k.changelog) (sym changelog-data-bytes)
+      (held-push false _ _ h.changelog k.changelog (changeset_revision h c) f.stands.revlogs.changelog grew (record {
         offset_room = f.un.room.changelog;
         count = small-number (length h.changelog) (omega arith);
         text = new-text h.changelog k.changelog (changeset_revision h c) grew f.un.changelog;
@@ -378,7 +407,7 @@ module _ (t : Tree) (r : Repo) (n : NewChange) (c : Changeset) (f : CommitFacts 
       leaves.bytes fncache_path refl ∙ append-nil _
       ∙ ap (λ l. bytes_at t fncache_path ++ l) (four fncache_path
       ∙ ap (λ l. ((l ++ appended fncache_path fn) ++ appended fncache_path mf) ++ appended fncache_path cl) (appended-none fl fncache_path (filelogs-touched t h.filelog k.filelog paths fncache_path (not-stores fncache_path refl paths)))
-      ∙ ap (λ l. (appended fncache_path fn ++ l) ++ appended fncache_path cl) (appended-none mf fncache_path (grown-touched t manifest_index manifest_data fncache_path h.manifest k.manifest refl refl))
+      ∙ ap (λ l. (appended fncache_path fn ++ l) ++ appended fncache_path cl) (appended-none mf fncache_path (grown-touched false t manifest_index manifest_data fncache_path h.manifest k.manifest refl refl))
       ∙ ap (λ l. (appended fncache_path fn ++ []) ++ l) (appended-none cl fncache_path (touched-some fncache_path changelog_data _ refl))
       ∙ append-nil (appended fncache_path fn ++ []) ∙ append-nil (appended fncache_path fn)
       ∙ appended-some fncache_path fncache_path (flat_map line new_lines) refl)
@@ -408,13 +437,43 @@ module _ (t : Tree) (r : Repo) (n : NewChange) (c : Changeset) (f : CommitFacts 
   used-more q e = uses-next q ∙ ap (λ z. z || among q paths) e
 
   fncache-text : names_of (bytes_at u fncache_path) ≡ Ok all_names
-  fncache-text = ap names_of fncache-bytes ∙ names-added h.filelog paths (bytes_at t fncache_path) f.stands.fncache.names paths-tracked f.stands.fncache.text
+  fncache-text = ap names_of fncache-bytes ∙ names-added h.filelog k.filelog paths (bytes_at t fncache_path) f.stands.fncache.names paths-tracked f.stands.fncache.text
 
   lists-old : (q : List ℕ) (ext : Ext) → lists f.stands.fncache.names q ext ≡ true → lists all_names q ext ≡ true
   lists-old q ext e = among-left (listed_name q ext) f.stands.fncache.names new_lines e
 
-  lists-new : (q : List ℕ) (ext : Ext) → uses (r.changesets ++ c ∷ []) q ≡ true → uses r.changesets q ≡ false → lists all_names q ext ≡ true
-  lists-new q ext e none = among-right (listed_name q ext) f.stands.fncache.names new_lines (new-line h.filelog q ext paths (sym (ap (λ b. b || among q paths) none) ∙ sym (uses-next q) ∙ e) (unused-empty r.changesets q none))
+  lists-new : (q : List ℕ) (ext : Ext) → uses (r.changesets ++ c ∷ []) q ≡ true → uses r.changesets q ≡ false → has_file u q ext ≡ true → lists all_names q ext ≡ true
+  lists-new q ext e none has =
+      let a = sym (ap (λ b. b || among q paths) none) ∙ sym (uses-next q) ∙ e in
+      among-right (listed_name q ext) f.stands.fncache.names new_lines (new-line h.filelog k.filelog q ext paths a (unused-empty r.changesets q none) (part a ext has))
+    where
+      empty : h.filelog q ≡ []
+      empty = unused-empty r.changesets q none
+
+      begins : form_of q ≡ begins_inline (k.filelog q)
+      begins = ap (λ l. grows_inline (bytes_at t (store_name q I)) l (k.filelog q)) empty
+
+      says : (log : List Revision) → Holds (begins_inline log) (bytes_at u (store_name q I)) (bytes_at u (store_name q D)) log → is_inline (bytes_at u (store_name q I)) ≡ false → begins_inline log ≡ false
+      says [] held plain = refl
+      says (x ∷ log) held plain = sym (ap is_inline (sym (append-nil (bytes_at u (store_name q I)))) ∙ held-form (begins_inline (x ∷ log)) (bytes_at u (store_name q I)) (bytes_at u (store_name q D)) [] x log held) ∙ plain
+
+      not-true : (b : Bool) → not b ≡ true → b ≡ false
+      not-true true g = never (sym g)
+      not-true false g = refl
+
+      part : among q paths ≡ true → (x : Ext) → has_file u q x ≡ true → is_part (begins_inline (k.filelog q)) x ≡ true
+      part a I has_it = refl
+      part a D has_it = ap not (says (k.filelog q) (subst (λ b. Holds b (bytes_at u (store_name q I)) (bytes_at u (store_name q D)) (k.filelog q)) begins (grown-held q e a)) (not-true (is_inline (bytes_at u (store_name q I))) has_it))
+
+  -- a filelog that stands keeps its form, so what it has of files afterwards it had before
+  had : (q : List ℕ) (ext : Ext) → uses r.changesets q ≡ true → has_file u q ext ≡ true → has_file t q ext ≡ true
+  had q I used has = refl
+  had q D used has = by (h.filelog q) (f.stands.revlogs.filelogs q used)
+    where
+      by : (log : List Revision) → HoldsAt t (store_name q I) (store_name q D) log → not (is_inline (bytes_at t (store_name q I))) ≡ true
+      by [] held = ap (λ x. not (is_inline x)) (none-held (bytes_at t (store_name q I)) (bytes_at t (store_name q D)) held).0
+      by (x ∷ log) held =
+          ap not (sym (ap is_inline (store-bytes q I) ∙ held-form (is_inline (bytes_at t (store_name q I))) (bytes_at t (store_name q I)) (bytes_at t (store_name q D)) (appended (store_name q I) fl) x log held)) ∙ has
 
   -- a listed file that has bytes afterwards is of a used path
   apart-line : (name : List ℕ) → is_listed name ≡ true → (p : List ℕ) → among p fixed ≡ true → same p (listed_file name) ≡ false
@@ -445,8 +504,8 @@ module _ (t : Tree) (r : Repo) (n : NewChange) (c : Changeset) (f : CommitFacts 
   fncache-stands = record {
     names = f.stands.fncache.names ++ new_lines;
     text = fncache-text;
-    listed = λ q ext e. elim (bool (uses r.changesets q)) [ inl a ↦ lists-old q ext (f.stands.fncache.listed q ext a) | inr a ↦ lists-new q ext e a ];
+    listed = λ q ext e has. elim (bool (uses r.changesets q)) [ inl a ↦ lists-old q ext (f.stands.fncache.listed q ext a (had q ext a has)) | inr a ↦ lists-new q ext e a has ];
     used = all-join (IsUsedName u (r.changesets ++ c ∷ [])) f.stands.fncache.names new_lines
         (old-used f.stands.fncache.names (λ name e. e) (names-listed 1 (lines_of (bytes_at t fncache_path)) f.stands.fncache.names f.stands.fncache.text) f.stands.fncache.used)
-        (lines-all (IsUsedName u (r.changesets ++ c ∷ [])) h.filelog paths (λ q ext a. inr (q, ext, paths-used q a, refl)));
+        (lines-all (IsUsedName u (r.changesets ++ c ∷ [])) h.filelog k.filelog paths (λ q ext a. inr (q, ext, paths-used q a, refl)));
   }

@@ -1,10 +1,11 @@
 -- What the laws of the crates below say, as the proofs of this crate take it.
-use Rattle.std.specs.Prelude.{◌≡◌, ◌↔◌, ◌<◌, ◌*◌, ℕ, List, ◌++◌, true, false, Some, Ok, codes, length, slice_get, slice_index_or, take}
+use Rattle.std.specs.Prelude.{◌≡◌, ◌↔◌, ◌<◌, ◌*◌, ℕ, List, ◌++◌, true, Some, Ok, codes, length, slice_get, slice_index_or, take}
 use Rattle.std.specs.List.{AllByRecursion}
 use Rattle.hgs_bytes.specs.Bytes.{among}
 use Rattle.hgs_files.specs.Tree.{Tree, after_all}
 use Rattle.hgs_index.specs.declared.entry.Entry.{Entry}
 use Rattle.hgs_index.specs.ChangeText.{Change, IsChange, change_text, read_change}
+use Rattle.hgs_index.specs.Either.{BeginsEither, HoldsEither}
 use Rattle.hgs_index.specs.Hex.{hex}
 use Rattle.hgs_index.specs.Hex.{node_at as hex_node}
 use Rattle.hgs_index.specs.Manifest.{Row, AreRows, manifest_text, read_manifest}
@@ -32,6 +33,8 @@ use Rattle.hgs_revlog.specs.Log.{nodes_of}
 pub record TextLaws : Type 0 where
   pub once : (index data_bytes : List ℕ) (revisions others : List Revision) → HoldsRevisions index data_bytes revisions → HoldsRevisions index data_bytes others → revisions ≡ others
   pub begins : (index data_bytes : List ℕ) (revisions : List Revision) → HoldsRevisions index data_bytes revisions → BeginsWithRevisions index data_bytes revisions
+  pub either_once : (index data_bytes : List ℕ) (revisions others : List Revision) → HoldsEither index data_bytes revisions → HoldsEither index data_bytes others → revisions ≡ others
+  pub either_begins : (index data_bytes : List ℕ) (revisions : List Revision) → HoldsEither index data_bytes revisions → BeginsEither index data_bytes revisions
   pub index_length : (index data_bytes : List ℕ) (revisions : List Revision) → HoldsRevisions index data_bytes revisions → length index ≡ 64 * length revisions
   pub counted : (revisions : List Revision) → length (nodes revisions) ≡ length revisions
   pub among_known : (known : List (List ℕ)) (rev : ℕ) → rev < length known → among (slice_index_or known rev null_node) known ≡ true
@@ -68,6 +71,9 @@ pub record SampleLaws : Type 0 where
   pub chunk : (text : List ℕ) → chunk_text (chunk_of text) ≡ Some text
   pub begins : (index data_bytes : List ℕ) (revisions : List Revision) → HoldsRevisions index data_bytes revisions → BeginsWithRevisions index data_bytes revisions
   pub more : (index data_bytes more more_data : List ℕ) (revisions : List Revision) → BeginsWithRevisions index data_bytes revisions → BeginsWithRevisions (index ++ more) (data_bytes ++ more_data) revisions
+  pub separate : (index data_bytes : List ℕ) (revisions : List Revision) → HoldsRevisions index data_bytes revisions → HoldsEither index data_bytes revisions
+  pub either_begins : (index data_bytes : List ℕ) (revisions : List Revision) → HoldsEither index data_bytes revisions → BeginsEither index data_bytes revisions
+  pub either_more : (index data_bytes more more_data : List ℕ) (revisions : List Revision) → BeginsEither index data_bytes revisions → BeginsEither (index ++ more) (data_bytes ++ more_data) revisions
   pub node_back : (node : List ℕ) → IsNode node → hex_node (hex node) ≡ Some node
   pub node : (revisions : List Revision) (rev : ℕ) → IsNode (node_at revisions rev)
   pub roots : (roots : List Root) (text : List ℕ) → (read_roots text ≡ Ok roots ↔ IsTextOf roots text)

@@ -4,6 +4,7 @@ use Rattle.std.specs.Prelude.{None}
 use Rattle.std.specs.List.{AllByRecursion}
 use Rattle.hgs_files.specs.Tree.{Tree, bytes_at}
 use Rattle.hgs_index.specs.Revlog.{HoldsRevisions}
+use Rattle.hgs_index.specs.Theorems.EitherLemmas.{separate-holds}
 use Rattle.hgs_journal.specs.Names.{journal_path}
 use Rattle.hgs_marks.specs.Bookmarks.{mark_lines}
 use Rattle.hgs_marks.specs.Dirstate.{no_dirstate, read_dirstate}
@@ -13,7 +14,7 @@ use Rattle.hgs_path.specs.ListedNames.{names_of}
 use Rattle.hgs_phases.specs.Roots.{read_roots}
 use Rattle.hgs_stands.specs.Places.{store_files}
 use Rattle.hgs_stands.specs.Requires.{IsInProfile}
-use Rattle.hgs_stands.specs.Stands.{HoldsAt, Stands}
+use Rattle.hgs_stands.specs.Stands.{HoldsApart, Stands}
 use Rattle.hgs_stands.specs.Theorems.Basics.{never, none-some}
 
 nothing : HoldsRevisions [] [] []
@@ -31,8 +32,8 @@ nothing = record {
   data_is = refl;
 }
 
-nothing-at : (t : Tree) (index data_path : List ℕ) → bytes_at t index ≡ [] → bytes_at t data_path ≡ [] → HoldsAt t index data_path []
-nothing-at t index data_path i d = subst (λ x. HoldsRevisions x (bytes_at t data_path) []) (sym i) (subst (λ x. HoldsRevisions [] x []) (sym d) nothing)
+nothing-apart : (t : Tree) (index data_path : List ℕ) → bytes_at t index ≡ [] → bytes_at t data_path ≡ [] → HoldsApart t index data_path []
+nothing-apart t index data_path i d = subst (λ x. HoldsRevisions x (bytes_at t data_path) []) (sym i) (subst (λ x. HoldsRevisions [] x []) (sym d) nothing)
 
 empty-is : IsRepo empty_repo
 empty-is = record {
@@ -51,8 +52,8 @@ empty-stands t profile none journal = record {
   repository = empty-is;
   requires = profile;
   revlogs = record {
-    changelog = nothing-at t _ _ none.1.1.1.1.0 none.1.1.1.1.1.0;
-    manifest = nothing-at t _ _ none.1.1.1.1.1.1.0 none.1.1.1.1.1.1.1.0;
+    changelog = nothing-apart t _ _ none.1.1.1.1.0 none.1.1.1.1.1.0;
+    manifest = separate-holds _ _ [] (nothing-apart t _ _ none.1.1.1.1.1.1.0 none.1.1.1.1.1.1.1.0);
     filelogs = λ path used. never (sym used);
     names = λ path other used. never (sym used);
   };

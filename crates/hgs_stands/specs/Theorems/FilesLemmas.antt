@@ -14,7 +14,7 @@ use Rattle.hgs_path.specs.ListedNames.{names_of}
 use Rattle.hgs_path.specs.StoreName.{store_name}
 use Rattle.hgs_stands.specs.Open.{IsOpen}
 use Rattle.hgs_stands.specs.Places.{fncache_path}
-use Rattle.hgs_stands.specs.Stands.{IsUsedName, Stands}
+use Rattle.hgs_stands.specs.Stands.{IsUsedName, Stands, has_file}
 use Rattle.hgs_stands.specs.Theorems.Basics.{never, none-some, same-eq}
 
 -- ---- names of used paths
@@ -53,8 +53,8 @@ is-used P name (x ∷ names) all e = by (same name x) refl e (is-used P name nam
 pub name-used : (t : Tree) (r : Repo) (names : List (List ℕ)) (name : List ℕ) → Stands t r → names_of (bytes_at t fncache_path) ≡ Ok names → among name names ≡ true → IsUsedName t r.changesets name
 name-used t r names name s read there = is-used (IsUsedName t r.changesets) name names (subst (AllByRecursion (IsUsedName t r.changesets)) (names-are t r names s read) s.fncache.used) there
 
-pub path-listed : (t : Tree) (r : Repo) (names : List (List ℕ)) (path : List ℕ) (ext : Ext) → Stands t r → names_of (bytes_at t fncache_path) ≡ Ok names → uses r.changesets path ≡ true → lists names path ext ≡ true
-path-listed t r names path ext s read used = ap (λ l. lists l path ext) (sym (names-are t r names s read)) ∙ s.fncache.listed path ext used
+pub path-listed : (t : Tree) (r : Repo) (names : List (List ℕ)) (path : List ℕ) (ext : Ext) → Stands t r → names_of (bytes_at t fncache_path) ≡ Ok names → uses r.changesets path ≡ true → has_file t path ext ≡ true → lists names path ext ≡ true
+path-listed t r names path ext s read used has = ap (λ l. lists l path ext) (sym (names-are t r names s read)) ∙ s.fncache.listed path ext used has
 
 -- ---- no transaction is open
 

@@ -1,6 +1,7 @@
 -- The laws of the crates below as their proofs, for crates above that still name lemmas of this one.
 use Rattle.hgs_index.specs.Node.{null_node}
 use Rattle.hgs_index.specs.Theorems.ChangeTextLemmas.{change_back}
+use Rattle.hgs_index.specs.Theorems.EitherLemmas.{either-begins, either-once}
 use Rattle.hgs_index.specs.Theorems.ManifestText.{manifest_back}
 use Rattle.hgs_index.specs.Theorems.PlaceLemmas.{among-at, place-same}
 use Rattle.hgs_index.specs.Theorems.RevlogLemmas.{held-begins, length-held}
@@ -21,6 +22,8 @@ pub texts : TextLaws
 texts = record {
   once = held-unique;
   begins = held-begins;
+  either_once = either-once;
+  either_begins = either-begins;
   index_length = length-held;
   counted = length-nodes;
   among_known = λ known rev lt. among-at known rev null_node lt;

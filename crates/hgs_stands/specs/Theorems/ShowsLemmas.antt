@@ -18,8 +18,8 @@ pub holds-begins : (texts : TextLaws) (laws : HistoryLaws) (t : Tree) (changeset
 holds-begins texts laws t changesets each h = record {
   whole = (let n = texts.index_length (bytes_at t changelog_index) (bytes_at t changelog_data) (history changesets).changelog h.changelog in let m = laws.count changesets each in omega (arith, n, m));
   changelog = texts.begins (bytes_at t changelog_index) (bytes_at t changelog_data) (history changesets).changelog h.changelog;
-  manifest = texts.begins (bytes_at t manifest_index) (bytes_at t manifest_data) (history changesets).manifest h.manifest;
-  filelogs = λ path used. texts.begins (bytes_at t (store_name path I)) (bytes_at t (store_name path D)) ((history changesets).filelog path) (h.filelogs path used);
+  manifest = texts.either_begins (bytes_at t manifest_index) (bytes_at t manifest_data) (history changesets).manifest h.manifest;
+  filelogs = λ path used. texts.either_begins (bytes_at t (store_name path I)) (bytes_at t (store_name path D)) ((history changesets).filelog path) (h.filelogs path used);
 }
 
 pub shows-itself : (texts : TextLaws) (laws : HistoryLaws) (t : Tree) (r : Repo) → Stands t r → Shows t r r r

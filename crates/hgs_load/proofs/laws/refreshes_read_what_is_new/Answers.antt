@@ -1,5 +1,5 @@
-use Rattle.hgs_load.proofs.BoundLemmas.{refresh-given, opened-separate, refreshed-separate}
+use Rattle.hgs_load.proofs.BoundLemmas.{refresh-given, opened-form, refreshed-separate}
 use Rattle.hgs_load.proofs.laws.refreshes_read_what_is_new.Goals as goal
 
 pub returns : goal.returns
-returns c = record { few = refresh-given; opened = opened-separate; refreshed = refreshed-separate }
+returns c = record { few = refresh-given; opened = opened-form; refreshed = refreshed-separate }

@@ -1,4 +1,4 @@
-use Rattle.std.proofs.Common.{◌≡◌, length, length-append, ◌∙◌, ap, arith}
+use Rattle.std.proofs.Common.{◌≡◌, ◌*◌, length, length-append, ◌∙◌, ap, arith}
 use Rattle.hgs_load.specs.View.{piece_length}
 use Rattle.hgs_loading.specs.Theorems.FoundLemmas.{grows-trans}
 use Rattle.hgs_loading.proofs.IndexLemmas.{goes-on, ends, all-read, short-piece}
@@ -16,7 +16,7 @@ returns-then-piece-lt-PIECE-clause-found g c =
     let so_far = i.so_far in
     ends g.R.Reads.alone (g.R.Reads.seen c.loop-left.files) (g.R.Reads.seen c.read_part.new.files) (g.R.Reads.start c.loop-left.files) (g.R.Reads.start c.read_part.new.files)
     c.args.index.now c.loop-left.bytes.items c.bytes_of-piece.result.now c.extend_from_slice.new.self.items c.len.result c.in_ok-part.part (c.len.ensures ∙ c.loop-left.bytes.ok.0)
-    e.still e.same_start i.front e.answer c.bytes_of-piece.ensures c.in_ok-extend_from_slice.ensures.items c.if-piece-lt-PIECE.true (omega (arith, some, so_far))
+    e.still e.same_start i.front e.answer c.bytes_of-piece.ensures c.in_ok-extend_from_slice.ensures.items (c.args.pieces * piece_length) c.if-piece-lt-PIECE.true (omega (arith, some, so_far))
 
 pub loop-left-preserved-else-piece-lt-PIECE : goal.loop-left-preserved-else-piece-lt-PIECE
 loop-left-preserved-else-piece-lt-PIECE g c =
@@ -48,4 +48,4 @@ returns-clause-found g c =
     let i = c.loop-left.invariant in
     let past = c.loop-left-test.false in
     let so_far = i.so_far in
-    λ h. all-read (g.R.Reads.seen c.loop-left.files) (g.R.Reads.start c.loop-left.files) c.args.index.now c.loop-left.bytes.items (omega (arith, past, so_far)) (i.front h)
+    λ h. all-read (c.args.pieces * piece_length) (g.R.Reads.seen c.loop-left.files) (g.R.Reads.start c.loop-left.files) c.args.index.now c.loop-left.bytes.items (omega (arith, past, so_far)) (i.front h)

@@ -5,9 +5,10 @@ pub returns : goal.returns
 returns c = record {
   held = c.loaded_entries_are_held.ensures;
   entries = λ index log e. c.loaded_entries.ensures.entries Refuse index log e;
-  separate = λ index log e. c.loaded_entries.ensures.separate Refuse index log e;
   loads = c.whole_index.ensures.loads;
-  whole = λ index t log e. (c.indexes_are_read_whole.ensures.loads index t log e).1;
+  whole = c.indexes_are_read_whole.ensures.loads;
+  plain = c.either_form.ensures.separate;
+  places = c.inline_index.ensures.places;
   entry_nodes = c.entries_of_revisions.ensures.nodes;
   entry_parents = c.entries_of_revisions.ensures.parents;
   entry_count = c.entries_of_revisions.ensures.count;

@@ -10,7 +10,6 @@ returns c = record {
   first_place = c.nodes_have_places.ensures.first;
   not_null = c.nodes_have_places.ensures.not_null;
   index_length = c.held_index_length.ensures;
-  fronts = c.lists_begin.ensures.fronts;
   held = c.changesets_are_held.ensures.each;
   nodes_go_on = c.histories_go_on.ensures.nodes;
   there = c.revisions_stay.ensures.there;

@@ -10,6 +10,9 @@ returns c = record { covers = begun-open laws; shows = begun-shows laws }
       chunk = c.chunk_then_text.ensures;
       begins = c.lists_begin.ensures.held;
       more = c.lists_begin.ensures.more;
+      separate = c.either_form_holds.ensures.separate;
+      either_begins = c.either_form_holds.ensures.begins;
+      either_more = c.either_form_holds.ensures.more;
       node_back = c.nodes_written_then_read.ensures.back;
       node = c.nodes_name_revisions.ensures.node;
       roots = c.read_texts.ensures;

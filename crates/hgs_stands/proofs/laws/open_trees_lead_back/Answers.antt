@@ -10,6 +10,8 @@ returns c = record { restored = restored-is names; undone = undone-is names; one
     texts = record {
       once = c.held_once.ensures;
       begins = c.lists_begin.ensures.held;
+      either_once = c.either_form_holds.ensures.once;
+      either_begins = c.either_form_holds.ensures.begins;
       index_length = c.held_index_length.ensures;
       counted = c.nodes_are_counted.ensures;
       among_known = c.nodes_have_places.ensures.among;

@@ -1,4 +1,4 @@
-use Rattle.std.proofs.Common.{ℕ, None, inl, inr, subst, arith}
+use Rattle.std.proofs.Common.{None, inl, inr, subst, arith}
 use Rattle.hgs_files.specs.Tree.{Tree}
 use Rattle.hgs_top.specs.Orders.{Grows}
 use Rattle.hgs_top.proofs.EndedLemmas.{not-made, says_fault, says_no_input, says_unfinished, with_findings, says_status}

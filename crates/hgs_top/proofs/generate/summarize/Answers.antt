@@ -1,5 +1,4 @@
-use Rattle.std.proofs.Common.{ℕ, List, Option, ap, ◌∙◌, inl, inr, subst}
-use Rattle.std.specs.Prelude.{Err, ⊤}
+use Rattle.std.proofs.Common.{List, Option, ◌∙◌, inl, inr, subst}
 use Rattle.hgs_files.specs.declared.op.Op.{Op}
 use Rattle.hgs_files.specs.Tree.{Tree}
 use Rattle.hgs_top.specs.Orders.{TellsSummary}

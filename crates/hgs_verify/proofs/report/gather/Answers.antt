@@ -1,4 +1,4 @@
-use Rattle.std.proofs.Common.{◌≡◌, [], ap, subst}
+use Rattle.std.proofs.Common.{◌≡◌, ap, subst}
 use Rattle.hgs_findings.specs.Reading.{sight_of}
 use Rattle.hgs_findings.specs.Regular.{used_paths}
 use Rattle.hgs_judge.specs.Report.{findings_in}

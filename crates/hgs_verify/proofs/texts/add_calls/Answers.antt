@@ -1,6 +1,4 @@
 use Rattle.std.proofs.Common.{◌≡◌, ◌++◌, ◌∙◌, ap}
-use Rattle.std.specs.Prelude.{codes}
-use Rattle.hgs_journal.specs.Names.{journal_path}
 use Rattle.hgs_judge.specs.Report.{findings_in}
 use Rattle.hgs_report.specs.Adds.{Adds}
 use Rattle.hgs_report.specs.Parts.{IsOfCalls}

@@ -1,6 +1,6 @@
 use Rattle.std.proofs.Common.{◌≡◌, ◌≤◌, ◌++◌, true, take}
 use Rattle.hgs_judge.specs.Report.{findings_in}
-use Rattle.hgs_verify.specs.Filelog.{OfTree}
+use Rattle.hgs_verify.specs.Looked.{OfTree}
 use Rattle.hgs_verify.specs.Report.{of_all_unused}
 use Rattle.hgs_verify.proofs.texts.add_unused.Given as goal
 

@@ -1,17 +1,19 @@
-use Rattle.std.proofs.Common.{◌≡◌, ◌≤◌, true, List, length}
-use Rattle.std.specs.Prelude.{Bool, IfSome}
+use Rattle.std.proofs.Common.{◌≡◌, ◌≤◌, ◌++◌, true, List, length}
+use Rattle.std.specs.Prelude.{Bool}
 use Rattle.hgs_files.specs.Reads.{Grows}
-use Rattle.hgs_files.specs.Tree.{after_all}
 use Rattle.hgs_findings.specs.Findings.{Finding}
 use Rattle.hgs_judge.specs.Report.{findings_in}
 use Rattle.hgs_report.specs.Store.{IsStoreOf}
+use Rattle.hgs_verify.specs.Looked.{OfTree}
+use Rattle.hgs_verify.specs.Task.{AreReadOf, paths_of}
 use Rattle.hgs_verify.specs.Walk.{AddPaths}
 use Rattle.hgs_verify.proofs.walk.judge_paths.Given as goal
 
 abbrev pub invariant-loop-path : goal.invariant-loop-path
 invariant-loop-path g l = record {
-  added : g.R.Reads.alone ≡ true → IfSome (g.R.Reads.seen l.files) (λ log. IsStoreOf l.store (after_all log (g.R.Reads.start l.files)) → (new : List Finding) (marked : List Bool)
-      → AddPaths l.paths.keys (findings_in l.into.items) new l.marks marked (after_all log (g.R.Reads.start l.files)) → AddPaths l.initial.paths.keys (findings_in l.initial.into.items) new l.initial.marks marked (after_all log (g.R.Reads.start l.files)));
+  added : OfTree g.R.Reads.alone (g.R.Reads.seen l.files) (g.R.Reads.start l.files) (λ t. IsStoreOf l.store t → (new : List Finding) (marked : List Bool)
+      → AddPaths (paths_of l.batch.tasks.items ++ l.paths.keys) (findings_in l.into.items) new l.marks marked t → AddPaths l.initial.paths.keys (findings_in l.initial.into.items) new l.initial.marks marked t);
+  read : OfTree g.R.Reads.alone (g.R.Reads.seen l.files) (g.R.Reads.start l.files) (AreReadOf l.batch.tasks.items);
   grown : Grows (g.R.Reads.seen l.fn.files) (g.R.Reads.seen l.files);
   same_start : g.R.Reads.start l.files ≡ g.R.Reads.start l.fn.files;
   still : g.R.Reads.alone ≡ true → g.R.Reads.seen l.files ≡ g.R.Reads.seen l.fn.files;

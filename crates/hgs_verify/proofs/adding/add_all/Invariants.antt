@@ -1,0 +1,17 @@
+use Rattle.std.proofs.Common.{List}
+use Rattle.std.specs.Prelude.{Bool}
+use Rattle.hgs_files.specs.Tree.{Tree}
+use Rattle.hgs_findings.specs.Findings.{Finding}
+use Rattle.hgs_judge.specs.Report.{findings_in}
+use Rattle.hgs_report.specs.Store.{IsStoreOf}
+use Rattle.hgs_report.specs.declared.store.Store.{Store}
+use Rattle.hgs_verify.specs.Task.{AreRightIn, paths_of}
+use Rattle.hgs_verify.specs.Walk.{AddPaths}
+use Rattle.hgs_verify.proofs.adding.add_all.Given as goal
+
+abbrev pub invariant-loop-task : goal.invariant-loop-task
+invariant-loop-task l = record {
+  added : (s : Store) (t : Tree) → IsStoreOf s t → AreRightIn s t l.fn.tasks.items
+      → AreRightIn s t l.task-iterator.rest.items
+      × ((new : List Finding) (marked : List Bool) → AddPaths (paths_of l.task-iterator.rest.items) (findings_in l.into.items) new l.marks marked t → AddPaths (paths_of l.fn.tasks.items) (findings_in l.initial.into.items) new l.initial.marks marked t);
+}

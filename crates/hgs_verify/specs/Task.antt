@@ -1,0 +1,40 @@
+-- A path whose filelog was read, and what is found of it.
+use Rattle.std.specs.Prelude.{◌≡◌, ◌<◌, ℕ, List, [], IfOk, length, map, slice_index_or, unwrap_or}
+use Rattle.std.specs.List.{AllByRecursion}
+use Rattle.hgs_files.specs.Tree.{Tree}
+use Rattle.hgs_findings.specs.OnePath.{words}
+use Rattle.hgs_findings.specs.Reading.{data_in, index_in, sight_of, the_filelog}
+use Rattle.hgs_judge.specs.Path.{IsJudged}
+use Rattle.hgs_report.specs.Store.{IsStoreOf}
+use Rattle.hgs_report.specs.declared.store.Store.{Store}
+use Rattle.hgs_verify.specs.declared.task.Task.{Task}
+use Rattle.hgs_verify.specs.Parts.{AreBytes}
+
+-- the bytes are those of the path's filelog in a tree
+abbrev pub IsReadOf : Task → Tree → Type 0
+IsReadOf task t = AreBytes task.parts (index_in t (the_filelog task.path)) (data_in t (the_filelog task.path))
+
+-- what is found, where there is something, is right for each tree that the store was read of
+abbrev pub IsRight : Store → Task → Type 0
+IsRight s task = IfOk task.found (λ f. (t : Tree) → IsStoreOf s t → IsJudged (unwrap_or task.parts.index []) (unwrap_or task.parts.chunks []) (words (sight_of t) task.path) f)
+
+-- it was judged: its path and its bytes are as before
+pub record IsJudgedAs (s : Store) (task judged : Task) : Type 0 where
+  pub path : judged.path ≡ task.path
+  pub parts : judged.parts ≡ task.parts
+  pub right : IsRight s judged
+
+-- so was each of them
+pub record AreJudged (s : Store) (tasks judged : List Task) : Type 0 where
+  pub count : length judged ≡ length tasks
+  pub each : (k : ℕ) (d : Task) → k < length tasks → IsJudgedAs s (slice_index_or tasks k d) (slice_index_or judged k d)
+
+abbrev pub paths_of : List Task → List (List ℕ)
+paths_of tasks = map (λ (task : Task). task.path) tasks
+
+abbrev pub AreReadOf : List Task → Tree → Type 0
+AreReadOf tasks t = AllByRecursion (λ task. IsReadOf task t) tasks
+
+-- they were read of a tree, and what is found is right for it
+abbrev pub AreRightIn : Store → Tree → List Task → Type 0
+AreRightIn s t tasks = AllByRecursion (λ task. IsReadOf task t × IsRight s task) tasks
