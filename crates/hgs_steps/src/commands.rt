@@ -20,12 +20,7 @@ use hgs_transaction::parts::{Change, Changes, Parts, Replacing, Replacings};
 use std::alloc::{AllocError, Global};
 
 /// The step that replaces one file and answers this changeset, unless the changelog or the manifest is inline.
-fn step_with(
-    alloc: Global,
-    loaded: &Loaded,
-    file: Replacing,
-    rev: u32,
-) -> Result<Step, PlanFault>
+fn step_with(alloc: Global, loaded: &Loaded, file: Replacing, rev: u32) -> Result<Step, PlanFault>
     requires { rev < length loaded.now.changelog.entries }
     ensures step { result ≡ if_separate loaded.now (step_with loaded.now file rev) }
     ensures ready { IfOk result (λ step. CanBeAssembled step.parts) }
