@@ -5,7 +5,6 @@ use Rattle.hex.specs.Hex.{IsBytes}
 use Rattle.hgs_bytes.specs.Bytes.{among}
 use Rattle.hgs_files.specs.Tree.{Tree, bytes_at}
 use Rattle.hgs_index.specs.Either.{chunks_either}
-use Rattle.hgs_index.specs.Inline.{is_inline}
 use Rattle.hgs_index.specs.Node.{null_node}
 use Rattle.hgs_index.specs.Revision.{Revision, nodes}
 use Rattle.hgs_index.specs.Revlog.{all_different}
@@ -20,8 +19,8 @@ use Rattle.hgs_path.specs.Fncache.{clashes}
 use Rattle.hgs_path.specs.ListedNames.{names_of}
 use Rattle.hgs_path.specs.StoreName.{listed_name, store_name}
 use Rattle.hgs_revlog.specs.Load.{most_data, most_revisions, most_text}
-use Rattle.hgs_stands.specs.Places.{changelog_data, fncache_path, manifest_data, manifest_index}
-use Rattle.hgs_stands.specs.Stands.{listed_file}
+use Rattle.hgs_stands.specs.Places.{changelog_data, fncache_path, manifest_data}
+use Rattle.hgs_stands.specs.Stands.{has_inline_log, listed_file}
 use Rattle.hgs_ops.specs.Growth.{new_paths}
 use Rattle.hgs_ops.specs.Operations.{journal_of}
 
@@ -39,13 +38,12 @@ pub record AreNewRevisions (old all : List Revision) : Type 0 where
   pub different : all_different (nodes all) ≡ true
   pub not_null : among null_node (nodes all) ≡ false
 
--- No limit, no collision, no clash of names and no file in the way keeps a commit from leading to the next repository: the
--- manifest is separate, since no writer appends to an inline one, no
--- used path clashes with a path of the new changeset, a listed name of a file of such a path is that path's, and the files
--- of those that are not used yet have no bytes.
+-- No limit, no collision, no clash of names and no file in the way keeps a commit from leading to the next repository:
+-- changelog and manifest are separate, since no writer appends to an inline one, no used path clashes with a path of the new
+-- changeset, a listed name of a file of such a path is that path's, and the files of those that are not used yet have no bytes.
 pub record IsUnhindered (t : Tree) (r next : Repo) : Type 0 where
   pub room : HasRoom t r next
-  pub separate : is_inline (bytes_at t manifest_index) ≡ false
+  pub separate : has_inline_log t ≡ false
   pub changelog : AreNewRevisions (history r.changesets).changelog (history next.changesets).changelog
   pub manifest : AreNewRevisions (history r.changesets).manifest (history next.changesets).manifest
   pub filelogs : (path : List ℕ) → AreNewRevisions ((history r.changesets).filelog path) ((history next.changesets).filelog path)

@@ -11,7 +11,6 @@ use Rattle.hgs_files.specs.Tree.{Tree, bytes_at}
 use Rattle.hgs_index.specs.Node.{null_node}
 use Rattle.hgs_index.specs.Revision.{Revision}
 use Rattle.hgs_index.specs.Either.{BeginsEither}
-use Rattle.hgs_index.specs.Revlog.{BeginsWithRevisions}
 use Rattle.hgs_journal.specs.declared.backups.BackupLine.{BackupLine}
 use Rattle.hgs_journal.specs.declared.journal.JournalLine.{JournalLine}
 use Rattle.hgs_journal.specs.Covers.{Covers, backup_places, is_loose, journal_paths, own_strays}
@@ -23,8 +22,8 @@ use Rattle.hgs_path.specs.StoreName.{store_name}
 use Rattle.hgs_stands.specs.Open.{IsOpen}
 use Rattle.hgs_stands.specs.Places.{changelog_data, changelog_index, dirstate_path, manifest_data, manifest_index}
 use Rattle.hgs_stands.specs.Samples.{File, over, sample_node, third_begun, third_begun_files, two_drafts, two_drafts_files}
-use Rattle.hgs_stands.specs.Shows.{BeginsApart, BeginsAt, Shows}
-use Rattle.hgs_stands.specs.Stands.{HoldsApart, HoldsAt}
+use Rattle.hgs_stands.specs.Shows.{BeginsAt, Shows}
+use Rattle.hgs_stands.specs.Stands.{HoldsAt}
 use Rattle.hgs_stands.proofs.SampleLemmas.{a-holds, b-holds, changelog-holds, dirstate-read, lines-read, manifest-holds, roots-read, sample-stands, sample_roots, small, used-path}
 use Rattle.hgs_stands.specs.Theorems.Basics.{never, same-eq}
 use Rattle.hgs_stands.specs.Theorems.Below.{SampleLaws}
@@ -103,12 +102,6 @@ begins laws index data_path revisions more more_data h i d =
     let b = laws.either_more (bytes_at two_drafts_files index) (bytes_at two_drafts_files data_path) more more_data revisions (laws.either_begins (bytes_at two_drafts_files index) (bytes_at two_drafts_files data_path) revisions h) in
     subst (λ x. BeginsEither x (bytes_at third_begun_files data_path) revisions) (sym i) (subst (λ x. BeginsEither (bytes_at two_drafts_files index ++ more) x revisions) (sym d) b)
 
-begins-apart : (laws : SampleLaws) (index data_path : List ℕ) (revisions : List Revision) (more more_data : List ℕ) → HoldsApart two_drafts_files index data_path revisions → bytes_at third_begun_files index ≡ bytes_at two_drafts_files index ++ more → bytes_at third_begun_files data_path ≡ bytes_at two_drafts_files data_path ++ more_data
-    → BeginsApart third_begun_files index data_path revisions
-begins-apart laws index data_path revisions more more_data h i d =
-    let b = laws.more (bytes_at two_drafts_files index) (bytes_at two_drafts_files data_path) more more_data revisions (laws.begins (bytes_at two_drafts_files index) (bytes_at two_drafts_files data_path) revisions h) in
-    subst (λ x. BeginsWithRevisions x (bytes_at third_begun_files data_path) revisions) (sym i) (subst (λ x. BeginsWithRevisions (bytes_at two_drafts_files index ++ more) x revisions) (sym d) b)
-
 filelogs-begin : (laws : SampleLaws) (path : List ℕ) → uses two_drafts.changesets path ≡ true → BeginsAt third_begun_files (store_name path I) (store_name path D) ((history two_drafts.changesets).filelog path)
 filelogs-begin laws path used = elim (used-path path used) [
   | inl e ↦ subst (λ p. BeginsAt third_begun_files (store_name p I) (store_name p D) ((history two_drafts.changesets).filelog p)) (sym e) (begins laws (store_name (codes "a") I) (store_name (codes "a") D) ((history two_drafts.changesets).filelog (codes "a")) [] [] (a-holds laws) refl refl)
@@ -121,7 +114,7 @@ begun-shows laws = record {
   requires = record { text = _; there = refl; known = refl; whole = refl };
   revlogs = record {
     whole = refl;
-    changelog = begins-apart laws changelog_index changelog_data (history two_drafts.changesets).changelog (drop 128 (bytes_at third_begun_files changelog_index)) (drop 111 (bytes_at third_begun_files changelog_data)) (changelog-holds laws) refl refl;
+    changelog = begins laws changelog_index changelog_data (history two_drafts.changesets).changelog (drop 128 (bytes_at third_begun_files changelog_index)) (drop 111 (bytes_at third_begun_files changelog_data)) (changelog-holds laws) refl refl;
     manifest = begins laws manifest_index manifest_data (history two_drafts.changesets).manifest (drop 128 (bytes_at third_begun_files manifest_index)) (drop 131 (bytes_at third_begun_files manifest_data)) (manifest-holds laws) refl refl;
     filelogs = filelogs-begin laws;
   };

@@ -6,7 +6,6 @@ use Rattle.hgs_files.specs.Tree.{Tree}
 use Rattle.hgs_index.specs.Manifest.{Row, manifest_text}
 use Rattle.hgs_index.specs.Node.{null_node}
 use Rattle.hgs_index.specs.Revision.{Revision}
-use Rattle.hgs_index.specs.Theorems.EitherLemmas.{separate-holds}
 use Rattle.hgs_model.specs.Held.{IsPlacedIn}
 use Rattle.hgs_model.specs.Repo.{Repo, TreeFile, Changeset, file_text}
 use Rattle.hgs_model.specs.History.{history, uses, changeset_nodes, node_at, text_at}
@@ -49,7 +48,7 @@ committed laws t r rev c stands found =
       change = is.change;
       in_form = is.in_form;
       tells = is.tells;
-      changelog = record { revisions = (history r.changesets).changelog; held = separate-holds _ _ _ stands.revlogs.changelog; revision = is.revision; there = is.there; node_is = refl; text_is = is.text_is };
+      changelog = record { revisions = (history r.changesets).changelog; held = stands.revlogs.changelog; revision = is.revision; there = is.there; node_is = refl; text_is = is.text_is };
       parents = is.parents_are;
       rows = is.rows;
       ascend = is.ascend;

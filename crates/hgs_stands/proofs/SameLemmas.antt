@@ -39,7 +39,7 @@ pub changesets-same : (texts : TextLaws) (laws : HistoryLaws) (t : Tree) (xs ys 
 changesets-same texts laws t xs ys next_x next_y a b = lists-same xs ys counts each
   where
     changelog : (history xs).changelog ≡ (history ys).changelog
-    changelog = texts.once (bytes_at t changelog_index) (bytes_at t changelog_data) (history xs).changelog (history ys).changelog a.changelog b.changelog
+    changelog = texts.either_once (bytes_at t changelog_index) (bytes_at t changelog_data) (history xs).changelog (history ys).changelog a.changelog b.changelog
 
     manifest : (history xs).manifest ≡ (history ys).manifest
     manifest = texts.either_once (bytes_at t manifest_index) (bytes_at t manifest_data) (history xs).manifest (history ys).manifest a.manifest b.manifest

@@ -14,7 +14,7 @@ use Rattle.hgs_index.specs.ChangeText.{IsLineText}
 use Rattle.hgs_index.specs.Entry.{Fits}
 use Rattle.hgs_index.specs.Node.{IsNode, null_node}
 use Rattle.hgs_index.specs.Revision.{Revision, Parents, ParentsBefore, nodes}
-use Rattle.hgs_index.specs.Revlog.{Stored, Item, all_different, chunk_of, chunk_text, index_bytes, items}
+use Rattle.hgs_index.specs.Revlog.{HoldsRevisions, Stored, Item, all_different, chunk_of, chunk_text, index_bytes, items}
 use Rattle.hgs_marks.specs.Bookmarks.{mark_lines, mark_then, mark_with}
 use Rattle.hgs_marks.specs.Dirstate.{read_dirstate}
 use Rattle.hgs_marks.specs.declared.fault.MarkFault.TheVariants.{Name}
@@ -32,7 +32,7 @@ use Rattle.hgs_path.specs.Fncache.{clashes, lists}
 use Rattle.hgs_path.specs.StoreName.{store_name}
 use Rattle.hgs_stands.specs.Places.{bookmarks_path, dirstate_path, roots_path, changelog_index, changelog_data, manifest_index, manifest_data}
 use Rattle.hgs_stands.specs.Samples.{first_draft, sample_names, second_draft, two_drafts, two_drafts_files}
-use Rattle.hgs_stands.specs.Stands.{HoldsApart, HoldsAt, ListsFilelogs, Stands, IsClean}
+use Rattle.hgs_stands.specs.Stands.{HoldsAt, ListsFilelogs, Stands, IsClean}
 use Rattle.hgs_stands.specs.Theorems.Basics.{and-both, and-left, and-right, never, none-some, same-eq, some-same}
 use Rattle.hgs_stands.specs.Theorems.Below.{SampleLaws}
 
@@ -54,7 +54,7 @@ texts-are laws (r ∷ revisions) = (laws.chunk r.text, texts-are laws revisions)
 
 holds : (laws : SampleLaws) (t : Tree) (index data_path : List ℕ) (revisions : List Revision) → ParentsBefore 0 (map (λ r. r.parents) revisions) → AllByRecursion (λ (i : Item). Fits i.entry None) (items (stored_of revisions))
     → all_different (nodes revisions) ≡ true → among null_node (nodes revisions) ≡ false
-    → bytes_at t index ≡ index_bytes plain_header (items (stored_of revisions)) → bytes_at t data_path ≡ concat (map (λ s. s.chunk) (stored_of revisions)) → HoldsApart t index data_path revisions
+    → bytes_at t index ≡ index_bytes plain_header (items (stored_of revisions)) → bytes_at t data_path ≡ concat (map (λ s. s.chunk) (stored_of revisions)) → HoldsRevisions (bytes_at t index) (bytes_at t data_path) revisions
 holds laws t index data_path revisions before fits different none i d = record {
   header = plain_header;
   stored = stored_of revisions;
@@ -100,10 +100,10 @@ fit e offset flags stored size base link p1 p2 node = record {
 
 -- ---- those of the sample; their nodes are computed
 
-pub changelog-holds : (laws : SampleLaws) → HoldsApart two_drafts_files changelog_index changelog_data (history two_drafts.changesets).changelog
+pub changelog-holds : (laws : SampleLaws) → HoldsAt two_drafts_files changelog_index changelog_data (history two_drafts.changesets).changelog
 unfolding encode_with sha1 first_words schedule rounds compress hash_after digest_bytes digits
-changelog-holds laws = holds laws two_drafts_files changelog_index changelog_data (history two_drafts.changesets).changelog (tt, tt, (small 0 1 refl, tt, tt))
-    (fit _ refl refl refl refl refl refl refl refl refl, (fit _ refl refl refl refl refl refl refl refl refl, tt)) refl refl refl refl
+changelog-holds laws = laws.separate _ _ _ (holds laws two_drafts_files changelog_index changelog_data (history two_drafts.changesets).changelog (tt, tt, (small 0 1 refl, tt, tt))
+    (fit _ refl refl refl refl refl refl refl refl refl, (fit _ refl refl refl refl refl refl refl refl refl, tt)) refl refl refl refl)
 
 pub manifest-holds : (laws : SampleLaws) → HoldsAt two_drafts_files manifest_index manifest_data (history two_drafts.changesets).manifest
 unfolding encode_with sha1 first_words schedule rounds compress hash_after digest_bytes digits

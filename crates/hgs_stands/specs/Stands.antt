@@ -1,5 +1,5 @@
 -- Which repository a tree of files stands for.
-use Rattle.std.specs.Prelude.{◌≡◌, ◌⊎◌, ℕ, List, [], Bool, true, false, not, map, None, Ok, slice_index_or}
+use Rattle.std.specs.Prelude.{◌≡◌, ◌⊎◌, ◌||◌, ℕ, List, [], Bool, true, false, not, map, None, Ok, slice_index_or}
 use Rattle.std.specs.List.{AllByRecursion, list_all}
 use Rattle.hgs_bytes.specs.Bytes.{among}
 use Rattle.hgs_files.specs.Tree.{Tree, bytes_at}
@@ -8,7 +8,7 @@ use Rattle.hgs_index.specs.Either.{HoldsEither}
 use Rattle.hgs_index.specs.Inline.{is_inline}
 use Rattle.hgs_index.specs.Node.{null_node}
 use Rattle.hgs_index.specs.Revision.{Revision, parent_node}
-use Rattle.hgs_index.specs.Revlog.{HoldsRevisions, chunk_of, items}
+use Rattle.hgs_index.specs.Revlog.{chunk_of, items}
 use Rattle.hgs_journal.specs.Names.{journal_path, locks}
 use Rattle.hgs_marks.specs.Bookmarks.{Mark, mark_lines, with_marks}
 use Rattle.hgs_marks.specs.Dirstate.{Dirstate, read_dirstate}
@@ -35,17 +35,17 @@ use Rattle.hgs_stands.specs.Requires.{IsInProfile}
 abbrev pub HoldsAt : Tree → List ℕ → List ℕ → List Revision → Type 0
 HoldsAt t index data_path revisions = HoldsEither (bytes_at t index) (bytes_at t data_path) revisions
 
--- the same of a separate revlog
-abbrev pub HoldsApart : Tree → List ℕ → List ℕ → List Revision → Type 0
-HoldsApart t index data_path revisions = HoldsRevisions (bytes_at t index) (bytes_at t data_path) revisions
-
 -- Changelog, manifest and the filelog of each used path hold exactly the revisions of these changesets, and the files of
--- used paths have different names. The changelog is separate: an inline one is not read.
+-- used paths have different names.
 pub record HoldsChangesets (t : Tree) (changesets : List Changeset) : Type 0 where
-  pub changelog : HoldsApart t changelog_index changelog_data (history changesets).changelog
+  pub changelog : HoldsAt t changelog_index changelog_data (history changesets).changelog
   pub manifest : HoldsAt t manifest_index manifest_data (history changesets).manifest
   pub filelogs : (path : List ℕ) → uses changesets path ≡ true → HoldsAt t (store_name path I) (store_name path D) ((history changesets).filelog path)
   pub names : (path other : List ℕ) → uses changesets path ≡ true → uses changesets other ≡ true → clashes path other ≡ false
+
+-- whether the changelog or the manifest is inline: no writer appends to them then
+abbrev pub has_inline_log : Tree → Bool
+has_inline_log t = is_inline (bytes_at t changelog_index) || is_inline (bytes_at t manifest_index)
 
 -- ---- the list of filelogs
 

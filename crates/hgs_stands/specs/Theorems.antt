@@ -5,6 +5,7 @@ pub mod Basics
 pub mod Below
 pub mod EmptyLemmas
 pub mod FilesLemmas
+pub mod FormLemmas
 pub mod ListedLemmas
 pub mod LooseLemmas
 pub mod Lower

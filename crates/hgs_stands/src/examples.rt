@@ -13,7 +13,7 @@ ghost use Rattle.hgs_stands.specs.Samples.{other_node, sample_names, sample_node
 ghost use Rattle.hgs_stands.specs.Shows.{Shows};
 ghost use Rattle.hgs_stands.specs.Stands.{IsClean, Stands};
 
-use hgs_index::laws::{chunk_then_text, either_form_holds, lists_begin, nodes_written_then_read};
+use hgs_index::laws::{chunk_then_text, either_form_holds, nodes_written_then_read};
 use hgs_marks::laws::bookmark_lines_written_then_read;
 use hgs_model::history_laws::nodes_name_revisions;
 use hgs_phases::laws::read_texts;
@@ -23,7 +23,6 @@ pub fn two_drafts_stand()
     ensures { IsClean two_drafts_files two_drafts }
 {
     chunk_then_text();
-    lists_begin();
     either_form_holds();
     nodes_written_then_read();
     nodes_name_revisions();
@@ -37,7 +36,6 @@ pub fn other_files_stand()
     ensures listed { Stands (with_bytes (with_bytes two_drafts_files fncache_path (lines (codes "data/c.i" ∷ sample_names))) (codes "store/data/c.i") []) two_drafts }
 {
     chunk_then_text();
-    lists_begin();
     either_form_holds();
     nodes_written_then_read();
     nodes_name_revisions();
@@ -61,7 +59,6 @@ pub fn near_misses_do_not_stand()
     ensures unknown_mark { Stands (with_bytes two_drafts_files bookmarks_path (bookmarks_text (record { name = codes "main"; node = other_node } ∷ record { name = codes "main"; node = sample_node 0 } ∷ []))) two_drafts → ⊥ }
 {
     chunk_then_text();
-    lists_begin();
     either_form_holds();
     nodes_written_then_read();
     nodes_name_revisions();
@@ -76,7 +73,6 @@ pub fn begun_commit_is_open()
     ensures shows { Shows third_begun_files two_drafts two_drafts two_drafts }
 {
     chunk_then_text();
-    lists_begin();
     either_form_holds();
     nodes_written_then_read();
     nodes_name_revisions();

@@ -31,10 +31,7 @@ ghost use Rattle.hgs_stands.specs.Same.{AreStrays, SameFiles, SameList, SameRevl
 ghost use Rattle.hgs_stands.specs.Shows.{BeginsChangesets, Shows};
 ghost use Rattle.hgs_stands.specs.Stands.{HasBookmarks, HasDirstate, HasPhases, HoldsChangesets, IsUsedName, ListsFilelogs, Stands, changeset_entries, entries_of, has_file, listed_file};
 
-use hgs_index::laws::{
-    either_form_holds, held_index_length, held_once, lists_begin, nodes_are_counted,
-    nodes_have_places,
-};
+use hgs_index::laws::{either_form_holds, nodes_are_counted, nodes_have_places};
 use hgs_index::texts::{change_prints_then_reads, manifest_prints_then_reads};
 use hgs_model::history_laws::{
     changesets_are_held, nodes_name_revisions, revisions_stay, used_paths_have_revisions,
@@ -47,10 +44,7 @@ use hgs_phases::laws::phases_of_nodes_and_parents;
 pub fn stands_for_one()
     ensures { (t : Tree) (r s : Repo) → Stands t r → Stands t s → r ≡ s }
 {
-    held_once();
     either_form_holds();
-    lists_begin();
-    held_index_length();
     nodes_are_counted();
     nodes_have_places();
     change_prints_then_reads();
@@ -70,10 +64,7 @@ pub fn parts_say_one()
     ensures bookmarks { (t : Tree) (r s : Repo) → IsRepo r → IsRepo s → r.changesets ≡ s.changesets → all_different (changeset_nodes r.changesets) ≡ true → HasBookmarks t r → HasBookmarks t s → r.bookmarks ≡ s.bookmarks }
     ensures working { (t : Tree) (r s : Repo) → IsRepo r → IsRepo s → r.changesets ≡ s.changesets → all_different (changeset_nodes r.changesets) ≡ true → among null_node (changeset_nodes r.changesets) ≡ false → HasDirstate t r → HasDirstate t s → r.working ≡ s.working }
 {
-    held_once();
     either_form_holds();
-    lists_begin();
-    held_index_length();
     nodes_are_counted();
     nodes_have_places();
     change_prints_then_reads();
@@ -101,10 +92,7 @@ pub fn standing_trees_show()
     ensures revlogs { (t : Tree) (changesets : List Changeset) → EachChangeset IsNextChangeset no_history changesets → HoldsChangesets t changesets → BeginsChangesets t changesets }
     ensures whole { (t : Tree) (r : Repo) → Stands t r → Shows t r r r }
 {
-    held_once();
     either_form_holds();
-    lists_begin();
-    held_index_length();
     nodes_are_counted();
     nodes_have_places();
     change_prints_then_reads();
@@ -203,10 +191,7 @@ pub fn open_trees_lead_back()
     ensures one { (strays : List (List ℕ)) (t : Tree) (r s : Repo) → HasOwnStrays strays → AreStrays strays → IsOpen strays t r → IsOpen strays t s → r ≡ s }
     ensures own { AreStrays own_strays }
 {
-    held_once();
     either_form_holds();
-    lists_begin();
-    held_index_length();
     nodes_are_counted();
     nodes_have_places();
     change_prints_then_reads();

@@ -7,11 +7,12 @@ use Rattle.hgs_index.specs.declared.entry.Entry.{Entry}
 use Rattle.hgs_index.specs.ChangeText.{Change, IsChange, change_text, read_change}
 use Rattle.hgs_index.specs.Either.{BeginsEither, HoldsEither}
 use Rattle.hgs_index.specs.Hex.{hex}
+use Rattle.hgs_index.specs.Inline.{index_apart}
 use Rattle.hgs_index.specs.Hex.{node_at as hex_node}
 use Rattle.hgs_index.specs.Manifest.{Row, AreRows, manifest_text, read_manifest}
 use Rattle.hgs_index.specs.Node.{IsNode, null_node}
 use Rattle.hgs_index.specs.Revision.{Revision, nodes}
-use Rattle.hgs_index.specs.Revlog.{BeginsWithRevisions, HoldsRevisions, all_different, chunk_of, chunk_text}
+use Rattle.hgs_index.specs.Revlog.{HoldsRevisions, all_different, chunk_of, chunk_text}
 use Rattle.hgs_journal.specs.declared.backups.BackupLine.{BackupLine}
 use Rattle.hgs_journal.specs.declared.journal.JournalLine.{JournalLine}
 use Rattle.hgs_journal.specs.Covers.{Covers, HasOwnStrays, ReadsAs, Restores, undo_ops}
@@ -31,11 +32,9 @@ use Rattle.hgs_revlog.specs.Log.{nodes_of}
 
 -- what bytes hold, and what is read of texts
 pub record TextLaws : Type 0 where
-  pub once : (index data_bytes : List ℕ) (revisions others : List Revision) → HoldsRevisions index data_bytes revisions → HoldsRevisions index data_bytes others → revisions ≡ others
-  pub begins : (index data_bytes : List ℕ) (revisions : List Revision) → HoldsRevisions index data_bytes revisions → BeginsWithRevisions index data_bytes revisions
   pub either_once : (index data_bytes : List ℕ) (revisions others : List Revision) → HoldsEither index data_bytes revisions → HoldsEither index data_bytes others → revisions ≡ others
   pub either_begins : (index data_bytes : List ℕ) (revisions : List Revision) → HoldsEither index data_bytes revisions → BeginsEither index data_bytes revisions
-  pub index_length : (index data_bytes : List ℕ) (revisions : List Revision) → HoldsRevisions index data_bytes revisions → length index ≡ 64 * length revisions
+  pub either_length : (index data_bytes : List ℕ) (revisions : List Revision) → HoldsEither index data_bytes revisions → length (index_apart index) ≡ 64 * length revisions
   pub counted : (revisions : List Revision) → length (nodes revisions) ≡ length revisions
   pub among_known : (known : List (List ℕ)) (rev : ℕ) → rev < length known → among (slice_index_or known rev null_node) known ≡ true
   pub one_place : (known : List (List ℕ)) (i j : ℕ) → all_different known ≡ true → i < length known → j < length known → slice_index_or known i null_node ≡ slice_index_or known j null_node → i ≡ j
@@ -69,8 +68,6 @@ pub record UndoLaws : Type 0 where
 -- what the sample needs
 pub record SampleLaws : Type 0 where
   pub chunk : (text : List ℕ) → chunk_text (chunk_of text) ≡ Some text
-  pub begins : (index data_bytes : List ℕ) (revisions : List Revision) → HoldsRevisions index data_bytes revisions → BeginsWithRevisions index data_bytes revisions
-  pub more : (index data_bytes more more_data : List ℕ) (revisions : List Revision) → BeginsWithRevisions index data_bytes revisions → BeginsWithRevisions (index ++ more) (data_bytes ++ more_data) revisions
   pub separate : (index data_bytes : List ℕ) (revisions : List Revision) → HoldsRevisions index data_bytes revisions → HoldsEither index data_bytes revisions
   pub either_begins : (index data_bytes : List ℕ) (revisions : List Revision) → HoldsEither index data_bytes revisions → BeginsEither index data_bytes revisions
   pub either_more : (index data_bytes more more_data : List ℕ) (revisions : List Revision) → BeginsEither index data_bytes revisions → BeginsEither (index ++ more) (data_bytes ++ more_data) revisions

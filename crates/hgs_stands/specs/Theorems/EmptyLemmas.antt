@@ -12,9 +12,9 @@ use Rattle.hgs_model.specs.IsRepo.{IsRepo}
 use Rattle.hgs_model.specs.Repo.{empty_repo}
 use Rattle.hgs_path.specs.ListedNames.{names_of}
 use Rattle.hgs_phases.specs.Roots.{read_roots}
-use Rattle.hgs_stands.specs.Places.{store_files}
+use Rattle.hgs_stands.specs.Places.{changelog_data, changelog_index, manifest_data, manifest_index, store_files}
 use Rattle.hgs_stands.specs.Requires.{IsInProfile}
-use Rattle.hgs_stands.specs.Stands.{HoldsApart, Stands}
+use Rattle.hgs_stands.specs.Stands.{HoldsAt, Stands}
 use Rattle.hgs_stands.specs.Theorems.Basics.{never, none-some}
 
 nothing : HoldsRevisions [] [] []
@@ -32,8 +32,8 @@ nothing = record {
   data_is = refl;
 }
 
-nothing-apart : (t : Tree) (index data_path : List ℕ) → bytes_at t index ≡ [] → bytes_at t data_path ≡ [] → HoldsApart t index data_path []
-nothing-apart t index data_path i d = subst (λ x. HoldsRevisions x (bytes_at t data_path) []) (sym i) (subst (λ x. HoldsRevisions [] x []) (sym d) nothing)
+holds-nothing : (t : Tree) (index data_path : List ℕ) → bytes_at t index ≡ [] → bytes_at t data_path ≡ [] → HoldsAt t index data_path []
+holds-nothing t index data_path i d = separate-holds (bytes_at t index) (bytes_at t data_path) [] (subst (λ x. HoldsRevisions x (bytes_at t data_path) []) (sym i) (subst (λ x. HoldsRevisions [] x []) (sym d) nothing))
 
 empty-is : IsRepo empty_repo
 empty-is = record {
@@ -52,8 +52,8 @@ empty-stands t profile none journal = record {
   repository = empty-is;
   requires = profile;
   revlogs = record {
-    changelog = nothing-apart t _ _ none.1.1.1.1.0 none.1.1.1.1.1.0;
-    manifest = separate-holds _ _ [] (nothing-apart t _ _ none.1.1.1.1.1.1.0 none.1.1.1.1.1.1.1.0);
+    changelog = holds-nothing t changelog_index changelog_data none.1.1.1.1.0 none.1.1.1.1.1.0;
+    manifest = holds-nothing t manifest_index manifest_data none.1.1.1.1.1.1.0 none.1.1.1.1.1.1.1.0;
     filelogs = λ path used. never (sym used);
     names = λ path other used. never (sym used);
   };

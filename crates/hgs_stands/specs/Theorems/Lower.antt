@@ -4,8 +4,6 @@ use Rattle.hgs_index.specs.Theorems.ChangeTextLemmas.{change_back}
 use Rattle.hgs_index.specs.Theorems.EitherLemmas.{either-begins, either-once}
 use Rattle.hgs_index.specs.Theorems.ManifestText.{manifest_back}
 use Rattle.hgs_index.specs.Theorems.PlaceLemmas.{among-at, place-same}
-use Rattle.hgs_index.specs.Theorems.RevlogLemmas.{held-begins, length-held}
-use Rattle.hgs_index.specs.Theorems.UniqueLemmas.{held-unique}
 use Rattle.hgs_model.specs.Theorems.BeforeLemmas.{changelog-parents}
 use Rattle.hgs_model.specs.Theorems.HeldLemmas.{count, held}
 use Rattle.hgs_model.specs.Theorems.ListedLemmas.{length-nodes, rev-same, there}
@@ -17,14 +15,13 @@ use Rattle.hgs_bytes.specs.Text.{lines_of}
 use Rattle.std.proofs.Common.{ap, ◌++◌}
 use Rattle.std.specs.Prelude.{codes}
 use Rattle.hgs_stands.specs.Theorems.Below.{HistoryLaws, NameLaws, PhaseLaw, TextLaws}
+use Rattle.hgs_stands.specs.Theorems.FormLemmas.{either-length}
 
 pub texts : TextLaws
 texts = record {
-  once = held-unique;
-  begins = held-begins;
   either_once = either-once;
   either_begins = either-begins;
-  index_length = length-held;
+  either_length = either-length;
   counted = length-nodes;
   among_known = λ known rev lt. among-at known rev null_node lt;
   one_place = place-same;

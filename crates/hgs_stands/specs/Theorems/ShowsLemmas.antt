@@ -16,8 +16,8 @@ use Rattle.hgs_stands.specs.Theorems.Lower as lower
 
 pub holds-begins : (texts : TextLaws) (laws : HistoryLaws) (t : Tree) (changesets : List Changeset) → EachChangeset IsNextChangeset no_history changesets → HoldsChangesets t changesets → BeginsChangesets t changesets
 holds-begins texts laws t changesets each h = record {
-  whole = (let n = texts.index_length (bytes_at t changelog_index) (bytes_at t changelog_data) (history changesets).changelog h.changelog in let m = laws.count changesets each in omega (arith, n, m));
-  changelog = texts.begins (bytes_at t changelog_index) (bytes_at t changelog_data) (history changesets).changelog h.changelog;
+  whole = (let n = texts.either_length (bytes_at t changelog_index) (bytes_at t changelog_data) (history changesets).changelog h.changelog in let m = laws.count changesets each in omega (arith, n, m));
+  changelog = texts.either_begins (bytes_at t changelog_index) (bytes_at t changelog_data) (history changesets).changelog h.changelog;
   manifest = texts.either_begins (bytes_at t manifest_index) (bytes_at t manifest_data) (history changesets).manifest h.manifest;
   filelogs = λ path used. texts.either_begins (bytes_at t (store_name path I)) (bytes_at t (store_name path D)) ((history changesets).filelog path) (h.filelogs path used);
 }

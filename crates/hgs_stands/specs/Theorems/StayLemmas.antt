@@ -5,7 +5,6 @@ use Rattle.hgs_files.specs.Tree.{Tree, bytes_at}
 use Rattle.hgs_index.specs.Revision.{Revision}
 use Rattle.hgs_index.specs.Either.{HoldsEither}
 use Rattle.hgs_index.specs.Inline.{is_inline}
-use Rattle.hgs_index.specs.Revlog.{HoldsRevisions}
 use Rattle.hgs_marks.specs.Bookmarks.{mark_lines}
 use Rattle.hgs_marks.specs.Dirstate.{read_dirstate}
 use Rattle.hgs_model.specs.History.{history}
@@ -27,7 +26,7 @@ holds-stays t u index data_path revisions i d h = subst (λ x. HoldsEither x (by
 
 pub revlogs-stay : (t u : Tree) (changesets : List Changeset) → SameRevlogs t u changesets → HoldsChangesets t changesets → HoldsChangesets u changesets
 revlogs-stay t u changesets same h = record {
-  changelog = subst (λ x. HoldsRevisions x (bytes_at u changelog_data) (history changesets).changelog) (sym same.changelog) (subst (λ x. HoldsRevisions (bytes_at t changelog_index) x (history changesets).changelog) (sym same.changelog_chunks) h.changelog);
+  changelog = holds-stays t u changelog_index changelog_data (history changesets).changelog same.changelog same.changelog_chunks h.changelog;
   manifest = holds-stays t u manifest_index manifest_data (history changesets).manifest same.manifest same.manifest_chunks h.manifest;
   filelogs = λ path used. holds-stays t u (store_name path I) (store_name path D) ((history changesets).filelog path) (same.filelogs path I used) (same.filelogs path D used) (h.filelogs path used);
   names = h.names;

@@ -8,8 +8,6 @@ returns c = record { tracked = tracked-stands laws; listed = listed-stands laws 
     laws : SampleLaws
     laws = record {
       chunk = c.chunk_then_text.ensures;
-      begins = c.lists_begin.ensures.held;
-      more = c.lists_begin.ensures.more;
       separate = c.either_form_holds.ensures.separate;
       either_begins = c.either_form_holds.ensures.begins;
       either_more = c.either_form_holds.ensures.more;

@@ -1,5 +1,6 @@
 use Rattle.std.proofs.Common.{refl}
 use Rattle.hgs_stands.proofs.OpenLemmas.{open-same, restored-is, undone-is}
+use Rattle.hgs_stands.specs.Theorems.FormLemmas.{either-length}
 use Rattle.hgs_stands.specs.Theorems.Below.{HistoryLaws, NameLaws, TextLaws}
 use Rattle.hgs_stands.proofs.laws.open_trees_lead_back.Goals as goal
 
@@ -8,11 +9,9 @@ returns c = record { restored = restored-is names; undone = undone-is names; one
   where
     texts : TextLaws
     texts = record {
-      once = c.held_once.ensures;
-      begins = c.lists_begin.ensures.held;
       either_once = c.either_form_holds.ensures.once;
       either_begins = c.either_form_holds.ensures.begins;
-      index_length = c.held_index_length.ensures;
+      either_length = either-length;
       counted = c.nodes_are_counted.ensures;
       among_known = c.nodes_have_places.ensures.among;
       one_place = c.nodes_have_places.ensures.one;

@@ -1,4 +1,5 @@
 use Rattle.hgs_stands.proofs.SameLemmas.{changesets-same, phases-same, bookmarks-same, working-parents-same}
+use Rattle.hgs_stands.specs.Theorems.FormLemmas.{either-length}
 use Rattle.hgs_stands.specs.Theorems.Below.{HistoryLaws, TextLaws}
 use Rattle.hgs_stands.proofs.laws.parts_say_one.Goals as goal
 
@@ -7,11 +8,9 @@ returns c = record { changesets = changesets-same texts histories; phases = phas
   where
     texts : TextLaws
     texts = record {
-      once = c.held_once.ensures;
-      begins = c.lists_begin.ensures.held;
       either_once = c.either_form_holds.ensures.once;
       either_begins = c.either_form_holds.ensures.begins;
-      index_length = c.held_index_length.ensures;
+      either_length = either-length;
       counted = c.nodes_are_counted.ensures;
       among_known = c.nodes_have_places.ensures.among;
       one_place = c.nodes_have_places.ensures.one;
