@@ -7,7 +7,6 @@ use Rattle.hgs_index.specs.Either.{chunks_either}
 use Rattle.hgs_index.specs.declared.kinds.Which.TheVariants as limits
 use Rattle.hgs_index.specs.Manifest.{manifest_text}
 use Rattle.hgs_index.specs.Revision.{Parents, Revision, standing}
-use Rattle.hgs_index.specs.Theorems.EitherLemmas.{separate-holds}
 use Rattle.hgs_loading.specs.Found.{and_then}
 use Rattle.hgs_model.specs.History.{History, changeset_revision, first_of, history}
 use Rattle.hgs_model.specs.IsRepo.{IsRepo}
@@ -18,7 +17,7 @@ use Rattle.hgs_model.specs.declared.command.Command.TheVariants.{Commit}
 use Rattle.hgs_model.specs.declared.command.NewChange.{NewChange}
 use Rattle.hgs_model.specs.declared.command.Refusal.{Refusal}
 use Rattle.hgs_model.specs.Theorems.HistoryLemmas.{history-push, length-changelog}
-use Rattle.hgs_ops.specs.Theorems.Touch.{or-right}
+use Rattle.hgs_ops.specs.Theorems.Touch.{or-left, or-right}
 use Rattle.hgs_ops.specs.Unhindered.{IsReady}
 use Rattle.hgs_load.specs.declared.answer.ReadAnswer.{ReadAnswer}
 use Rattle.hgs_revlog.specs.Add.{next_entry}
@@ -125,11 +124,8 @@ module _ (laws : Below) (more : StepsBelow) (t : Tree) (r : Repo) (l : Loaded) (
   abbrev same-parent : Option ℕ
   same-parent = unchanged_from r.changesets parents.0 parents.1 c.tree
 
-  changelog_separate : l.changelog.inline ≡ false
-  changelog_separate = more.separate t r l s loads
-
   changelog_sum : length (chunks_either (bytes_at t changelog_index) (bytes_at t changelog_data)) ≡ stored_sum l.changelog.entries
-  changelog_sum = chunks-sum laws t (of_changelog l.changelog) h.changelog (separate-holds (bytes_at t changelog_index) (bytes_at t changelog_data) h.changelog s.revlogs.changelog) loads.changelog
+  changelog_sum = chunks-sum laws t (of_changelog l.changelog) h.changelog s.revlogs.changelog loads.changelog
 
   manifest_sum : length (chunks_either (bytes_at t manifest_index) (bytes_at t manifest_data)) ≡ stored_sum l.manifest.entries
   manifest_sum = chunks-sum laws t (of_manifest l.manifest) h.manifest s.revlogs.manifest loads.manifest
@@ -141,7 +137,7 @@ module _ (laws : Below) (more : StepsBelow) (t : Tree) (r : Repo) (l : Loaded) (
     abbrev met : Met
     met = noted (noted (noted (noted nothing_met (too_many_marks l n)) y.1) z.1) (inline_logs l)
 
-    -- the manifest is separate where nothing was told of the form
+    -- changelog and manifest are separate where nothing was told of the form
     separate-by : inline_logs l ≡ [] → has_inline l ≡ false
     separate-by = by (has_inline l)
       where
@@ -152,6 +148,7 @@ module _ (laws : Below) (more : StepsBelow) (t : Tree) (r : Repo) (l : Loaded) (
     -- where nothing was met it is the step of the repository
     step-of : IsRepo then-next → equal-one ≡ None → too_many_marks l n ≡ [] → y.1 ≡ [] → z.1 ≡ [] → inline_logs l ≡ [] → (g : OfGrowth) → z.0.changeset.growth ≡ Some g → (after : List Replacing) → replaced_after l n z.0.changeset.node ≡ Ok after → IsStepOf t r (Commit n) (done_at then-next (length r.changesets)) (step_with l n parents (written_with z.0 g) after)
     step-of next_is new few free texts_free plain g grown after after_is =
+        let changelog_separate = or-left l.changelog.inline l.manifest.inline (separate-by plain) in
         let manifest_separate = or-right l.changelog.inline l.manifest.inline (separate-by plain) in
         let made = texts-made l n parents y.0.0 y.0.1 t z texts_is in
         let asked : Revision = record { text = change_text (change_of n made.manifest.0.node y.0.0.changed); parents = parents; link = length l.changelog.entries } in
@@ -166,7 +163,7 @@ module _ (laws : Below) (more : StepsBelow) (t : Tree) (r : Repo) (l : Loaded) (
           manifest = texts.manifest texts_free;
           changeset = sym grown ∙ texts.changeset texts_free ∙ ap (growth_by (of_changelog l.changelog) (changeset_revision h c)) new;
         }) after (next_entry l.changelog.entries asked) more s next_is count node pushed.entries (sym pushed.node ∙ ap (λ (x : OfTexts × List Obstacle). x.0.changeset.node) made.are ∙ node) refl
-        (behind-are more t r l s loads n parents new z.0.changeset.node after node few after_is) (sym (more.form t r l s loads) ∙ manifest_separate)
+        (behind-are more t r l s loads n parents new z.0.changeset.node after node few after_is) (sym (more.form t l loads) ∙ separate-by plain)
 
     -- where there is room for it nothing was met
     nothing-met : IsFree t r then-next → met ≡ nothing_met
@@ -176,7 +173,7 @@ module _ (laws : Below) (more : StepsBelow) (t : Tree) (r : Repo) (l : Loaded) (
         let manifest_room = subst (HasRoomFor t manifest_index manifest_data h.manifest) (next-manifest r n parents) free.manifest in
         let changelog_room = subst (λ (k : History). HasRoomFor t changelog_index changelog_data h.changelog k.changelog) (history-push r.changesets c) free.changelog in
         let both_texts = texts-free t r l s changelog manifest n parents y.0.0 y.0.1 tree manifest_sum changelog_sum manifest_room changelog_room z texts_is in
-        let plain : has_inline l ≡ false = (let a = changelog_separate in let b = more.form t r l s loads ∙ free.separate in λ i. a i || b i) in
+        let plain : has_inline l ≡ false = more.form t l loads ∙ free.separate in
         let logs = ap (λ b. let os : List Obstacle = cond b (passes limits.Inline ∷ []) [] in os) plain in
         λ i. noted (noted (noted (noted nothing_met (marks i)) (grown i)) (both_texts i)) (logs i)
 

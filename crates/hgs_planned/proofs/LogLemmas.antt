@@ -19,7 +19,8 @@ use Rattle.hgs_revlog.specs.Loaded.{AreEntries, HaveSmallTexts}
 use Rattle.hgs_revlog.specs.Log.{Log, stored_sum}
 use Rattle.hgs_revlog.specs.Text.{span_in}
 use Rattle.hgs_revlog.specs.Theorems.HeldLemmas.{stored_sum-agrees}
-use Rattle.hgs_steps.specs.Theorems.SeparateLemmas.{IsLoadedApart, apart-held, apart-loaded}
+use Rattle.hgs_stands.specs.Theorems.FormLemmas.{apart-held}
+use Rattle.hgs_steps.specs.Theorems.SeparateLemmas.{IsLoadedApart, apart-loaded}
 use Rattle.hgs_commit.specs.Texts.{OfLog}
 use Rattle.hgs_planned.specs.Below.{Below}
 use Rattle.hgs_planned.specs.Growth.{IsWhole, index_end}

@@ -10,7 +10,6 @@ use Rattle.hgs_files.specs.Tree.{Tree, bytes_at}
 use Rattle.hgs_index.specs.Either.{chunks_either}
 use Rattle.hgs_index.specs.Inline.{is_inline}
 use Rattle.hgs_index.specs.Revision.{Parents, Revision}
-use Rattle.hgs_index.specs.Theorems.EitherLemmas.{separate-holds}
 use Rattle.hgs_model.specs.History.{History, filelog_with, history, uses, with_changeset}
 use Rattle.hgs_model.specs.Repo.{Changeset, Repo, TreeFile, tree_paths}
 use Rattle.hgs_model.specs.Step.{new_changeset}
@@ -20,7 +19,7 @@ use Rattle.hgs_model.specs.declared.command.NewChange.{NewChange}
 use Rattle.hgs_model.specs.Theorems.CountLemmas.{filelog-same, length-placed, uses-push}
 use Rattle.hgs_ops.specs.Growth.{new_paths}
 use Rattle.hgs_ops.specs.Unhindered.{AreNewRevisions, HasRoom, IsReady, IsUnhindered}
-use Rattle.hgs_ops.specs.Theorems.Touch.{bool}
+use Rattle.hgs_ops.specs.Theorems.Touch.{bool, or-left, or-right}
 use Rattle.hgs_path.specs.declared.name.Ext.{Ext}
 use Rattle.hgs_path.specs.declared.name.Ext.TheVariants.{I, D}
 use Rattle.hgs_path.specs.Fncache.{clashes, is_path_of, listing, lists}
@@ -28,7 +27,8 @@ use Rattle.hgs_path.specs.ListedNames.{listed_file, names_of}
 use Rattle.hgs_path.specs.StoreName.{listed_name, store_name}
 use Rattle.hgs_revlog.specs.Load.{most_data}
 use Rattle.hgs_stands.specs.Places.{changelog_data, changelog_index, fncache_path, manifest_data, manifest_index}
-use Rattle.hgs_stands.specs.Stands.{IsUsedName, Stands}
+use Rattle.hgs_stands.specs.Stands.{IsUsedName, Stands, has_inline_log}
+use Rattle.hgs_steps.specs.Loaded.{has_inline}
 use Rattle.hgs_stands.specs.Theorems.FilesLemmas.{name-used}
 use Rattle.hgs_steps.specs.Planned.{IsLoadedOf}
 use Rattle.hgs_steps.specs.declared.loaded.Loaded.{Loaded}
@@ -95,7 +95,7 @@ all-among P (x ∷ xs) each = (each x (ap (λ b. b || among x xs) (same-refl x))
 
 -- ---- the commit
 
-module _ (laws : Below) (t : Tree) (r next : Repo) (l : Loaded) (s : Stands t r) (loads : IsLoadedOf t l) (changelog_separate : l.changelog.inline ≡ false) (manifest_separate : l.manifest.inline ≡ false) (manifest_form : l.manifest.inline ≡ is_inline (bytes_at t manifest_index)) (changelog : IsLogOf t (of_changelog l.changelog) (history r.changesets).changelog) (manifest : IsLogOf t (of_manifest l.manifest) (history r.changesets).manifest) (n : NewChange) (parents : Parents)
+module _ (laws : Below) (t : Tree) (r next : Repo) (l : Loaded) (s : Stands t r) (loads : IsLoadedOf t l) (plain_logs : has_inline l ≡ false) (form : has_inline l ≡ has_inline_log t) (changelog : IsLogOf t (of_changelog l.changelog) (history r.changesets).changelog) (manifest : IsLogOf t (of_manifest l.manifest) (history r.changesets).manifest) (n : NewChange) (parents : Parents)
     (ordered : ascends (paths_of_files n.files) ≡ true) (with_it : next.changesets ≡ r.changesets ++ new_changeset (history r.changesets) parents n ∷ [])
     (x : OfGrown × Parents) (files : AreFree t r l n parents x) (y : OfTexts × List Obstacle) (plain : y.1 ≡ []) (texts : AreTextsOf l (history r.changesets) (new_changeset (history r.changesets) parents n) y)
     (unclashed : ClashOn l (trees_in l n parents t) None None) (needs : NeedsNoTest t r next) where
@@ -187,12 +187,12 @@ module _ (laws : Below) (t : Tree) (r next : Repo) (l : Loaded) (s : Stands t r)
 
   changelog-small : (length (bytes_at t changelog_index) ≤ most_data) × (length (bytes_at t changelog_data) ≤ most_data)
   changelog-small =
-      whole-small t (of_changelog l.changelog) h.changelog changelog_separate changelog
-      (whole-of laws t (of_changelog l.changelog) h.changelog (separate-holds (bytes_at t changelog_index) (bytes_at t changelog_data) h.changelog s.revlogs.changelog) loads.changelog)
+      whole-small t (of_changelog l.changelog) h.changelog (or-left l.changelog.inline l.manifest.inline plain_logs) changelog
+      (whole-of laws t (of_changelog l.changelog) h.changelog s.revlogs.changelog loads.changelog)
 
   manifest-small : (length (bytes_at t manifest_index) ≤ most_data) × (length (bytes_at t manifest_data) ≤ most_data)
   manifest-small =
-      whole-small t (of_manifest l.manifest) h.manifest manifest_separate manifest
+      whole-small t (of_manifest l.manifest) h.manifest (or-right l.changelog.inline l.manifest.inline plain_logs) manifest
       (whole-of laws t (of_manifest l.manifest) h.manifest s.revlogs.manifest loads.manifest)
 
   room : HasRoom t r next
@@ -214,7 +214,7 @@ module _ (laws : Below) (t : Tree) (r next : Repo) (l : Loaded) (s : Stands t r)
   unhindered : IsUnhindered t r next
   unhindered = record {
     room = room;
-    separate = sym manifest_form ∙ manifest_separate;
+    separate = sym form ∙ plain_logs;
     changelog = subst (λ (k : History). AreNewRevisions h.changelog k.changelog) (sym logs) (texts.changesets_fresh plain);
     manifest = subst (λ (k : History). AreNewRevisions h.manifest k.manifest) (sym logs) (texts.manifests_fresh plain);
     filelogs = λ path. subst (λ (k : History). AreNewRevisions (h.filelog path) (k.filelog path)) (sym logs) (fresh-file path);

@@ -7,7 +7,6 @@ use Rattle.hgs_files.specs.Tree.{Tree, bytes_at}
 use Rattle.hgs_index.specs.declared.entry.Entry.{Entry}
 use Rattle.hgs_index.specs.Either.{chunk_bytes}
 use Rattle.hgs_index.specs.Entry.{entry_bytes}
-use Rattle.hgs_index.specs.Inline.{is_inline}
 use Rattle.hgs_index.specs.Revision.{Parents, Revision, nodes, standing}
 use Rattle.hgs_index.specs.Revlog.{chunk_of, entry_after, next_header}
 use Rattle.hgs_model.specs.History.{History, changeset_revision, history, manifest_revision, manifest_with}
@@ -23,7 +22,7 @@ use Rattle.hgs_ops.specs.Theorems.GrowLemmas.{drop-front}
 use Rattle.hgs_revlog.specs.Add.{next_entry}
 use Rattle.hgs_revlog.specs.Log.{new_header, stored_sum}
 use Rattle.hgs_stands.specs.Places.{changelog_data, changelog_index, fncache_path, manifest_data, manifest_index}
-use Rattle.hgs_stands.specs.Stands.{Stands}
+use Rattle.hgs_stands.specs.Stands.{Stands, has_inline_log}
 use Rattle.hgs_transaction.specs.OfTransaction.{IsOfTree}
 use Rattle.hgs_transaction.specs.declared.parts.Change.{Change}
 use Rattle.hgs_transaction.specs.declared.parts.Change.TheVariants.{Append}
@@ -134,7 +133,7 @@ module _ (t : Tree) (r : Repo) (l : Loaded) (loads : IsLoadedOf t l) (n : NewCha
 
   -- the step of the repository
   pub step-is : (after : List Replacing) (e : Entry) (laws : StepsBelow) → Stands t r → IsRepo then-next → length l.changelog.entries ≡ length r.changesets → w.node ≡ new-node r n parents → entries_with l.changelog.entries w.changeset.entry.bytes ≡ l.changelog.entries ++ e ∷ [] → e.node.0 ≡ new-node r n parents → (e.p1, e.p2) ≡ parents
-      → AreBehind t r then-next (is_some n.bookmark) after → is_inline (bytes_at t manifest_index) ≡ false → IsStepOf t r (Commit n) (done_at then-next (length r.changesets)) (step_with l n parents w after)
+      → AreBehind t r then-next (is_some n.bookmark) after → has_inline_log t ≡ false → IsStepOf t r (Commit n) (done_at then-next (length r.changesets)) (step_with l n parents w after)
   step-is after e laws s next_is count node entries entry_node from behind separate = record {
     parts = record {
       before = before-are t (growth t r then-next) (appends_of l w) appends-are (growth-appends t r then-next) (roots_change r then-next) (new_roots then-next) roots first w.changeset.entry publish-stands later after behind.files;

@@ -31,7 +31,7 @@ use Rattle.hgs_stands.specs.Stands.{Stands}
 use Rattle.hgs_loading.specs.Theorems.IndexLemmas.{inline-index, separate-index}
 use Rattle.hgs_steps.specs.Planned.{IsLoadedOf}
 use Rattle.hgs_steps.specs.declared.loaded.Loaded.{Loaded}
-use Rattle.hgs_steps.specs.Theorems.SeparateLemmas.{apart-held}
+use Rattle.hgs_stands.specs.Theorems.FormLemmas.{apart-held}
 use Rattle.hgs_commit.specs.Changeset.{of_changelog, of_manifest}
 use Rattle.hgs_commit.specs.Commit.{grown_in, manifests_of, parent_files, trees_in}
 use Rattle.hgs_commit.specs.Files.{OfFile, empty_log, file_in, file_on, file_with, filelog_in, filelog_with, formed, parents_by, place_in, row_with}

@@ -3,7 +3,6 @@ use Rattle.std.specs.Prelude.{◌≡◌, ◌≤◌, ◌+◌, ℕ, List, [], fals
 use Rattle.hgs_bytes.specs.Bytes.{among}
 use Rattle.hgs_files.specs.Tree.{Tree, bytes_at}
 use Rattle.hgs_index.specs.Either.{chunks_either}
-use Rattle.hgs_index.specs.Inline.{is_inline}
 use Rattle.hgs_index.specs.Revision.{Revision}
 use Rattle.hgs_index.specs.Revlog.{chunk_of}
 use Rattle.hgs_model.specs.History.{history}
@@ -15,6 +14,7 @@ use Rattle.hgs_path.specs.declared.name.Ext.TheVariants.{D, I}
 use Rattle.hgs_path.specs.StoreName.{store_name}
 use Rattle.hgs_revlog.specs.Load.{most_data, most_revisions}
 use Rattle.hgs_stands.specs.Places.{changelog_data, changelog_index, manifest_data, manifest_index}
+use Rattle.hgs_stands.specs.Stands.{has_inline_log}
 use Rattle.hgs_steps.specs.Planned.{passes_limit}
 
 -- A revlog that grows to these revisions is within its limits, and has no node twice and not the null node.
@@ -23,11 +23,11 @@ pub record HasRoomFor (t : Tree) (index chunks : List ℕ) (old all : List Revis
   pub data_end : length (chunks_either (bytes_at t index) (bytes_at t chunks)) + sum_by (λ (r : Revision). length (chunk_of r.text)) (drop (length old) all) ≤ most_data
   pub new : AreNewRevisions old all
 
--- The manifest is separate, the bookmarks and each revlog are within their limits with the new changeset, and where a filelog is
--- new its files have no bytes.
+-- Changelog and manifest are separate, the bookmarks and each revlog are within their limits with the new changeset, and where a
+-- filelog is new its files have no bytes.
 pub record IsFree (t : Tree) (r next : Repo) : Type 0 where
   pub bookmarks : passes_limit r next ≡ false
-  pub separate : is_inline (bytes_at t manifest_index) ≡ false
+  pub separate : has_inline_log t ≡ false
   pub changelog : HasRoomFor t changelog_index changelog_data (history r.changesets).changelog (history next.changesets).changelog
   pub manifest : HasRoomFor t manifest_index manifest_data (history r.changesets).manifest (history next.changesets).manifest
   pub filelogs : (path : List ℕ) → HasRoomFor t (store_name path I) (store_name path D) ((history r.changesets).filelog path) ((history next.changesets).filelog path)

@@ -4,7 +4,6 @@ use Rattle.hgs_bytes.specs.Bytes.{IsPrefixOf, same}
 use Rattle.hgs_files.specs.Tree.{Tree, bytes_at}
 use Rattle.hgs_index.specs.declared.entry.Entry.{Entry}
 use Rattle.hgs_index.specs.declared.node.Node.{Node}
-use Rattle.hgs_index.specs.Inline.{is_inline}
 use Rattle.hgs_index.specs.Node.{null_node}
 use Rattle.hgs_index.specs.Revision.{Revision}
 use Rattle.hgs_model.specs.History.{changeset_nodes}
@@ -22,16 +21,15 @@ use Rattle.hgs_loading.specs.Logs.{index_in}
 use Rattle.hgs_revlog.specs.Load.{most_revisions, pushed}
 use Rattle.hgs_revlog.specs.Log.{Log, nodes_of, with_entry}
 use Rattle.hgs_revlog.specs.declared.add.Added.TheVariants.{New}
-use Rattle.hgs_stands.specs.Places.{manifest_index}
-use Rattle.hgs_stands.specs.Stands.{Stands}
+use Rattle.hgs_stands.specs.Stands.{Stands, has_inline_log}
 use Rattle.hgs_steps.specs.declared.loaded.Loaded.{Loaded}
+use Rattle.hgs_steps.specs.Loaded.{has_inline}
 use Rattle.hgs_steps.specs.Planned.{HoldsRepository, IsLoadedOf, IsReplacedBy, IsReplacedWhere, passes_limit}
 use Rattle.hgs_steps.specs.Steps.{are_too_many, dirstate_replacing, marked, marks_replacing, phases_text, roots_replaced}
 
 pub record StepsBelow : Type 0 where
   pub holds : (t : Tree) (r : Repo) (l : Loaded) → Stands t r → IsLoadedOf t l → HoldsRepository l r
-  pub separate : (t : Tree) (r : Repo) (l : Loaded) → Stands t r → IsLoadedOf t l → l.changelog.inline ≡ false
-  pub form : (t : Tree) (r : Repo) (l : Loaded) → Stands t r → IsLoadedOf t l → l.manifest.inline ≡ is_inline (bytes_at t manifest_index)
+  pub form : (t : Tree) (l : Loaded) → IsLoadedOf t l → has_inline l ≡ has_inline_log t
   pub roots : (t : Tree) (r next : Repo) (l : Loaded) (phases : List Phase) (entries : List Entry) → Stands t r → IsLoadedOf t l → IsRepo next → nodes_of entries ≡ changeset_nodes next.changesets → history_of entries ≡ all_parents next.changesets → map phase_number phases ≡ next.phases
       → IsReplacedWhere t (roots_change r next) (new_roots next) (roots_replaced l (phases_text phases entries))
   pub bookmarks : (t : Tree) (r next : Repo) (l : Loaded) (name : List ℕ) (rev : ℕ) → Stands t r → IsLoadedOf t l → IsPrefixOf r.changesets next.changesets → next.bookmarks ≡ with_mark r.bookmarks name rev

@@ -58,7 +58,7 @@ accepted t r command l a next f = by (are_too_many l.bookmarks || are_too_many a
     by false true e i = inr (refl, sym e, sym i)
     by false false e i = record { parts = f.parts; rev = f.rev; node = f.node; few = sym e; separate = sym i }
 
-form-same : (t : Tree) (l : Loaded) → IsLoadedOf t l → has_inline l ≡ has_inline_log t
+pub form-same : (t : Tree) (l : Loaded) → IsLoadedOf t l → has_inline l ≡ has_inline_log t
 form-same t l h =
     let changelog = (apart-loaded Refuse (bytes_at t changelog_index) l.changelog h.changelog).form in
     let manifest = (apart-loaded Refuse (bytes_at t manifest_index) l.manifest h.manifest).form in

@@ -5,7 +5,7 @@ ghost use Rattle.hgs_bytes.specs.Bytes.{IsPrefixOf};
 ghost use Rattle.hgs_files.specs.Tree.{Tree, bytes_at};
 ghost use Rattle.hgs_index.specs.declared.entry.Entry.{Entry};
 ghost use Rattle.hgs_index.specs.Either.{chunks_either};
-ghost use Rattle.hgs_index.specs.Inline.{index_apart, is_inline};
+ghost use Rattle.hgs_index.specs.Inline.{index_apart};
 ghost use Rattle.hgs_index.specs.Node.{null_node};
 ghost use Rattle.hgs_index.specs.Revision.{Revision};
 ghost use Rattle.hgs_index.specs.Revlog.{HoldsRevisions};
@@ -25,9 +25,9 @@ ghost use Rattle.hgs_revlog.specs.Load.{loaded};
 ghost use Rattle.hgs_revlog.specs.Log.{Log, nodes_of};
 ghost use Rattle.hgs_revlog.specs.declared.fault.Tail.TheVariants.{Refuse};
 ghost use Rattle.hgs_stands.specs.Places.{changelog_data, changelog_index, manifest_data, manifest_index};
-ghost use Rattle.hgs_stands.specs.Stands.{Stands};
+ghost use Rattle.hgs_stands.specs.Stands.{Stands, has_inline_log};
 ghost use Rattle.hgs_steps.specs.Below.{Below};
-ghost use Rattle.hgs_steps.specs.Loaded.{view_of};
+ghost use Rattle.hgs_steps.specs.Loaded.{has_inline, view_of};
 ghost use Rattle.hgs_steps.specs.Parents.{named_all};
 ghost use Rattle.hgs_steps.specs.Planned.{AnswersAs, HoldsRepository, IsLoadedOf, IsReplacedBy, IsReplacedWhere, passes_limit};
 ghost use Rattle.hgs_steps.specs.Steps.{are_too_many, dirstate_replacing, mark_of, marked, marks_replacing, move_of, phases_text, planned, roots_replaced, unmark_of};
@@ -49,11 +49,10 @@ pub fn loaded_entries_are_held()
 }
 
 /// What was loaded of a tree that stands for a repository is the repository's, and the entries of changelog and manifest are
-/// those of its revisions, each in the form that its index says.
+/// those of its revisions; each is inline where its index says so.
 pub fn loaded_holds_repository()
     ensures holds { (t : Tree) (r : Repo) (l : Loaded) → Stands t r → IsLoadedOf t l → HoldsRepository l r }
-    ensures changelog_form { (t : Tree) (l : Loaded) → IsLoadedOf t l → l.changelog.inline ≡ is_inline (bytes_at t changelog_index) }
-    ensures manifest_form { (t : Tree) (l : Loaded) → IsLoadedOf t l → l.manifest.inline ≡ is_inline (bytes_at t manifest_index) }
+    ensures form { (t : Tree) (l : Loaded) → IsLoadedOf t l → has_inline l ≡ has_inline_log t }
     ensures changelog { (t : Tree) (r : Repo) (l : Loaded) → Stands t r → IsLoadedOf t l → Agrees (index_apart (bytes_at t changelog_index)) (chunks_either (bytes_at t changelog_index) (bytes_at t changelog_data)) l.changelog.entries (history r.changesets).changelog }
     ensures manifest { (t : Tree) (r : Repo) (l : Loaded) → Stands t r → IsLoadedOf t l → Agrees (index_apart (bytes_at t manifest_index)) (chunks_either (bytes_at t manifest_index) (bytes_at t manifest_data)) l.manifest.entries (history r.changesets).manifest }
 {

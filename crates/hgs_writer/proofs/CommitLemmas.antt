@@ -1,5 +1,5 @@
 -- What a commit comes to is what the repository makes of it.
-use Rattle.std.proofs.Common.{inl, inr, ◌≡◌, ℕ, ◌+◌, List, [], Bool, false, drop, length, refl, sym, ◌∙◌, ap, subst}
+use Rattle.std.proofs.Common.{inl, inr, ◌≡◌, ℕ, ◌+◌, List, [], Bool, false, ◌||◌, drop, length, refl, sym, ◌∙◌, ap, subst}
 use Rattle.std.specs.Prelude.{◌<◌, ◌≤◌, ◌^◌, Option, Result, Ok, Err, ⊤, sum_by, unwrap_or}
 use Rattle.std.specs.Bool.{MatchBool}
 use Rattle.hgs_bytes.specs.Bytes.{same}
@@ -38,7 +38,7 @@ use Rattle.hgs_load.specs.declared.answer.ReadAnswer.{ReadAnswer}
 use Rattle.hgs_revlog.specs.Held.{AreWithinLimits}
 use Rattle.hgs_revlog.specs.Load.{most_data}
 use Rattle.hgs_stands.specs.Places.{changelog_data, changelog_index, fncache_path, manifest_data, manifest_index}
-use Rattle.hgs_stands.specs.Stands.{Stands}
+use Rattle.hgs_stands.specs.Stands.{Stands, has_inline_log}
 use Rattle.hgs_steps.specs.Fault.{is_memory}
 use Rattle.hgs_steps.specs.Parents.{named_all, parents_answer}
 use Rattle.hgs_steps.specs.Planned.{IsLoadedOf, IsStepOf}
@@ -97,10 +97,14 @@ module _ (laws : Below) (t : Tree) (who : List ℕ) (locking : List Op) (locks :
     new = room.new;
   }
 
+  -- the forms of changelog and manifest stay
+  form-stays : has_inline_log (after_all locking t) ≡ has_inline_log t
+  form-stays = λ i. is_inline (sym (bytes-stay changelog_index refl refl) i) || is_inline (sym (bytes-stay manifest_index refl refl) i)
+
   room-stays : (r next : Repo) → IsFree t r next → IsFree (after_all locking t) r next
   room-stays r next free = record {
     bookmarks = free.bookmarks;
-    separate = ap is_inline (sym (bytes-stay manifest_index refl refl)) ∙ free.separate;
+    separate = form-stays ∙ free.separate;
     changelog = revlog-stays changelog_index changelog_data (history r.changesets).changelog (history next.changesets).changelog (bytes-stay changelog_index refl refl) (bytes-stay changelog_data refl refl) free.changelog;
     manifest = revlog-stays manifest_index manifest_data (history r.changesets).manifest (history next.changesets).manifest (bytes-stay manifest_index refl refl) (bytes-stay manifest_data refl refl) free.manifest;
     filelogs = λ path. revlog-stays (store_name path I) (store_name path D) ((history r.changesets).filelog path) ((history next.changesets).filelog path) (filelog-stays path I) (filelog-stays path D) (free.filelogs path);
@@ -116,10 +120,6 @@ module _ (laws : Below) (t : Tree) (who : List ℕ) (locking : List Op) (locks :
   commit-before r (Move name to force) stepped lacks = lacks
   commit-before r (Mark mark name) stepped lacks = lacks
   commit-before r (Unmark mark) stepped lacks = lacks
-
-  -- the manifest's form stays
-  form-stays : is_inline (bytes_at (after_all locking t) manifest_index) ≡ is_inline (bytes_at t manifest_index)
-  form-stays = ap is_inline (sym (bytes-stay manifest_index refl refl))
 
   passed-before : (r : Repo) (which : Which) (stepped : Result Next Refusal) → IsPassed (after_all locking t) r which stepped → IsPassed t r which stepped
   passed-before r which stepped (inl marks) = inl marks

@@ -13,7 +13,6 @@ use Rattle.hgs_index.specs.declared.kinds.Which.{Which}
 use Rattle.hgs_index.specs.declared.kinds.Which.TheVariants.{Bookmarks, Inline}
 use Rattle.hgs_index.specs.declared.node.Node.{Node}
 use Rattle.hgs_index.specs.Either.{chunks_either}
-use Rattle.hgs_index.specs.Inline.{is_inline}
 use Rattle.hgs_loading.specs.Store.{Loaded as Read, loaded_in}
 use Rattle.hgs_machine.specs.Locks.{AreLocked, IsTurnedAway}
 use Rattle.hgs_machine.specs.declared.ended.Short.{Short}
@@ -34,10 +33,10 @@ use Rattle.hgs_load.specs.declared.answer.ReadAnswer.TheVariants as reads
 use Rattle.hgs_load.specs.Answer.{is_of_outside}
 use Rattle.hgs_revlog.specs.Held.{AreWithinLimits}
 use Rattle.hgs_model.specs.History.{history}
-use Rattle.hgs_stands.specs.Places.{bookmarks_path, changelog_data, dirstate_path, fncache_path, manifest_data, manifest_index, roots_path}
+use Rattle.hgs_stands.specs.Places.{bookmarks_path, changelog_data, changelog_index, dirstate_path, fncache_path, manifest_data, manifest_index, roots_path}
 use Rattle.hgs_load.specs.Open.{most_bookmarks_text, most_dirstate, most_roots}
 use Rattle.hgs_loading.specs.Small.{most_fncache}
-use Rattle.hgs_stands.specs.Stands.{Stands}
+use Rattle.hgs_stands.specs.Stands.{Stands, has_inline_log}
 use Rattle.hgs_steps.specs.Fault.{is_memory}
 use Rattle.hgs_planned.specs.Commits.{AnswersWith}
 use Rattle.hgs_steps.specs.Planned.{AnswersAs, IsLoadedOf, passes_limit}
@@ -69,7 +68,7 @@ within-locks files t r who locking locks within =
       roots = subst (λ (b : List ℕ). length b ≤ most_roots) (at roots_path refl refl) within.roots;
       fncache = subst (λ (b : List ℕ). length b ≤ most_fncache) (at fncache_path refl refl) within.fncache;
       changelog = subst (AreWithinLimits (history r.changesets).changelog) (at changelog_data refl refl) within.changelog;
-      manifest = subst (AreWithinLimits (history r.changesets).manifest) (λ i. chunks_either (at manifest_index refl refl i) (at manifest_data refl refl i)) within.manifest;
+      changelog = subst (AreWithinLimits (history r.changesets).changelog) (λ i. chunks_either (at changelog_index refl refl i) (at changelog_data refl refl i)) within.changelog;
     }
 
 -- ---- refusals
@@ -119,7 +118,7 @@ read-outcome r command t read stepped reads.NotARepository is m = tt
 read-outcome r command t read stepped (reads.Requirement w) is m = tt
 read-outcome r command t read stepped reads.Memory is m = tt
 
-ended-outcome : (t : Tree) (r : Repo) (command : Command) (next : Next) (few : passes_limit r next.0 ≡ false) (separate : is_inline (bytes_at t manifest_index) ≡ false) (rev : ℕ) (node : Node) (ended : Short) → IsOutcomeOf t r command (Ok next) (outcome_of_ended ended rev node)
+ended-outcome : (t : Tree) (r : Repo) (command : Command) (next : Next) (few : passes_limit r next.0 ≡ false) (separate : has_inline_log t ≡ false) (rev : ℕ) (node : Node) (ended : Short) → IsOutcomeOf t r command (Ok next) (outcome_of_ended ended rev node)
 ended-outcome t r command next few separate rev node shorts.Done = ((next, refl, few), separate)
 ended-outcome t r command next few separate rev node shorts.Fault = tt
 ended-outcome t r command next few separate rev node (shorts.Unfinished published) = ((next, refl, few), separate)

@@ -12,7 +12,6 @@ use Rattle.hgs_index.specs.Inline.{index_apart, is_inline}
 use Rattle.hgs_index.specs.Node.{null_node}
 use Rattle.hgs_index.specs.Revision.{Revision, nodes}
 use Rattle.hgs_index.specs.Revlog.{Holds, HoldsRevisions, all_different}
-use Rattle.hgs_index.specs.Theorems.EitherLemmas.{separate-holds}
 use Rattle.hgs_loading.specs.Found.{and_then}
 use Rattle.hgs_loading.specs.Logs.{data_in, either_data_in, either_index_in, either_log_in, index_in, whole_log_in}
 use Rattle.hgs_loading.specs.Theorems.IndexLemmas.{inline-index, separate-index}
@@ -41,7 +40,7 @@ use Rattle.hgs_revlog.specs.declared.fault.Tail.TheVariants.{Refuse}
 use Rattle.hgs_revlog.specs.Theorems.HeldLemmas.{stored_sum-agrees}
 use Rattle.hgs_shown.specs.Shown.{working_nodes}
 use Rattle.hgs_stands.specs.Stands.{Stands}
-use Rattle.hgs_steps.specs.Theorems.SeparateLemmas.{apart-held, held-separate}
+use Rattle.hgs_stands.specs.Theorems.FormLemmas.{apart-held}
 use Rattle.hgs_writer.specs.Limits.{LoadsWithin}
 
 -- what the crates below say of indexes, and of working parents
@@ -120,9 +119,7 @@ tree-read laws t r s within =
     let listed : Listing = lists s.fncache.names in
     let f = file-read most_fncache fncache_path fncache_said t listed within.fncache (mapped fncache_refusal (files_of (bytes_at t fncache_path)) listed (ap as_files s.fncache.text)) in
     let small : Small = record { bookmarks = (t bookmarks_path, marks); dirstate = (t dirstate_path, s.dirstate.dirstate); roots = (t roots_path, s.phases.roots); fncache = (t fncache_path, listed) } in
-    let plain = held-separate (bytes_at t changelog_index) (bytes_at t changelog_data) (history r.changesets).changelog s.revlogs.changelog in
-    let c = log-read laws t changelog_index changelog_data (history r.changesets).changelog (separate-holds (bytes_at t changelog_index) (bytes_at t changelog_data) (history r.changesets).changelog s.revlogs.changelog)
-    (subst (λ b. AreWithinLimits (history r.changesets).changelog (chunk_bytes b (bytes_at t changelog_index) (bytes_at t changelog_data))) (sym plain) within.changelog) in
+    let c = log-read laws t changelog_index changelog_data (history r.changesets).changelog s.revlogs.changelog within.changelog in
     let n = log-read laws t manifest_index manifest_data (history r.changesets).manifest s.revlogs.manifest within.manifest in
     let known = laws.entry_nodes (index_apart (bytes_at t changelog_index)) (chunks_either (bytes_at t changelog_index) (bytes_at t changelog_data)) c.log.entries (history r.changesets).changelog c.agrees in
     let working = laws.working c.log.entries r r s.repository ([], sym (append-nil r.changesets)) known s.revlogs.changelog.different s.revlogs.changelog.not_null in

@@ -4,8 +4,7 @@ use Rattle.hgs_answers.specs.declared.outcome.Outcome.{Outcome}
 use Rattle.hgs_answers.specs.declared.outcome.Outcome.TheVariants.{Done, LockHeld, Abandoned, UnknownRevision, NothingChanged, Fault, Unfinished, Limit, NameClash, InTheWay, Collision, NeedsForce, Memory}
 use Rattle.hgs_answers.specs.declared.outcome.Published.{Published}
 use Rattle.hgs_answers.specs.declared.outcome.Published.TheVariants.{No, Yes, Unknown}
-use Rattle.hgs_files.specs.Tree.{Tree, bytes_at}
-use Rattle.hgs_index.specs.Inline.{is_inline}
+use Rattle.hgs_files.specs.Tree.{Tree}
 use Rattle.hgs_index.specs.declared.kinds.Which.{Which}
 use Rattle.hgs_index.specs.declared.kinds.Which.TheVariants.{Bookmarks, Inline}
 use Rattle.hgs_index.specs.declared.node.Node.{Node}
@@ -18,8 +17,7 @@ use Rattle.hgs_model.specs.declared.command.Refusal.{Refusal}
 use Rattle.hgs_model.specs.declared.command.Refusal.TheVariants as refusals
 use Rattle.hgs_ops.specs.Operations.{strays}
 use Rattle.hgs_stands.specs.Open.{IsOpen}
-use Rattle.hgs_stands.specs.Places.{manifest_index}
-use Rattle.hgs_stands.specs.Stands.{Stands}
+use Rattle.hgs_stands.specs.Stands.{Stands, has_inline_log}
 use Rattle.hgs_steps.specs.Planned.{passes_limit}
 use Rattle.hgs_planned.specs.Commits.{CanBeRead}
 use Rattle.hgs_planned.specs.Free.{IsFree}
@@ -83,9 +81,9 @@ IsBarred outcome = IsHeld outcome
 abbrev pub IsAccepted : Repo → Bool → Result Next Refusal → Type 0
 IsAccepted r passes stepped = (next : Next) × (stepped ≡ Ok next) × (passes_limit r next.0 ≡ passes)
 
--- It does, neither is past it, and the manifest is separate.
+-- It does, neither is past it, and changelog and manifest are separate.
 abbrev pub MayBeWritten : Tree → Repo → Result Next Refusal → Type 0
-MayBeWritten t r stepped = IsAccepted r false stepped × (is_inline (bytes_at t manifest_index) ≡ false)
+MayBeWritten t r stepped = IsAccepted r false stepped × (has_inline_log t ≡ false)
 
 -- The repository accepts the commit.
 abbrev pub IsAcceptedCommit : Command → Result Next Refusal → Type 0
@@ -101,11 +99,11 @@ abbrev pub IsCommitWithoutRoom : Tree → Repo → Command → Result Next Refus
 IsCommitWithoutRoom t r (Commit n) stepped = LacksRoom t r stepped
 IsCommitWithoutRoom t r command stepped = ⊥
 
--- The limit is passed: by the bookmarks, or by a manifest that is inline, to which no writer appends.
+-- The limit is passed: by the bookmarks, or by a changelog or manifest that is inline, to which no writer appends.
 abbrev pub IsPassed : Tree → Repo → Which → Result Next Refusal → Type 0
 IsPassed t r which stepped =
     ((which ≡ Bookmarks) × IsAccepted r true stepped)
-    ⊎ ((which ≡ Inline) × IsAccepted r false stepped × (is_inline (bytes_at t manifest_index) ≡ true))
+    ⊎ ((which ≡ Inline) × IsAccepted r false stepped × (has_inline_log t ≡ true))
 
 -- It is passed for want of room for a commit, or so by another command.
 abbrev pub PassesLimit : Tree → Repo → Command → Which → Result Next Refusal → Type 0

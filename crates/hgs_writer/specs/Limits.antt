@@ -7,7 +7,7 @@ use Rattle.hgs_model.specs.History.{history}
 use Rattle.hgs_model.specs.Repo.{Repo}
 use Rattle.hgs_load.specs.Open.{most_bookmarks_text, most_dirstate, most_roots}
 use Rattle.hgs_revlog.specs.Held.{AreWithinLimits}
-use Rattle.hgs_stands.specs.Places.{bookmarks_path, changelog_data, dirstate_path, fncache_path, manifest_data, manifest_index, roots_path}
+use Rattle.hgs_stands.specs.Places.{bookmarks_path, changelog_data, changelog_index, dirstate_path, fncache_path, manifest_data, manifest_index, roots_path}
 
 -- the files that a writer reads before it plans are within the limits
 pub record LoadsWithin (t : Tree) (r : Repo) : Type 0 where
@@ -15,5 +15,5 @@ pub record LoadsWithin (t : Tree) (r : Repo) : Type 0 where
   pub dirstate : length (bytes_at t dirstate_path) ≤ most_dirstate
   pub roots : length (bytes_at t roots_path) ≤ most_roots
   pub fncache : length (bytes_at t fncache_path) ≤ most_fncache
-  pub changelog : AreWithinLimits (history r.changesets).changelog (bytes_at t changelog_data)
+  pub changelog : AreWithinLimits (history r.changesets).changelog (chunks_either (bytes_at t changelog_index) (bytes_at t changelog_data))
   pub manifest : AreWithinLimits (history r.changesets).manifest (chunks_either (bytes_at t manifest_index) (bytes_at t manifest_data))

@@ -1,4 +1,3 @@
-use Rattle.hgs_ops.specs.Theorems.Touch.{or-right}
 use Rattle.std.proofs.Common.{[], refl}
 use Rattle.hgs_planned.proofs.GrownTreeLemmas.{free-of}
 use Rattle.hgs_planned.proofs.ReadyLemmas.{ready}
@@ -9,8 +8,6 @@ returns c = λ t r next l n parents x y s h ordered below with_it separate e rea
     let changelog = c.loaded_logs_are_the_repositorys.ensures.changelog t r l s h in
     let manifest = c.loaded_logs_are_the_repositorys.ensures.manifest t r l s h in
     let tree = c.trees_are_the_repositorys.ensures t r l n parents (x, []) s h ordered below.first below.second e in
-    let changelog_separate = c.laws_of_steps.ensures.separate t r l s h in
-    let manifest_separate = or-right l.changelog.inline l.manifest.inline separate in
-    ready c.laws_below.ensures t r next l s h changelog_separate manifest_separate (c.laws_of_steps.ensures.form t r l s h) changelog manifest n parents ordered with_it x
+    ready c.laws_below.ensures t r next l s h separate (c.laws_of_steps.ensures.form t l h) changelog manifest n parents ordered with_it x
     (free-of c.laws_below.ensures t r l s h changelog manifest n parents x ordered below.first below.second e)
     (y, []) refl (c.texts_of_commits_are_the_repositorys.ensures t r l n parents x.0 x.1 (y, []) s h tree read) unclashed needs

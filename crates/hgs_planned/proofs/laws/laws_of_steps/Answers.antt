@@ -3,7 +3,6 @@ use Rattle.hgs_planned.proofs.laws.laws_of_steps.Goals as goal
 pub returns : goal.returns
 returns c = record {
   holds = c.loaded_holds_repository.ensures.holds;
-  separate = c.loaded_holds_repository.ensures.separate;
   form = c.loaded_holds_repository.ensures.form;
   roots = c.files_of_commits_agree.ensures.roots;
   bookmarks = c.files_of_commits_agree.ensures.bookmarks;

@@ -1,6 +1,3 @@
-use Rattle.hgs_files.specs.Tree.{bytes_at}
-use Rattle.hgs_index.specs.Theorems.EitherLemmas.{separate-holds}
-use Rattle.hgs_stands.specs.Places.{changelog_data, changelog_index}
 use Rattle.hgs_model.specs.History.{history}
 use Rattle.hgs_commit.specs.Changeset.{of_changelog, of_manifest}
 use Rattle.hgs_planned.proofs.FilelogLemmas.{filelog-of}
@@ -8,7 +5,7 @@ use Rattle.hgs_planned.proofs.LogLemmas.{log-of}
 use Rattle.hgs_planned.proofs.laws.loaded_logs_are_the_repositorys.Goals as goal
 
 pub returns-clause-changelog : goal.returns-clause-changelog
-returns-clause-changelog c = λ t r l s h. log-of c.laws_below.ensures t (of_changelog l.changelog) (history r.changesets).changelog (separate-holds (bytes_at t changelog_index) (bytes_at t changelog_data) (history r.changesets).changelog s.revlogs.changelog) h.changelog
+returns-clause-changelog c = λ t r l s h. log-of c.laws_below.ensures t (of_changelog l.changelog) (history r.changesets).changelog s.revlogs.changelog h.changelog
 
 pub returns-clause-manifest : goal.returns-clause-manifest
 returns-clause-manifest c = λ t r l s h. log-of c.laws_below.ensures t (of_manifest l.manifest) (history r.changesets).manifest s.revlogs.manifest h.manifest

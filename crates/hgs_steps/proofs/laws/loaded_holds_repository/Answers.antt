@@ -5,9 +5,10 @@ use Rattle.hgs_index.specs.Inline.{index_apart}
 use Rattle.hgs_model.specs.History.{history}
 use Rattle.hgs_revlog.specs.declared.fault.Tail.TheVariants.{Refuse}
 use Rattle.hgs_revlog.specs.Held.{Agrees}
-use Rattle.hgs_stands.specs.Places.{changelog_index, manifest_data, manifest_index}
+use Rattle.hgs_stands.specs.Places.{manifest_data, manifest_index}
 use Rattle.hgs_stands.specs.Theorems.FormLemmas.{apart-held}
 use Rattle.hgs_steps.specs.Theorems.SeparateLemmas.{apart-loaded}
+use Rattle.hgs_steps.proofs.AnswerLemmas.{form-same}
 use Rattle.hgs_steps.proofs.EntryLemmas.{entries-held}
 use Rattle.hgs_steps.proofs.ViewLemmas.{agrees-is, holds-is}
 use Rattle.hgs_steps.proofs.laws.loaded_holds_repository.Goals as goal
@@ -15,11 +16,8 @@ use Rattle.hgs_steps.proofs.laws.loaded_holds_repository.Goals as goal
 pub returns-clause-holds : goal.returns-clause-holds
 returns-clause-holds c = holds-is c.laws_below.ensures
 
-pub returns-clause-changelog_form : goal.returns-clause-changelog_form
-returns-clause-changelog_form c = λ t l h. (apart-loaded Refuse (bytes_at t changelog_index) l.changelog h.changelog).form
-
-pub returns-clause-manifest_form : goal.returns-clause-manifest_form
-returns-clause-manifest_form c = λ t l h. (apart-loaded Refuse (bytes_at t manifest_index) l.manifest h.manifest).form
+pub returns-clause-form : goal.returns-clause-form
+returns-clause-form c = form-same
 
 pub returns-clause-changelog : goal.returns-clause-changelog
 returns-clause-changelog c = agrees-is c.laws_below.ensures
