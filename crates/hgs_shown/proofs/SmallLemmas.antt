@@ -44,6 +44,7 @@ drafts-open = record {
   bookmarks = most _ _ refl;
   dirstate = most _ _ refl;
   roots = most _ _ refl;
+  inline_index = λ inline. most _ _ refl;
   changelog = record { few = most _ _ refl; texts = (most _ _ refl, (most _ _ refl, tt)); data_end = most _ _ refl };
 }
 
@@ -55,6 +56,7 @@ begun-open = record {
   bookmarks = most _ _ refl;
   dirstate = most _ _ refl;
   roots = most _ _ refl;
+  inline_index = λ inline. most _ _ refl;
   changelog = record { few = most _ _ refl; texts = (most _ _ refl, (most _ _ refl, tt)); data_end = most _ _ refl };
 }
 
