@@ -243,7 +243,7 @@ chunk-given : {A : Type 0} (inline : Bool) (t : Tree) (rev : ℕ) (o : Option En
 chunk-given false t rev o e given at = ap (λ x. at_rest t (changeset_asks false rev x given)) at
 chunk-given true t rev o e given at = ap (λ x. at_rest t (changeset_asks true rev x given)) at
 
-line-asked : (t : Tree) (view : View) (rev : ℕ) (e : Entry) (change : Change) → slice_get view.changelog.entries rev ≡ Some e → at_rest t (change_asks view rev) ≡ Ok change → at_rest t (line_asks view rev) ≡ Ok (line_text rev e change)
+pub line-asked : (t : Tree) (view : View) (rev : ℕ) (e : Entry) (change : Change) → slice_get view.changelog.entries rev ≡ Some e → at_rest t (change_asks view rev) ≡ Ok change → at_rest t (line_asks view rev) ≡ Ok (line_text rev e change)
 line-asked t view rev e change at reads =
     let inline = view.changelog.inline in
     let entry = slice_get view.changelog.entries rev in

@@ -19,7 +19,7 @@ ghost use Rattle.hgs_path.specs.Check.{checked};
 ghost use Rattle.hgs_phases.specs.Phases.{history_of};
 ghost use Rattle.hgs_load.specs.Asks.{at_rest};
 ghost use Rattle.hgs_reader.specs.Held.{EndsInline, HasSeparateText, HasText};
-ghost use Rattle.hgs_reader.specs.Line.{change_asks};
+ghost use Rattle.hgs_reader.specs.Line.{change_asks, line_asks, line_text};
 ghost use Rattle.hgs_load.specs.Marks.{working_answer};
 ghost use Rattle.hgs_revlog.specs.Held.{Agrees, AreWithinLimits, chunk_in};
 ghost use Rattle.hgs_revlog.specs.Log.{nodes_of};
@@ -152,6 +152,11 @@ pub fn changeset_is_read()
 {
     changesets_are_read();
 }
+
+/// Where the changeset of a revision is read, its line says of it what the changeset does.
+pub fn lines_of_changesets()
+    ensures { (t : Tree) (view : View) (rev : ℕ) (entry : Entry) (change : Change) → slice_get view.changelog.entries rev ≡ Some entry → at_rest t (change_asks view rev) ≡ Ok change → at_rest t (line_asks view rev) ≡ Ok (line_text rev entry change) }
+{}
 
 /// Of rows that ascend each is found by its path, and a path that no file has is not. The files of a changeset have tracked
 /// paths, which pass the test of paths, and are as small as all files are.
