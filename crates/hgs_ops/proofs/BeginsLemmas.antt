@@ -9,9 +9,8 @@ use Rattle.hgs_files.specs.Tree.{Tree, bytes_at}
 use Rattle.hgs_files.specs.Theorems.TreeLemmas.{bytes_at-is}
 use Rattle.hgs_index.specs.Revision.{Revision}
 use Rattle.hgs_index.specs.Either.{BeginsEither}
-use Rattle.hgs_index.specs.Revlog.{BeginsWithRevisions}
+use Rattle.hgs_index.specs.Inline.{index_apart}
 use Rattle.hgs_index.specs.Theorems.EitherLemmas.{either-more}
-use Rattle.hgs_index.specs.Theorems.RevlogLemmas.{begins-more, length-held}
 use Rattle.hgs_journal.specs.declared.backups.BackupLine.{BackupLine}
 use Rattle.hgs_journal.specs.declared.journal.JournalLine.{JournalLine}
 use Rattle.hgs_journal.specs.Covers.{Covers, KeepsFront, backup_places, is_loose, journal_paths}
@@ -28,7 +27,7 @@ use Rattle.hgs_phases.specs.declared.roots.Root.{Root}
 use Rattle.hgs_phases.specs.Phases.{phases_by}
 use Rattle.hgs_phases.specs.Roots.{read_roots}
 use Rattle.hgs_stands.specs.Places.{bookmarks_path, changelog_index, changelog_data, dirstate_path, manifest_index, manifest_data, requires_path, roots_path}
-use Rattle.hgs_stands.specs.Shows.{BeginsApart, BeginsAt, Shows}
+use Rattle.hgs_stands.specs.Shows.{BeginsAt, Shows}
 use Rattle.hgs_stands.specs.Stands.{Stands, changeset_entries}
 use Rattle.hgs_stands.specs.Theorems.LooseLemmas.{store-not-loose}
 use Rattle.hgs_stands.specs.Theorems.ShowsLemmas.{stands-shows}
@@ -98,11 +97,6 @@ module _ (u q : Tree) (c : Covers strays u q) where
       subst (λ x. BeginsEither x (bytes_at u chunks) revisions) (sym gi.1)
       (subst (λ y. BeginsEither (bytes_at q index ++ gi.0) y revisions) (sym gd.1) (either-more (bytes_at q index) (bytes_at q chunks) gi.0 gd.0 revisions b))
 
-  begins-apart : (index chunks : List ℕ) (revisions : List Revision) → Grown u q index → Grown u q chunks → BeginsApart q index chunks revisions → BeginsApart u index chunks revisions
-  begins-apart index chunks revisions gi gd b =
-      subst (λ x. BeginsWithRevisions x (bytes_at u chunks) revisions) (sym gi.1)
-      (subst (λ y. BeginsWithRevisions (bytes_at q index ++ gi.0) y revisions) (sym gd.1) (begins-more (bytes_at q index) (bytes_at q chunks) gi.0 gd.0 revisions b))
-
   revision-files : (r : Repo) (stands : Stands q r) → (path : List ℕ) → uses r.changesets path ≡ true → BeginsAt u (store_name path I) (store_name path D) ((history r.changesets).filelog path)
   revision-files r stands path used = begins (store_name path I) (store_name path D) _ (store-grown path I) (store-grown path D) ((stands-shows q r stands).revlogs.filelogs path used)
 
@@ -112,10 +106,10 @@ module _ (u q : Tree) (c : Covers strays u q) where
 abbrev pub GivesPhases : Repo → List ℕ → Type 0
 GivesPhases r bytes = (roots : List Root) × (read_roots bytes ≡ Ok roots) × (map phase_number (phases_by roots (changeset_entries r.changesets)) ≡ r.phases)
 
--- Of the files that tell what is shown, the tree v has those of a tree q that stands, but for part of an entry and the phase
--- roots, which give the same phases.
+-- Of the files that tell what is shown, the tree v has those of a tree q that stands, but for part of an entry, so that there
+-- are as many whole ones, and the phase roots, which give the same phases.
 pub record IsStill (r : Repo) (q v : Tree) : Type 0 where
-  pub index : length (bytes_at v changelog_index) < length (bytes_at q changelog_index) + 64
+  pub index : length (index_apart (bytes_at v changelog_index)) / 64 ≡ length (index_apart (bytes_at q changelog_index)) / 64
   pub roots : GivesPhases r (bytes_at v roots_path)
   pub marks : bytes_at v bookmarks_path ≡ bytes_at q bookmarks_path
   pub working : bytes_at v dirstate_path ≡ bytes_at q dirstate_path
@@ -124,16 +118,16 @@ pub gives-own : (q : Tree) (r : Repo) → Stands q r → GivesPhases r (bytes_at
 gives-own q r s = (s.phases.roots, s.phases.text, s.phases.phases)
 
 pub still-own : (r : Repo) (q v : Tree) → Stands q r → bytes_at v changelog_index ≡ bytes_at q changelog_index → bytes_at v roots_path ≡ bytes_at q roots_path → bytes_at v bookmarks_path ≡ bytes_at q bookmarks_path → bytes_at v dirstate_path ≡ bytes_at q dirstate_path → IsStill r q v
-still-own r q v s a b c d = record { index = omega (arith, ap length a); roots = subst (GivesPhases r) (sym b) (gives-own q r s); marks = c; working = d }
+still-own r q v s a b c d = record { index = ap (λ l. length (index_apart l) / 64) a; roots = subst (GivesPhases r) (sym b) (gives-own q r s); marks = c; working = d }
 
 -- each of the files has the bytes of w, for which this is known, or those of q
 pub still-either : (r : Repo) (q w v : Tree) → Stands q r → IsStill r q w → (bytes_at v changelog_index ≡ bytes_at w changelog_index) ⊎ (bytes_at v changelog_index ≡ bytes_at q changelog_index) → (bytes_at v roots_path ≡ bytes_at w roots_path) ⊎ (bytes_at v roots_path ≡ bytes_at q roots_path)
     → (bytes_at v bookmarks_path ≡ bytes_at w bookmarks_path) ⊎ (bytes_at v bookmarks_path ≡ bytes_at q bookmarks_path) → (bytes_at v dirstate_path ≡ bytes_at w dirstate_path) ⊎ (bytes_at v dirstate_path ≡ bytes_at q dirstate_path) → IsStill r q v
 still-either r q w v s i a b c d = record { index = index a; roots = roots b; marks = text i.marks c; working = text i.working d }
   where
-    index : (bytes_at v changelog_index ≡ bytes_at w changelog_index) ⊎ (bytes_at v changelog_index ≡ bytes_at q changelog_index) → length (bytes_at v changelog_index) < length (bytes_at q changelog_index) + 64
-    index (inl e) = omega (arith, ap length e, i.index)
-    index (inr e) = omega (arith, ap length e)
+    index : (bytes_at v changelog_index ≡ bytes_at w changelog_index) ⊎ (bytes_at v changelog_index ≡ bytes_at q changelog_index) → length (index_apart (bytes_at v changelog_index)) / 64 ≡ length (index_apart (bytes_at q changelog_index)) / 64
+    index (inl e) = ap (λ l. length (index_apart l) / 64) e ∙ i.index
+    index (inr e) = ap (λ l. length (index_apart l) / 64) e
 
     roots : (bytes_at v roots_path ≡ bytes_at w roots_path) ⊎ (bytes_at v roots_path ≡ bytes_at q roots_path) → GivesPhases r (bytes_at v roots_path)
     roots (inl e) = subst (GivesPhases r) (sym e) i.roots
@@ -147,8 +141,8 @@ pub still-shows : (q v : Tree) (r : Repo) → Stands q r → Covers strays v q �
 still-shows q v r s c i = record {
   requires = record { text = s.requires.text; there = requires-same v q c ∙ s.requires.there; known = s.requires.known; whole = s.requires.whole };
   revlogs = record {
-    whole = whole;
-    changelog = begins-apart v q c changelog_index changelog_data _ (grown v q c changelog_index refl refl refl) (grown v q c changelog_data refl refl refl) shown.revlogs.changelog;
+    whole = shown.revlogs.whole ∙ sym i.index;
+    changelog = begins v q c changelog_index changelog_data _ (grown v q c changelog_index refl refl refl) (grown v q c changelog_data refl refl refl) shown.revlogs.changelog;
     manifest = begins v q c manifest_index manifest_data _ (grown v q c manifest_index refl refl refl) (grown v q c manifest_data refl refl refl) shown.revlogs.manifest;
     filelogs = revision-files v q c r s;
   };
@@ -160,24 +154,14 @@ still-shows q v r s c i = record {
     shown : Shows q r r r
     shown = stands-shows q r s
 
-    whole : length r.changesets ≡ length (bytes_at v changelog_index) / 64
-    whole =
-        let grew = grown v q c changelog_index refl refl refl in
-        let more = ap length grew.1 ∙ length-append (bytes_at q changelog_index) grew.0 in
-        let lt = i.index in
-        let count = shown.revlogs.whole in
-        let held = length-held (bytes_at q changelog_index) (bytes_at q changelog_data) (history r.changesets).changelog s.revlogs.changelog in
-        let size : length (bytes_at q changelog_index) ≡ 64 * length r.changesets = omega (arith, count, held) in
-        omega (arith, more, lt, size)
-
 -- ---- locks and strays do not matter
 
 pub loose-shows : (t u : Tree) (a b r : Repo) → ((path : List ℕ) → is_loose strays path ≡ false → u path ≡ t path) → Shows t a b r → Shows u a b r
 loose-shows t u a b r same_file shown = record {
   requires = record { text = shown.requires.text; there = same_file requires_path refl ∙ shown.requires.there; known = shown.requires.known; whole = shown.requires.whole };
   revlogs = record {
-    whole = shown.revlogs.whole ∙ ap (λ l. length l / 64) (sym (text changelog_index refl));
-    changelog = moved-apart changelog_index changelog_data _ refl refl shown.revlogs.changelog;
+    whole = shown.revlogs.whole ∙ ap (λ l. length (index_apart l) / 64) (sym (text changelog_index refl));
+    changelog = moved changelog_index changelog_data _ refl refl shown.revlogs.changelog;
     manifest = moved manifest_index manifest_data _ refl refl shown.revlogs.manifest;
     filelogs = λ path used. moved (store_name path I) (store_name path D) _ (store-not-loose strays path I refl) (store-not-loose strays path D refl) (shown.revlogs.filelogs path used);
   };
@@ -191,6 +175,3 @@ loose-shows t u a b r same_file shown = record {
 
     moved : (index chunks : List ℕ) (revisions : List Revision) → is_loose strays index ≡ false → is_loose strays chunks ≡ false → BeginsAt t index chunks revisions → BeginsAt u index chunks revisions
     moved index chunks revisions x y h = subst (λ z. BeginsEither z (bytes_at u chunks) revisions) (sym (text index x)) (subst (λ z. BeginsEither (bytes_at t index) z revisions) (sym (text chunks y)) h)
-
-    moved-apart : (index chunks : List ℕ) (revisions : List Revision) → is_loose strays index ≡ false → is_loose strays chunks ≡ false → BeginsApart t index chunks revisions → BeginsApart u index chunks revisions
-    moved-apart index chunks revisions x y h = subst (λ z. BeginsWithRevisions z (bytes_at u chunks) revisions) (sym (text index x)) (subst (λ z. BeginsWithRevisions (bytes_at t index) z revisions) (sym (text chunks y)) h)

@@ -8,7 +8,7 @@ use Rattle.hgs_files.specs.Log.{IsDone}
 use Rattle.hgs_files.specs.Tree.{Tree, after_all, apply, bytes_at}
 use Rattle.hgs_index.specs.Revision.{Revision}
 use Rattle.hgs_index.specs.Either.{BeginsEither}
-use Rattle.hgs_index.specs.Revlog.{BeginsWithRevisions}
+use Rattle.hgs_index.specs.Inline.{index_apart}
 use Rattle.hgs_journal.specs.Covers.{is_loose}
 use Rattle.hgs_journal.specs.Names.{journal_path, new_name, place}
 use Rattle.hgs_marks.specs.Bookmarks.{read_bookmarks}
@@ -23,7 +23,7 @@ use Rattle.hgs_path.specs.declared.name.Ext.TheVariants.{I, D}
 use Rattle.hgs_path.specs.StoreName.{store_name}
 use Rattle.hgs_phases.specs.Roots.{read_roots}
 use Rattle.hgs_stands.specs.Places.{bookmarks_path, changelog_data, changelog_index, dirstate_path, manifest_data, manifest_index, requires_path, roots_path}
-use Rattle.hgs_stands.specs.Shows.{BeginsApart, BeginsAt, Shows, ShowsWorking}
+use Rattle.hgs_stands.specs.Shows.{BeginsAt, Shows, ShowsWorking}
 use Rattle.hgs_stands.specs.Stands.{Stands, mark_of}
 use Rattle.hgs_stands.specs.Theorems.ShowsLemmas.{stands-shows}
 use Rattle.hgs_ops.specs.Operations.{Transaction, strays, transaction_of}
@@ -49,9 +49,6 @@ module _ (t u v : Tree) (r next : Repo) (s : Stands t r) (n : Stands v next) (ag
   begins : (index chunks : List ℕ) (revisions : List Revision) → is_settled index ≡ false → is_settled chunks ≡ false → BeginsAt v index chunks revisions → BeginsAt u index chunks revisions
   begins index chunks revisions a b h = subst (λ x. BeginsEither x (bytes_at u chunks) revisions) (sym (text index a)) (subst (λ y. BeginsEither (bytes_at v index) y revisions) (sym (text chunks b)) h)
 
-  begins-apart : (index chunks : List ℕ) (revisions : List Revision) → is_settled index ≡ false → is_settled chunks ≡ false → BeginsApart v index chunks revisions → BeginsApart u index chunks revisions
-  begins-apart index chunks revisions a b h = subst (λ x. BeginsWithRevisions x (bytes_at u chunks) revisions) (sym (text index a)) (subst (λ y. BeginsWithRevisions (bytes_at v index) y revisions) (sym (text chunks b)) h)
-
   store-unsettled : (path : List ℕ) (ext : Ext) → is_settled (store_name path ext) ≡ false
   store-unsettled path ext = among-part settled_paths fixed (store_name path ext) refl (stores-fixed path ext)
 
@@ -59,8 +56,8 @@ module _ (t u v : Tree) (r next : Repo) (s : Stands t r) (n : Stands v next) (ag
   settled-shows b w eb ew = record {
     requires = record { text = n.requires.text; there = agree requires_path refl ∙ n.requires.there; known = n.requires.known; whole = n.requires.whole };
     revlogs = record {
-      whole = shown.revlogs.whole ∙ ap (λ l. length l / 64) (sym (text changelog_index refl));
-      changelog = begins-apart changelog_index changelog_data _ refl refl shown.revlogs.changelog;
+      whole = shown.revlogs.whole ∙ ap (λ l. length (index_apart l) / 64) (sym (text changelog_index refl));
+      changelog = begins changelog_index changelog_data _ refl refl shown.revlogs.changelog;
       manifest = begins manifest_index manifest_data _ refl refl shown.revlogs.manifest;
       filelogs = λ path used. begins (store_name path I) (store_name path D) _ (store-unsettled path I) (store-unsettled path D) (shown.revlogs.filelogs path used);
     };

@@ -1,40 +1,50 @@
 -- A transaction shows the repository before it until its publishing operation is whole, and while it is undone.
-use Rattle.std.proofs.Common.{◌≡◌, ◌⊎◌, ℕ, ◌<◌, ◌+◌, List, [], ◌∷◌, ◌++◌, Bool, true, false, length, take, refl, sym, ◌∙◌, ap, subst, inl, inr, append-nil, arith, length-append, take_at}
-use Rattle.std.specs.Prelude.{Ok, Some, None, is_some}
+use Rattle.std.proofs.Common.{◌≡◌, ◌⊎◌, ℕ, ◌<◌, ◌+◌, List, [], ◌∷◌, ◌++◌, Bool, true, false, length, drop, take, refl, sym, ◌∙◌, ap, subst, inl, inr, append-nil, arith, length-append, take_at}
+use Rattle.std.specs.Prelude.{◌/◌, Ok, Option, Some, None, is_some}
 use Rattle.hgs_bytes.specs.Bytes.{same}
 use Rattle.hgs_files.specs.declared.op.Op.{Op}
 use Rattle.hgs_files.specs.declared.op.Op.TheVariants.{Append, Create, Rename}
 use Rattle.hgs_files.specs.Log.{IsDone}
 use Rattle.hgs_files.specs.Tree.{Tree, after_all, apply, bytes_at, renamed, with_file}
 use Rattle.hgs_files.specs.Theorems.TreeLemmas.{after_all-append, bytes_at-is, bytes_at-with_file, with_file-same}
-use Rattle.hgs_index.specs.Theorems.RevlogLemmas.{length-held}
+use Rattle.hgs_index.specs.Inline.{index_apart}
+use Rattle.hgs_index.specs.declared.entry.Entry.{Entry}
+use Rattle.hgs_index.specs.declared.entry.Header.{Header}
+use Rattle.hgs_index.specs.Entry.{entry_bytes}
+use Rattle.hgs_index.specs.Revision.{Revision, nodes, parent_node}
+use Rattle.hgs_index.specs.Revlog.{entry_after}
+use Rattle.hgs_index.specs.Theorems.EntryPartLemmas.{length-entry_bytes}
 use Rattle.hgs_journal.specs.Covers.{is_loose}
 use Rattle.hgs_journal.specs.Names.{journal_path}
 use Rattle.hgs_journal.specs.Texts.{journal_text}
 use Rattle.hgs_model.specs.declared.command.Command.{Command}
 use Rattle.hgs_model.specs.declared.command.Command.TheVariants.{Commit, Move, Mark, Unmark}
 use Rattle.hgs_model.specs.declared.command.NewChange.{NewChange}
-use Rattle.hgs_model.specs.History.{history}
+use Rattle.hgs_model.specs.History.{History, changeset_revision, history}
 use Rattle.hgs_model.specs.IsRepo.{IsRepo}
 use Rattle.hgs_model.specs.Repo.{Changeset, Repo}
 use Rattle.hgs_model.specs.Step.{Answer, new_changeset, step}
 use Rattle.hgs_model.specs.Valid.{IsNewChange, IsValid}
-use Rattle.hgs_model.specs.Theorems.HistoryLemmas.{length-changelog}
-use Rattle.hgs_model.specs.Theorems.NewChangesetLemmas.{commit-keeps, step_commit-did}
+use Rattle.hgs_model.specs.Theorems.CountLemmas.{changelog-one}
+use Rattle.hgs_model.specs.Theorems.HistoryLemmas.{history-push}
+use Rattle.hgs_model.specs.Theorems.NewChangesetLemmas.{commit-keeps, new-change-is-next, step_commit-did}
+use Rattle.hgs_model.specs.Theorems.NodeLemmas.{node_hash-node}
 use Rattle.hgs_phases.specs.Roots.{read_roots}
-use Rattle.hgs_stands.specs.Places.{bookmarks_path, changelog_index, dirstate_path, roots_path}
+use Rattle.hgs_stands.specs.Places.{bookmarks_path, changelog_data, changelog_index, dirstate_path, roots_path}
 use Rattle.hgs_stands.specs.Shows.{Shows}
 use Rattle.hgs_stands.specs.Stands.{Stands}
-use Rattle.hgs_ops.specs.Growth.{growth, new_changelog_entry}
-use Rattle.hgs_ops.specs.Operations.{backups_of, changes_before, journal_of, operations, publishing, renames_after, strays, transaction_of}
+use Rattle.hgs_stands.specs.Theorems.FormLemmas.{changelog-plain, part-counted}
+use Rattle.hgs_ops.specs.Growth.{as_stored, growth, new_changelog_entry, new_entries, new_items, own_header}
+use Rattle.hgs_ops.specs.Operations.{backups_of, changes_before, journal_of, publishing, renames_after, strays, transaction_of}
 use Rattle.hgs_ops.specs.Replaced.{new_bookmarks, new_dirstate, replacements, roots_change, roots_of}
 use Rattle.hgs_ops.specs.Unhindered.{IsReady}
 use Rattle.hgs_ops.proofs.BeginsLemmas.{GivesPhases, IsStill, gives-own}
 use Rattle.hgs_ops.proofs.Below.{Below}
-use Rattle.hgs_ops.specs.Theorems.CommitLemmas.{commit-leads, growth-appends, growth-index, growth-quiet}
-use Rattle.hgs_ops.specs.Theorems.CommitTree.{commit-leaves, first_of, new_roots_path, roots-put}
+use Rattle.hgs_ops.specs.Theorems.CommitLemmas.{growth-appends, growth-index, growth-quiet}
+use Rattle.hgs_ops.specs.Theorems.CommitTree.{first_of, new_roots_path, roots-put}
 use Rattle.hgs_ops.proofs.FrontPhases.{roots-front}
 use Rattle.hgs_ops.proofs.Parts.{append-less, done-split, part-other}
+use Rattle.hgs_ops.specs.Theorems.GrowLemmas.{drop-front}
 use Rattle.hgs_ops.specs.Theorems.RootsLemmas.{written-phases}
 use Rattle.hgs_ops.proofs.ShowPlan.{begun-same, begun-shows, begun-still, early-shows, undoing-shows, working-shows}
 use Rattle.hgs_ops.specs.Theorems.Touch.{appended, appended-none, apply-other, bytes-same, touched, touched-append}
@@ -65,22 +75,26 @@ rename-all from to (op ∷ more) left (j, (rest, (f, g), e), k) =
     let none = nothing-of more left (subst (λ (x : List Op). IsDone x more left) (e ∙ append-nil rest ∙ g) k) in
     inr (λ i. f i ∷ none i)
 
+node-size : (known : List (List ℕ)) (r : Revision) → length (entry_after 0 known (as_stored r)).node.0 ≡ 20
+node-size known r = (node_hash-node (parent_node known r.parents.0) (parent_node known r.parents.1) r.text).size
+
+no-chunk : (e : Entry) (first : Option Header) → length e.node.0 ≡ 20 → length ((entry_bytes e first ++ []) ++ []) ≡ 64
+no-chunk e first size = ap length (append-nil (entry_bytes e first ++ []) ∙ append-nil (entry_bytes e first)) ∙ length-entry_bytes e first size
+
+one-entry : (offset : ℕ) (old : List Revision) (r : Revision) → length (new_entries false old (new_items offset old (r ∷ []))) ≡ 64
+one-entry offset [] r = no-chunk (entry_after offset [] (as_stored r)) (Some (own_header false)) (node-size [] r)
+one-entry offset (x ∷ old) r = no-chunk (entry_after offset (nodes (x ∷ old)) (as_stored r)) None (node-size (nodes (x ∷ old)) r)
+
 -- the new entry has 64 bytes
-pub entry-length : (t : Tree) (r next : Repo) (n : NewChange) (answer : Answer) → Stands t r → IsNewChange n → step r (Commit n) ≡ Ok (next, answer) → IsReady t r (Commit n) next → length (new_changelog_entry t r next) ≡ 64
-entry-length t r next n answer s good accepted ready =
+pub entry-length : (t : Tree) (r next : Repo) (n : NewChange) (answer : Answer) → Stands t r → IsNewChange n → step r (Commit n) ≡ Ok (next, answer) → length (new_changelog_entry t r next) ≡ 64
+entry-length t r next n answer s good accepted =
     let d = step_commit-did r n next answer s.repository accepted in
-    let ends = (commit-leads t r next n [] answer s good accepted ready.0).stands in
-    let leaves = commit-leaves t [] (roots_change r next) (is_some n.bookmark) (roots_of next) (new_dirstate next).text (new_bookmarks next).text (backups_of t r (Commit n) next) (journal_text (journal_of t r (Commit n) next)) (growth t r next) changelog_index (new_changelog_entry t r next) refl (growth-appends t r next) (growth-quiet t r next) in
-    let bytes = leaves.bytes changelog_index refl in
-    let none = ap length (appended-none (growth t r next) changelog_index (growth-index t r next)) in
-    let old = length-held (bytes_at t changelog_index) _ (history r.changesets).changelog s.revlogs.changelog in
-    let new = length-held (bytes_at (after_all (operations (transaction_of t r (Commit n) [] next)) t) changelog_index) _ (history next.changesets).changelog ends.revlogs.changelog in
-    let old_count = length-changelog r s.repository in
-    let new_count = length-changelog next (commit-keeps r n next answer s.repository good accepted) in
-    let one_more = ap (λ (q : Repo). length q.changesets) d.is ∙ length-append r.changesets (new_changeset (history r.changesets) d.parents n ∷ []) in
-    let size : length (bytes_at (after_all (operations (transaction_of t r (Commit n) [] next)) t) changelog_index) ≡ (length (bytes_at t changelog_index) + length (appended changelog_index (growth t r next))) + length (new_changelog_entry t r next) =
-    ap length bytes ∙ length-append (bytes_at t changelog_index ++ appended changelog_index (growth t r next)) (new_changelog_entry t r next) ∙ ap (λ m. m + length (new_changelog_entry t r next)) (length-append (bytes_at t changelog_index) (appended changelog_index (growth t r next))) in
-    omega (arith, size, none, old, new, old_count, new_count, one_more)
+    let h = history r.changesets in
+    let c = new_changeset h d.parents n in
+    let grew : (history next.changesets).changelog ≡ h.changelog ++ changeset_revision h c ∷ [] =
+    ap (λ (q : Repo). (history q.changesets).changelog) d.is ∙ ap (λ (x : History). x.changelog) (history-push r.changesets c) ∙ changelog-one h c (new-change-is-next r n d.parents s.repository good d.changed) in
+    ap (λ l. length (new_entries false h.changelog (new_items (length (bytes_at t changelog_data)) h.changelog l))) (ap (drop (length h.changelog)) grew ∙ drop-front h.changelog (changeset_revision h c ∷ []))
+    ∙ one-entry (length (bytes_at t changelog_data)) h.changelog (changeset_revision h c)
 
 -- ---- a commit
 
@@ -119,8 +133,8 @@ module _ (below : Below) (t : Tree) (r next : Repo) (n : NewChange) (answer : An
   first-index true = refl
   first-index false = refl
 
-  -- the changelog's index has less than an entry more
-  index : (done : List Op) (o : Op) (l : List Op) → IsDone ((growth t r next ++ firsts) ++ publish ∷ []) done (o ∷ l) → length (bytes_at (after_all done opened) changelog_index) < length (bytes_at t changelog_index) + 64
+  -- the changelog's index has less than an entry more, so as many whole ones
+  index : (done : List Op) (o : Op) (l : List Op) → IsDone ((growth t r next ++ firsts) ++ publish ∷ []) done (o ∷ l) → length (index_apart (bytes_at (after_all done opened) changelog_index)) / 64 ≡ length (index_apart (bytes_at t changelog_index)) / 64
   index done o l h = by (done-split (growth t r next ++ firsts) (publish ∷ []) done (o ∷ l) h)
     where
       quiet : touched changelog_index (growth t r next ++ firsts) ≡ false
@@ -130,15 +144,15 @@ module _ (below : Below) (t : Tree) (r next : Repo) (n : NewChange) (answer : An
       part d m k = bytes-same t (after_all d opened) changelog_index (part-other changelog_index (growth t r next ++ firsts) d m opened k quiet ∙ opened-same changelog_index refl refl)
 
       small : (f : List ℕ) → (length f < length (new_changelog_entry t r next)) ⊎ (f ≡ []) → length f < 64
-      small f (inl lt) = omega (arith, lt, entry-length t r next n answer s good accepted ready)
+      small f (inl lt) = omega (arith, lt, entry-length t r next n answer s good accepted)
       small f (inr e) = let z : length f ≡ 0 = ap length e in omega (arith, z)
 
-      by : ((m : List Op) × IsDone (growth t r next ++ firsts) done m) ⊎ ((a : List Op) × (b : List Op) × (done ≡ a ++ b) × IsDone (growth t r next ++ firsts) a [] × IsDone (publish ∷ []) b (o ∷ l)) → length (bytes_at (after_all done opened) changelog_index) < length (bytes_at t changelog_index) + 64
-      by (inl (m, k)) = omega (arith, ap length (part done m k))
+      by : ((m : List Op) × IsDone (growth t r next ++ firsts) done m) ⊎ ((a : List Op) × (b : List Op) × (done ≡ a ++ b) × IsDone (growth t r next ++ firsts) a [] × IsDone (publish ∷ []) b (o ∷ l)) → length (index_apart (bytes_at (after_all done opened) changelog_index)) / 64 ≡ length (index_apart (bytes_at t changelog_index)) / 64
+      by (inl (m, k)) = ap (λ x. length (index_apart x) / 64) (part done m k)
       by (inr (a, b, e, k, g)) =
           let less = append-less changelog_index (new_changelog_entry t r next) b o l g in
           let now : bytes_at (after_all done opened) changelog_index ≡ bytes_at t changelog_index ++ less.0 = ap (λ x. bytes_at (after_all x opened) changelog_index) e ∙ ap (λ (v : Tree). bytes_at v changelog_index) (after_all-append a b opened) ∙ less.2 (after_all a opened) ∙ ap (λ x. x ++ less.0) (part a [] k) in
-          omega (arith, ap length now, length-append (bytes_at t changelog_index) less.0, small less.0 less.1)
+          ap (λ x. length (index_apart x) / 64) now ∙ part-counted (bytes_at t changelog_index) (bytes_at t changelog_data) less.0 (history r.changesets).changelog (changelog-plain t ready.0.separate) s.revlogs.changelog (small less.0 less.1)
 
   -- the phase roots are as before or as they are written
   abbrev IsEither : Tree → Type 0

@@ -1,5 +1,5 @@
 -- What hinders a transaction under its locks hinders it without them.
-use Rattle.std.proofs.Common.{◌≡◌, ◌≤◌, ◌<◌, ◌^◌, ℕ, List, [], ◌∷◌, ◌++◌, drop, length, Bool, true, false, refl, sym, ◌∙◌, ap, subst, arith}
+use Rattle.std.proofs.Common.{◌≡◌, ◌≤◌, ◌<◌, ◌^◌, ℕ, List, [], ◌∷◌, ◌++◌, drop, length, Bool, true, false, ◌||◌, refl, sym, ◌∙◌, ap, subst, arith}
 use Rattle.std.specs.Prelude.{Option, None, unwrap_or}
 use Rattle.hgs_bytes.specs.Bytes.{among, same}
 use Rattle.hgs_bytes.specs.Theorems.ByteLemmas.{same-eq}
@@ -21,7 +21,7 @@ use Rattle.hgs_path.specs.declared.name.Ext.TheVariants.{D, I}
 use Rattle.hgs_path.specs.ListedNames.{names_of}
 use Rattle.hgs_path.specs.StoreName.{store_name}
 use Rattle.hgs_revlog.specs.Load.{most_data}
-use Rattle.hgs_stands.specs.Places.{changelog_data, fncache_path, manifest_data, manifest_index}
+use Rattle.hgs_stands.specs.Places.{changelog_data, changelog_index, fncache_path, manifest_data, manifest_index}
 use Rattle.hgs_pieces.proofs.UnderLemmas.{AreSameBeside, AreSameChanges, changes-same, same-beside, store-same}
 
 bytes-of : (o p : Option (List ℕ)) → o ≡ p → unwrap_or o [] ≡ unwrap_or p []
@@ -77,7 +77,7 @@ module _ (stores : (path : List ℕ) (ext : Ext) → is_loose strays (store_name
       manifest = subst (λ (b : List ℕ). length b ≤ most_data) (own manifest_data refl refl) h.room.manifest;
       filelogs = λ path new. subst (λ (b : List ℕ). length b ≤ most_data) (λ i. chunks_either (stored path I i) (stored path D i)) (h.room.filelogs path new);
     };
-    separate = ap is_inline (sym (own manifest_index refl refl)) ∙ h.separate;
+    separate = (λ i. is_inline (sym (own changelog_index refl refl) i) || is_inline (sym (own manifest_index refl refl) i)) ∙ h.separate;
     changelog = h.changelog;
     manifest = h.manifest;
     filelogs = h.filelogs;

@@ -3,7 +3,6 @@ use Rattle.std.proofs.Common.{◌≡◌, ℕ, zero, suc, List, [], ◌∷◌, Bo
 use Rattle.std.specs.Prelude.{◌==◌, Option, Some, None, Result, Ok, Err, slice_index, slice_index_or}
 use Rattle.std.proofs.lemmas.List.{length-map}
 use Rattle.hgs_files.specs.Tree.{Tree, bytes_at}
-use Rattle.hgs_index.specs.Inline.{is_inline}
 use Rattle.hgs_index.specs.Node.{null_node}
 use Rattle.hgs_index.specs.declared.entry.Entry.{Entry}
 use Rattle.hgs_marks.specs.Bookmarks.{Mark as NodeMark, bookmarks_text, with_mark as with_node, without}
@@ -25,8 +24,8 @@ use Rattle.hgs_load.specs.Marks.{most_bookmarks}
 use Rattle.hgs_reader.specs.Names.{mark_named, named}
 use Rattle.hgs_revlog.specs.declared.fault.Tail.TheVariants.{Refuse}
 use Rattle.hgs_revlog.specs.Log.{nodes_of}
-use Rattle.hgs_stands.specs.Places.{changelog_data, changelog_index, manifest_index}
-use Rattle.hgs_stands.specs.Stands.{Stands, changeset_entries, mark_of as node_mark}
+use Rattle.hgs_stands.specs.Places.{changelog_index, manifest_index}
+use Rattle.hgs_stands.specs.Stands.{Stands, changeset_entries, has_inline_log, mark_of as node_mark}
 use Rattle.hgs_transaction.specs.OfTransaction.{ArePartsOf}
 use Rattle.hgs_index.specs.declared.kinds.Which.TheVariants as limits
 use Rattle.hgs_steps.specs.declared.fault.PlanFault.TheVariants.{Limit}
@@ -35,7 +34,7 @@ use Rattle.hgs_steps.specs.Loaded.{has_inline, node_at, phase_at, view_of}
 use Rattle.hgs_steps.specs.Planned.{AnswersAs, HoldsRepository, IsLoadedOf, passes_limit}
 use Rattle.hgs_steps.specs.Steps.{Accepted, alone, are_too_many, mark_of, marked, marked_at, marks_replacing, move_allowed, move_of, moved, moved_at, phases_text, planned, step_with, unmark_of, unmarked_at}
 use Rattle.hgs_steps.specs.Below.{Below}
-use Rattle.hgs_steps.specs.Theorems.SeparateLemmas.{apart-loaded, held-separate}
+use Rattle.hgs_steps.specs.Theorems.SeparateLemmas.{apart-loaded}
 use Rattle.hgs_steps.proofs.MarkLemmas.{target-same}
 use Rattle.hgs_steps.proofs.RootsLemmas.{numbers-back, text-same}
 use Rattle.hgs_steps.proofs.NameLemmas.{named-same}
@@ -48,21 +47,20 @@ record Fits (t : Tree) (r : Repo) (command : Command) (l : Loaded) (a : Accepted
   rev : a.rev ≡ next.1.rev
   node : node_at l a.rev ≡ next.1.node
   before : length l.bookmarks ≡ length r.bookmarks
-  form : has_inline l ≡ is_inline (bytes_at t manifest_index)
+  form : has_inline l ≡ has_inline_log t
   after : length a.marks ≡ length next.0.bookmarks
 
 accepted : (t : Tree) (r : Repo) (command : Command) (l : Loaded) (a : Accepted) (next : Next) → Fits t r command l a next → AnswersAs t r command (planned l (Ok a)) (Ok next)
 accepted t r command l a next f = by (are_too_many l.bookmarks || are_too_many a.marks) (has_inline l) (λ i. nat_lt most_bookmarks (f.before i) || nat_lt most_bookmarks (f.after i)) f.form
   where
-    by : (b c : Bool) → b ≡ passes_limit r next.0 → c ≡ is_inline (bytes_at t manifest_index) → AnswersAs t r command (cond b (Err (Limit limits.Bookmarks)) (cond c (Err (Limit limits.Inline)) (Ok (step_with l a.file a.rev)))) (Ok next)
+    by : (b c : Bool) → b ≡ passes_limit r next.0 → c ≡ has_inline_log t → AnswersAs t r command (cond b (Err (Limit limits.Bookmarks)) (cond c (Err (Limit limits.Inline)) (Ok (step_with l a.file a.rev)))) (Ok next)
     by true c e i = inl (refl, sym e)
     by false true e i = inr (refl, sym e, sym i)
     by false false e i = record { parts = f.parts; rev = f.rev; node = f.node; few = sym e; separate = sym i }
 
--- over a tree that stands for a repository the changelog is separate
-form-same : (t : Tree) (r : Repo) (l : Loaded) → Stands t r → IsLoadedOf t l → has_inline l ≡ is_inline (bytes_at t manifest_index)
-form-same t r l s h =
-    let changelog = (apart-loaded Refuse (bytes_at t changelog_index) l.changelog h.changelog).form ∙ held-separate (bytes_at t changelog_index) (bytes_at t changelog_data) (history r.changesets).changelog s.revlogs.changelog in
+form-same : (t : Tree) (l : Loaded) → IsLoadedOf t l → has_inline l ≡ has_inline_log t
+form-same t l h =
+    let changelog = (apart-loaded Refuse (bytes_at t changelog_index) l.changelog h.changelog).form in
     let manifest = (apart-loaded Refuse (bytes_at t manifest_index) l.manifest h.manifest).form in
     λ i. changelog i || manifest i
 
@@ -144,7 +142,7 @@ move-answers laws t r l name to force s h is =
       rev = refl;
       node = node-same r l rev is;
       before = count-same r l is;
-      form = form-same t r l s h;
+      form = form-same t l h;
       after = count-same r l is;
     }
 
@@ -158,7 +156,7 @@ move-answers laws t r l name to force s h is =
 -- ---- bookmarks
 
 -- a command that replaces the bookmarks by those of the next repository
-marks-fit : (t : Tree) (r : Repo) (l : Loaded) (rev : ℕ) (marks : List NodeMark) (bookmarks : List Bookmark) (command : Command) → has_inline l ≡ is_inline (bytes_at t manifest_index) → HoldsRepository l r → marks ≡ map (node_mark (changeset_nodes r.changesets)) bookmarks
+marks-fit : (t : Tree) (r : Repo) (l : Loaded) (rev : ℕ) (marks : List NodeMark) (bookmarks : List Bookmark) (command : Command) → has_inline l ≡ has_inline_log t → HoldsRepository l r → marks ≡ map (node_mark (changeset_nodes r.changesets)) bookmarks
     → ArePartsOf t r command (record r { bookmarks = bookmarks }) (alone (marks_replacing l marks)) → Fits t r command l (record { rev = rev; marks = marks; file = marks_replacing l marks }) (done_at (record r { bookmarks = bookmarks }) rev)
 marks-fit t r l rev marks bookmarks command form is e parts = record {
   parts = parts;
@@ -189,7 +187,7 @@ mark-answers laws t r l mark name s h is =
         (guard (points_at (bookmark_named r.bookmarks mark) rev) (NothingChanged rev) >>= λ x. Ok (next-at rev))
     each rev =
         let one = guarded t r (Mark mark name) l (points_at (bookmark_named r.bookmarks mark) rev) (NothingChanged rev) rev (marked_at l mark) (next-at rev)
-        (accepted t r (Mark mark name) l (marked_at l mark rev) (next-at rev) (marks-fit t r l rev (marked l mark (node_at l rev)) (with_mark r.bookmarks mark rev) (Mark mark name) (form-same t r l s h) is (same-marks rev) (parts rev))) in
+        (accepted t r (Mark mark name) l (marked_at l mark rev) (next-at rev) (marks-fit t r l rev (marked l mark (node_at l rev)) (with_mark r.bookmarks mark rev) (Mark mark name) (form-same t l h) is (same-marks rev) (parts rev))) in
         subst (λ (o : Option ℕ). AnswersAs t r (Mark mark name) (planned l ((guard (points_at o rev) (NothingChanged rev) >>= λ x. Ok rev) >>= λ y. Ok (marked_at l mark y))) (guard (points_at (bookmark_named r.bookmarks mark) rev) (NothingChanged rev) >>= λ x. Ok (next-at rev)))
         (sym (target-same laws t r l mark s is)) one
 
@@ -197,7 +195,7 @@ pub unmark-answers : (laws : Below) (t : Tree) (r : Repo) (l : Loaded) (mark : L
 unmark-answers laws t r l mark s h is =
     named-both t r (Unmark mark) l (mark_named l.changelog.entries l.bookmarks mark) (bookmark_named r.bookmarks mark)
     (λ rev. Ok (unmarked_at l mark rev)) (λ rev. Ok (next-at rev)) (target-same laws t r l mark s is)
-    (λ rev. accepted t r (Unmark mark) l (unmarked_at l mark rev) (next-at rev) (marks-fit t r l rev (without mark l.bookmarks) (without_mark r.bookmarks mark) (Unmark mark) (form-same t r l s h) is same-marks parts))
+    (λ rev. accepted t r (Unmark mark) l (unmarked_at l mark rev) (next-at rev) (marks-fit t r l rev (without mark l.bookmarks) (without_mark r.bookmarks mark) (Unmark mark) (form-same t l h) is same-marks parts))
   where
     next-at : ℕ → Next
     next-at rev = done_at (record r { bookmarks = without_mark r.bookmarks mark }) rev

@@ -3,7 +3,8 @@ use Rattle.std.proofs.Common.{◌≡◌, ℕ, List, [], Bool, cond, length, map,
 use Rattle.std.specs.Prelude.{◌<◌, Option, Some, None, Ok, IfSome, position, slice_index_or}
 use Rattle.hgs_bytes.specs.Bytes.{same}
 use Rattle.hgs_files.specs.Tree.{Tree, bytes_at}
-use Rattle.hgs_index.specs.Inline.{entries_in, without_inline}
+use Rattle.hgs_index.specs.Either.{chunks_either}
+use Rattle.hgs_index.specs.Inline.{index_apart}
 use Rattle.hgs_index.specs.Node.{null_node}
 use Rattle.hgs_index.specs.Revision.{parent_node}
 use Rattle.hgs_marks.specs.Bookmarks.{all_with, read_bookmarks, with_marks}
@@ -18,31 +19,31 @@ use Rattle.hgs_phases.specs.declared.roots.Root.{Root}
 use Rattle.hgs_load.specs.Marks.{both_parents, known_parent, parent_answer, working_answer, working_of}
 use Rattle.hgs_revlog.specs.declared.fault.Tail.TheVariants.{Refuse}
 use Rattle.hgs_revlog.specs.Held.{Agrees}
-use Rattle.hgs_revlog.specs.Load.{loaded}
 use Rattle.hgs_revlog.specs.Log.{nodes_of, place_of}
 use Rattle.hgs_stands.specs.Places.{bookmarks_path, changelog_data, changelog_index, dirstate_path, roots_path}
 use Rattle.hgs_stands.specs.Stands.{Stands, mark_of}
 use Rattle.hgs_steps.specs.declared.loaded.Loaded.{Loaded}
 use Rattle.hgs_steps.specs.Below.{Below}
 use Rattle.hgs_steps.specs.Planned.{HoldsRepository, IsLoadedOf}
-use Rattle.hgs_steps.specs.Theorems.SeparateLemmas.{apart-loaded, held-separate}
+use Rattle.hgs_stands.specs.Theorems.FormLemmas.{apart-held}
+use Rattle.hgs_steps.specs.Theorems.SeparateLemmas.{apart-loaded}
 use Rattle.hgs_steps.proofs.Basics.{result-same}
 use Rattle.hgs_steps.proofs.EntryLemmas.{entries-held}
 
-pub agrees-is : (laws : Below) (t : Tree) (r : Repo) (l : Loaded) → Stands t r → IsLoadedOf t l → Agrees (bytes_at t changelog_index) (bytes_at t changelog_data) l.changelog.entries (history r.changesets).changelog
+pub agrees-is : (laws : Below) (t : Tree) (r : Repo) (l : Loaded) → Stands t r → IsLoadedOf t l → Agrees (index_apart (bytes_at t changelog_index)) (chunks_either (bytes_at t changelog_index) (bytes_at t changelog_data)) l.changelog.entries (history r.changesets).changelog
 agrees-is laws t r l s h =
     let index = bytes_at t changelog_index in
     let data_bytes = bytes_at t changelog_data in
     let revisions = (history r.changesets).changelog in
     let parts = apart-loaded Refuse index l.changelog h.changelog in
-    let plain = subst (λ b. loaded Refuse (cond b (without_inline (entries_in (length index) index)) index) ≡ Ok parts.apart) (held-separate index data_bytes revisions s.revlogs.changelog) parts.loads in
-    subst (λ es. Agrees index data_bytes es revisions) parts.entries (entries-held laws index data_bytes revisions parts.apart s.revlogs.changelog plain)
+    subst (λ es. Agrees (index_apart index) (chunks_either index data_bytes) es revisions) parts.entries
+    (entries-held laws (index_apart index) (chunks_either index data_bytes) revisions parts.apart (apart-held index data_bytes revisions s.revlogs.changelog) parts.loads)
 
 nodes-are : (laws : Below) (t : Tree) (r : Repo) (l : Loaded) → Stands t r → IsLoadedOf t l → nodes_of l.changelog.entries ≡ changeset_nodes r.changesets
-nodes-are laws t r l s h = laws.entry_nodes (bytes_at t changelog_index) (bytes_at t changelog_data) l.changelog.entries (history r.changesets).changelog (agrees-is laws t r l s h)
+nodes-are laws t r l s h = laws.entry_nodes (index_apart (bytes_at t changelog_index)) (chunks_either (bytes_at t changelog_index) (bytes_at t changelog_data)) l.changelog.entries (history r.changesets).changelog (agrees-is laws t r l s h)
 
 parents-are : (laws : Below) (t : Tree) (r : Repo) (l : Loaded) → Stands t r → IsLoadedOf t l → history_of l.changelog.entries ≡ all_parents r.changesets
-parents-are laws t r l s h = laws.entry_parents (bytes_at t changelog_index) (bytes_at t changelog_data) l.changelog.entries (history r.changesets).changelog (agrees-is laws t r l s h) ∙ laws.parents r s.repository
+parents-are laws t r l s h = laws.entry_parents (index_apart (bytes_at t changelog_index)) (chunks_either (bytes_at t changelog_index) (bytes_at t changelog_data)) l.changelog.entries (history r.changesets).changelog (agrees-is laws t r l s h) ∙ laws.parents r s.repository
 
 marks-are : (t : Tree) (r : Repo) (l : Loaded) → Stands t r → IsLoadedOf t l → l.bookmarks ≡ map (mark_of (changeset_nodes r.changesets)) r.bookmarks
 marks-are t r l s h = result-same (read_bookmarks (bytes_at t bookmarks_path)) l.bookmarks (with_marks [] s.bookmarks.lines) h.bookmarks (ap (all_with []) s.bookmarks.text) ∙ s.bookmarks.marks

@@ -2,7 +2,6 @@
 use Rattle.std.specs.Prelude.{◌≡◌, ◌⊎◌, ◌||◌, List, Bool, true, false, length, map, nat_lt, Option, Some, None, Result, Ok, Err}
 use Rattle.hgs_files.specs.Tree.{Tree, bytes_at}
 use Rattle.hgs_index.specs.declared.kinds.Which.TheVariants as limits
-use Rattle.hgs_index.specs.Inline.{is_inline}
 use Rattle.hgs_marks.specs.Bookmarks.{read_bookmarks}
 use Rattle.hgs_marks.specs.Dirstate.{Dirstate, read_dirstate}
 use Rattle.hgs_model.specs.History.{changeset_nodes}
@@ -21,7 +20,7 @@ use Rattle.hgs_revlog.specs.Load.{loaded_either}
 use Rattle.hgs_revlog.specs.Log.{nodes_of}
 use Rattle.hgs_revlog.specs.declared.fault.Tail.TheVariants.{Refuse}
 use Rattle.hgs_stands.specs.Places.{bookmarks_path, changelog_index, dirstate_path, fncache_path, manifest_index, roots_path}
-use Rattle.hgs_stands.specs.Stands.{mark_of as node_mark}
+use Rattle.hgs_stands.specs.Stands.{has_inline_log, mark_of as node_mark}
 use Rattle.hgs_transaction.specs.OfTransaction.{ArePartsOf, IsOfTree}
 use Rattle.hgs_transaction.specs.Parts.{replacement_of}
 use Rattle.hgs_transaction.specs.declared.parts.Change.TheVariants.{Replace}
@@ -70,13 +69,13 @@ pub record IsStepOf (t : Tree) (r : Repo) (command : Command) (next : Next) (ste
   pub rev : step.rev ≡ next.1.rev
   pub node : step.node.0 ≡ next.1.node
   pub few : passes_limit r next.0 ≡ false
-  pub separate : is_inline (bytes_at t manifest_index) ≡ false
+  pub separate : has_inline_log t ≡ false
 
--- the limit that is passed: the bookmarks are too many, or else the manifest is inline
+-- the limit that is passed: the bookmarks are too many, or else the changelog or the manifest is inline
 abbrev pub PassesLimit : Tree → Repo → Next → PlanFault → Type 0
 PassesLimit t r next fault =
     ((fault ≡ Limit limits.Bookmarks) × (passes_limit r next.0 ≡ true))
-    ⊎ ((fault ≡ Limit limits.Inline) × (passes_limit r next.0 ≡ false) × (is_inline (bytes_at t manifest_index) ≡ true))
+    ⊎ ((fault ≡ Limit limits.Inline) × (passes_limit r next.0 ≡ false) × (has_inline_log t ≡ true))
 
 -- A plan answers as the repository does: with the same refusal, or where that accepts with its step, or with the limit
 -- that is passed.

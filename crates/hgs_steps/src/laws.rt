@@ -1,6 +1,6 @@
 //! What the plans of this crate mean for a tree and a repository. Each function is one law; none does anything but to call
 //! laws that it rests on.
-ghost use Rattle.std.specs.Prelude.{◌≡◌, ◌||◌, ℕ, Bool, false, List, map, slice_index_or, Ok, Some, None};
+ghost use Rattle.std.specs.Prelude.{◌≡◌, ◌||◌, ℕ, Bool, List, map, slice_index_or, Ok, Some, None};
 ghost use Rattle.hgs_bytes.specs.Bytes.{IsPrefixOf};
 ghost use Rattle.hgs_files.specs.Tree.{Tree, bytes_at};
 ghost use Rattle.hgs_index.specs.declared.entry.Entry.{Entry};
@@ -49,12 +49,12 @@ pub fn loaded_entries_are_held()
 }
 
 /// What was loaded of a tree that stands for a repository is the repository's, and the entries of changelog and manifest are
-/// those of its revisions. The changelog is separate, and the manifest in the form that its index says.
+/// those of its revisions, each in the form that its index says.
 pub fn loaded_holds_repository()
     ensures holds { (t : Tree) (r : Repo) (l : Loaded) → Stands t r → IsLoadedOf t l → HoldsRepository l r }
-    ensures separate { (t : Tree) (r : Repo) (l : Loaded) → Stands t r → IsLoadedOf t l → l.changelog.inline ≡ false }
-    ensures form { (t : Tree) (r : Repo) (l : Loaded) → Stands t r → IsLoadedOf t l → l.manifest.inline ≡ is_inline (bytes_at t manifest_index) }
-    ensures changelog { (t : Tree) (r : Repo) (l : Loaded) → Stands t r → IsLoadedOf t l → Agrees (bytes_at t changelog_index) (bytes_at t changelog_data) l.changelog.entries (history r.changesets).changelog }
+    ensures changelog_form { (t : Tree) (l : Loaded) → IsLoadedOf t l → l.changelog.inline ≡ is_inline (bytes_at t changelog_index) }
+    ensures manifest_form { (t : Tree) (l : Loaded) → IsLoadedOf t l → l.manifest.inline ≡ is_inline (bytes_at t manifest_index) }
+    ensures changelog { (t : Tree) (r : Repo) (l : Loaded) → Stands t r → IsLoadedOf t l → Agrees (index_apart (bytes_at t changelog_index)) (chunks_either (bytes_at t changelog_index) (bytes_at t changelog_data)) l.changelog.entries (history r.changesets).changelog }
     ensures manifest { (t : Tree) (r : Repo) (l : Loaded) → Stands t r → IsLoadedOf t l → Agrees (index_apart (bytes_at t manifest_index)) (chunks_either (bytes_at t manifest_index) (bytes_at t manifest_data)) l.manifest.entries (history r.changesets).manifest }
 {
     laws_below();

@@ -32,7 +32,8 @@ use Rattle.hgs_path.specs.Fncache.{clashes, lists}
 use Rattle.hgs_path.specs.ListedNames.{is_listed, names_of}
 use Rattle.hgs_path.specs.StoreName.{listed_name, store_name}
 use Rattle.hgs_stands.specs.Places.{requires_path, fncache_path, changelog_index, changelog_data, manifest_index, manifest_data}
-use Rattle.hgs_stands.specs.Stands.{HoldsApart, HoldsAt, has_file, IsUsedName, ListsFilelogs, Stands, listed_file}
+use Rattle.hgs_stands.specs.Stands.{HoldsAt, has_file, IsUsedName, ListsFilelogs, Stands, listed_file}
+use Rattle.hgs_stands.specs.Theorems.FormLemmas.{changelog-plain, manifest-plain, plain-held}
 use Rattle.hgs_stands.specs.Theorems.StayLemmas.{holds-stays, names-listed}
 use Rattle.hgs_ops.specs.Growth.{append_some, begins_inline, filelogs_grow, growth, grown, grows_inline, new_changelog_entry, new_chunks, new_entries, new_items, new_names, new_paths}
 use Rattle.hgs_ops.specs.Replaced.{roots_of}
@@ -336,7 +337,7 @@ module _ (t : Tree) (r : Repo) (n : NewChange) (c : Changeset) (f : CommitFacts 
       }
 
   manifest-separate : HoldsRevisions (bytes_at t manifest_index) (bytes_at t manifest_data) h.manifest
-  manifest-separate = subst (λ b. Holds b (bytes_at t manifest_index) (bytes_at t manifest_data) h.manifest) f.un.separate f.stands.revlogs.manifest
+  manifest-separate = plain-held (bytes_at t manifest_index) (bytes_at t manifest_data) h.manifest (manifest-plain t f.un.separate) f.stands.revlogs.manifest
 
   manifest-grown : GrownHeld false (bytes_at t manifest_index) (bytes_at t manifest_data) h.manifest k.manifest
   manifest-grown = elim (with-one h.manifest (manifest_revision h c)) [
@@ -370,21 +371,25 @@ module _ (t : Tree) (r : Repo) (n : NewChange) (c : Changeset) (f : CommitFacts 
       ∙ ap (λ l. l ++ appended changelog_data cl) (appended-none mf changelog_data (grown-touched false t manifest_index manifest_data changelog_data h.manifest k.manifest refl refl))
       ∙ appended-some changelog_data changelog_data _ refl)
 
-  pub changelog-stands : HoldsApart u changelog_index changelog_data k.changelog
+  changelog-separate : HoldsRevisions (bytes_at t changelog_index) (bytes_at t changelog_data) h.changelog
+  changelog-separate = plain-held (bytes_at t changelog_index) (bytes_at t changelog_data) h.changelog (changelog-plain t f.un.separate) f.stands.revlogs.changelog
+
+  pub changelog-stands : HoldsAt u changelog_index changelog_data k.changelog
   changelog-stands =
       let grew = ap (λ (x : History). x.changelog) push ∙ changelog-one h c f.next_changeset in
       let n0 : length h.changelog ≡ length r.changesets = length-changelog r f.stands.repository in
       let n3 : length r.changesets ≤ 1000000 = f.un.room.changesets in
-      subst (λ x. HoldsRevisions x (bytes_at u changelog_data) k.changelog) (sym changelog-index-bytes)
+      separate-holds _ _ k.changelog
+      (subst (λ x. HoldsRevisions x (bytes_at u changelog_data) k.changelog) (sym changelog-index-bytes)
       (subst (λ y. HoldsRevisions (bytes_at t changelog_index ++ new_entries false h.changelog (new_items (length (bytes_at t changelog_data)) h.changelog (drop (length h.changelog) k.changelog))) y k.changelog) (sym changelog-data-bytes)
-      (held-push false _ _ h.changelog k.changelog (changeset_revision h c) f.stands.revlogs.changelog grew (record {
+      (held-push false _ _ h.changelog k.changelog (changeset_revision h c) changelog-separate grew (record {
         offset_room = f.un.room.changelog;
         count = small-number (length h.changelog) (omega arith);
         text = new-text h.changelog k.changelog (changeset_revision h c) grew f.un.changelog;
         link = small-number (length h.placed) few-changes;
         first = subst (λ m. IfSome c.parents.0 (λ a. a < m)) (sym n0) f.below.first;
         second = subst (λ m. IfSome c.parents.1 (λ a. a < m)) (sym n0) f.below.second;
-      }) f.un.changelog))
+      }) f.un.changelog)))
 
   -- ---- the names of the filelogs
 
