@@ -1,20 +1,29 @@
 -- A revlog in the form that its index says, by the separate one that it is taken apart into.
-use Rattle.std.proofs.Common.{◌≡◌, ℕ, ◌*◌, List, [], ◌∷◌, ◌++◌, Bool, true, false, cond, length, map, refl, sym, ◌∙◌, ap, subst, append-nil}
+use Rattle.std.proofs.Common.{◌≡◌, ℕ, ◌*◌, ◌<◌, ◌≤◌, List, [], ◌∷◌, ◌++◌, Bool, true, false, cond, ◌&&◌, ◌||◌, length, map, refl, sym, ◌∙◌, ap, subst, append-nil, arith, length-append}
+use Rattle.std.specs.Prelude.{◌/◌, nat_le}
+use Rattle.std.proofs.lemmas.Bool.Decides.{nat_tests}
+use Rattle.hgs_files.specs.Tree.{Tree, bytes_at}
 use Rattle.hgs_index.specs.Either.{BeginsEither, HoldsEither, chunk_bytes, chunks_either}
-use Rattle.hgs_index.specs.Inline.{chunks_apart, entries_in, index_apart, is_inline, without_inline}
+use Rattle.hgs_index.specs.Entry.{header_at}
+use Rattle.hgs_index.specs.Inline.{chunks_apart, entries_in, index_apart, is_inline, says_inline, without_inline}
 use Rattle.hgs_index.specs.Revision.{Revision}
 use Rattle.hgs_index.specs.Revlog.{Begins, BeginsWithRevisions, Holds, HoldsRevisions, Stored, index_bytes, items}
 use Rattle.hgs_index.specs.Theorems.EitherLemmas.{begins-apart}
 use Rattle.hgs_index.specs.Theorems.InlineLemmas.{held-apart, held-plain}
 use Rattle.hgs_index.specs.Theorems.RevlogLemmas.{length-held}
+use Rattle.hgs_stands.specs.Places.{changelog_index, manifest_index}
+use Rattle.hgs_stands.specs.Stands.{has_inline_log}
 
 -- what holds a list as a separate revlog does not say that it is inline
-pub held-separate : (index data_bytes : List ℕ) (revisions : List Revision) → HoldsRevisions index data_bytes revisions → is_inline index ≡ false
-held-separate index data_bytes [] h = ap is_inline (nothing h.stored h.these h.index_is)
+none-held : (index data_bytes : List ℕ) → HoldsRevisions index data_bytes [] → index ≡ []
+none-held index data_bytes h = nothing h.stored h.these h.index_is
   where
     nothing : (stored : List Stored) → map (λ s. s.revision) stored ≡ [] → index ≡ index_bytes h.header (items stored) → index ≡ []
     nothing [] these is = is
     nothing (s ∷ stored) these is = cc
+
+pub held-separate : (index data_bytes : List ℕ) (revisions : List Revision) → HoldsRevisions index data_bytes revisions → is_inline index ≡ false
+held-separate index data_bytes [] h = ap is_inline (none-held index data_bytes h)
 held-separate index data_bytes (r ∷ revisions) h = ap is_inline (sym (append-nil index)) ∙ held-plain index data_bytes [] r revisions h
 
 -- taken apart, what holds it in its form holds it as a separate revlog
@@ -40,3 +49,46 @@ apart-begins index data_bytes revisions b = by (is_inline index) refl
         subst (λ f. BeginsWithRevisions (cond f (without_inline (entries_in (length index) index)) index) (chunks_apart index) revisions) e
         (begins-apart index data_bytes revisions (subst (λ f. Begins f index data_bytes revisions) e b))
     by false e = subst (λ f. Begins f index data_bytes revisions) e b
+
+-- ---- separate ones
+
+-- what holds a list in its form, where that is not inline, holds it as a separate revlog
+pub plain-held : (index data_bytes : List ℕ) (revisions : List Revision) → is_inline index ≡ false → HoldsEither index data_bytes revisions → HoldsRevisions index data_bytes revisions
+plain-held index data_bytes revisions plain h = subst (λ b. Holds b index data_bytes revisions) plain h
+
+pub plain-begins : (index data_bytes : List ℕ) (revisions : List Revision) → is_inline index ≡ false → BeginsEither index data_bytes revisions → BeginsWithRevisions index data_bytes revisions
+plain-begins index data_bytes revisions plain b = subst (λ f. Begins f index data_bytes revisions) plain b
+
+pub plain-apart : (index : List ℕ) → is_inline index ≡ false → index_apart index ≡ index
+plain-apart index plain = ap (λ b. cond b (without_inline (entries_in (length index) index)) index) plain
+
+neither : (a b : Bool) → (a || b) ≡ false → (a ≡ false) × (b ≡ false)
+neither false false e = (refl, refl)
+neither false true e = cc
+neither true b e = cc
+
+-- where neither the changelog nor the manifest is inline
+pub changelog-plain : (t : Tree) → has_inline_log t ≡ false → is_inline (bytes_at t changelog_index) ≡ false
+changelog-plain t e = (neither (is_inline (bytes_at t changelog_index)) (is_inline (bytes_at t manifest_index)) e).0
+
+pub manifest-plain : (t : Tree) → has_inline_log t ≡ false → is_inline (bytes_at t manifest_index) ≡ false
+manifest-plain t e = (neither (is_inline (bytes_at t changelog_index)) (is_inline (bytes_at t manifest_index)) e).1
+
+short : (n : ℕ) → n < 64 → nat_le 64 n ≡ false
+short n lt = by (nat_le 64 n) refl
+  where
+    by : (b : Bool) → nat_le 64 n ≡ b → b ≡ false
+    by true e = absurd (let le : 64 ≤ n = grind (arith, nat_tests, e) in omega (arith, lt, le))
+    by false e = refl
+
+-- less than an entry behind a separate index neither makes it inline nor counts
+pub plain-longer : (index data_bytes more : List ℕ) (revisions : List Revision) → HoldsRevisions index data_bytes revisions → length more < 64 → is_inline (index ++ more) ≡ false
+plain-longer index data_bytes more [] h lt = ap (λ i. is_inline (i ++ more)) (none-held index data_bytes h) ∙ ap (λ b. b && says_inline (header_at more)) (short (length more) lt)
+plain-longer index data_bytes more (r ∷ revisions) h lt = held-plain index data_bytes more r revisions h
+
+pub part-counted : (index data_bytes more : List ℕ) (revisions : List Revision) → is_inline index ≡ false → HoldsEither index data_bytes revisions → length more < 64 → length (index_apart (index ++ more)) / 64 ≡ length (index_apart index) / 64
+part-counted index data_bytes more revisions plain h lt =
+    let held = plain-held index data_bytes revisions plain h in
+    let size = length-held index data_bytes revisions held in
+    let count : length (index ++ more) / 64 ≡ length index / 64 = omega (arith, lt, size, length-append index more) in
+    ap (λ i. length i / 64) (plain-apart (index ++ more) (plain-longer index data_bytes more revisions held lt)) ∙ count ∙ ap (λ i. length i / 64) (sym (plain-apart index plain))
