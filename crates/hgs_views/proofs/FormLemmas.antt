@@ -9,7 +9,7 @@ use Rattle.hgs_files.specs.declared.op.Op.{Op}
 use Rattle.hgs_files.specs.Tree.{Tree, bytes_at, after_all}
 use Rattle.hgs_index.specs.declared.kinds.Which.TheVariants.{Part}
 use Rattle.hgs_index.specs.Either.{HoldsEither, chunk_bytes, chunks_either}
-use Rattle.hgs_index.specs.Inline.{entries_in, index_apart, is_inline, without_inline}
+use Rattle.hgs_index.specs.Inline.{index_apart, is_inline}
 use Rattle.hgs_index.specs.Revision.{Revision}
 use Rattle.hgs_index.specs.Revlog.{Holds, HoldsRevisions, Stored, index_bytes, items}
 use Rattle.hgs_index.specs.Theorems.EitherLemmas.{held-form}
@@ -24,14 +24,11 @@ use Rattle.hgs_load.specs.Form.{unless_inline}
 use Rattle.hgs_load.specs.View.{pieces_by, piece_length}
 use Rattle.hgs_load.specs.Whole.{is_above, within}
 use Rattle.hgs_load.specs.Theorems.FormLemmas.{first_says}
-use Rattle.hgs_stands.specs.Theorems.FormLemmas.{apart-held}
+use Rattle.hgs_stands.specs.Theorems.FormLemmas.{apart-held, plain-apart}
 use Rattle.hgs_views.specs.Course.{IsBetween}
 use Rattle.hgs_views.proofs.Basics.{prefix-refl, part_is, may-front}
 
 -- ---- taken apart
-
-pub plain-index : (index : List ℕ) → is_inline index ≡ false → index_apart index ≡ index
-plain-index index e = ap (λ b. cond b (without_inline (entries_in (length index) index)) index) e
 
 pub plain-chunks : (index data_bytes : List ℕ) → is_inline index ≡ false → chunks_either index data_bytes ≡ data_bytes
 plain-chunks index data_bytes e = ap (λ b. chunk_bytes b index data_bytes) e
@@ -73,7 +70,7 @@ index-longer index data_bytes more (r ∷ revisions) held = by (is_inline index)
     form = held-form (is_inline index) index data_bytes more r revisions held
 
     by : (b : Bool) → is_inline index ≡ b → IsPrefixOf (index_apart index) (index_apart (index ++ more))
-    by false e = (more, plain-index (index ++ more) (form ∙ e) ∙ ap (λ l. l ++ more) (sym (plain-index index e)))
+    by false e = (more, plain-apart (index ++ more) (form ∙ e) ∙ ap (λ l. l ++ more) (sym (plain-apart index e)))
     by true e = (apart-front index more data_bytes r revisions (form ∙ e) (subst (λ b. Holds b index data_bytes (r ∷ revisions)) e held)).0
 
 -- and so do its chunks, where more stands behind the data too

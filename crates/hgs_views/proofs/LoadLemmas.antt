@@ -33,14 +33,14 @@ use Rattle.hgs_load.specs.Theorems.FormLemmas.{IsApart, first_says, part-form}
 use Rattle.hgs_load.specs.Theorems.TailLemmas.{tail-answers}
 use Rattle.hgs_stands.specs.Places.{bookmarks_path, dirstate_path, roots_path, changelog_index, changelog_data}
 use Rattle.hgs_stands.specs.Stands.{HoldsAt, changeset_entries, mark_of}
-use Rattle.hgs_stands.specs.Theorems.FormLemmas.{apart-held}
+use Rattle.hgs_stands.specs.Theorems.FormLemmas.{apart-held, plain-apart}
 use Rattle.hgs_shown.specs.Shown.{chunks_of_changelog, index_of_changelog, working_nodes}
 use Rattle.hgs_views.specs.Course.{Course, IsBetween, IsCourse, OpensAlong, tree_after}
 use Rattle.hgs_views.specs.Moments.{WholeStays}
 use Rattle.hgs_views.specs.Seen.{Numbers, IsViewAt, AreReadBetween, AreInOrder, IsLoadedBetween}
 use Rattle.hgs_views.proofs.Basics.{may-front, prefix-refl, prefix-trans}
 use Rattle.hgs_views.proofs.CourseLemmas.{itself-between}
-use Rattle.hgs_views.proofs.FormLemmas.{FirstAt, above-part, chunks-longer, index-longer, plain-front, plain-index, read-first, said, same-form, short-first, whole-part, within-part}
+use Rattle.hgs_views.proofs.FormLemmas.{FirstAt, above-part, chunks-longer, index-longer, plain-front, read-first, said, same-form, short-first, whole-part, within-part}
 use Rattle.hgs_views.proofs.MomentLemmas.{between-later, whole-then, pieces-end, pieces-whole}
 use Rattle.hgs_views.proofs.Below.{LoadLaws}
 
@@ -125,8 +125,8 @@ module _ (law : LoadLaws) (x : Course) (first last : List Op) (is : IsCourse x f
       let store = bytes_at (x.store c) changelog_index in
       let index = bytes_at (tree_after x log) changelog_index in
       let kept = (is.stays log c log_at (omega arith)).changelog in
-      let store_is : length (index_of_changelog (x.store c)) ≡ length store = ap length (plain-index store (store-plain x first last is log c log_at (omega arith) (plain log at))) in
-      let index_is : length (index_of_changelog (tree_after x log)) ≡ length index = ap length (plain-index index (plain log at)) in
+      let store_is : length (index_of_changelog (x.store c)) ≡ length store = ap length (plain-apart store (store-plain x first last is log c log_at (omega arith) (plain log at))) in
+      let index_is : length (index_of_changelog (tree_after x log)) ≡ length index = ap length (plain-apart index (plain log at)) in
       let all = entries-whole log log_at in
       let len = ap length f.1 in
       let both = length-append front f.0 in
@@ -152,7 +152,7 @@ module _ (law : LoadLaws) (x : Course) (first last : List Op) (is : IsCourse x f
     pub room : (log : List Op) → IsBetween first last log → is_inline (bytes_at (tree_after x log) changelog_index) ≡ false → length (bytes_at (tree_after x log) changelog_index) < most_pieces * piece_length
     room log at plain =
         let index = bytes_at (tree_after x log) changelog_index in
-        let index_is : length (index_of_changelog (tree_after x log)) ≡ length index = ap length (plain-index index plain) in
+        let index_is : length (index_of_changelog (tree_after x log)) ≡ length index = ap length (plain-apart index plain) in
         let few = (opens log at).changelog.few in
         few-bytes (length index) (few_entries (length index) (length (index_of_changelog (tree_after x log))) (length (history (x.repo (x.published log)).changesets).changelog) index_is (count-at log at) few)
       where
@@ -279,7 +279,7 @@ module _ (law : LoadLaws) (x : Course) (first last : List Op) (is : IsCourse x f
       plain-step more from y at plain long m =
           let c = x.published from in
           let index = bytes_at (tree_after x from) changelog_index in
-          let index_is : length (index_of_changelog (tree_after x from)) ≡ length index = ap length (plain-index index plain) in
+          let index_is : length (index_of_changelog (tree_after x from)) ≡ length index = ap length (plain-apart index plain) in
           let count = count-at from at in
           pieces-step more from y at (plain-from x first last is from c at (omega arith) (omega (arith, count, index_is, long)) (store-plain x first last is from c at (omega arith) plain)) m
 

@@ -26,14 +26,14 @@ use Rattle.hgs_load.specs.Theorems.FormLemmas.{IsApart}
 use Rattle.hgs_load.specs.Theorems.TailLemmas.{entry-itself, tail-answers}
 use Rattle.hgs_revlog.specs.Theorems.BehindLemmas.{loaded-count}
 use Rattle.hgs_stands.specs.Places.{bookmarks_path, dirstate_path, roots_path, changelog_index, changelog_data}
-use Rattle.hgs_stands.specs.Theorems.FormLemmas.{apart-held}
+use Rattle.hgs_stands.specs.Theorems.FormLemmas.{apart-held, plain-apart}
 use Rattle.hgs_shown.specs.Shown.{chunks_of_changelog, index_of_changelog}
 use Rattle.hgs_views.specs.Course.{Course, IsBetween, IsCourse, OpensAlong, tree_after}
 use Rattle.hgs_views.specs.Seen.{Numbers, NoneFell, AreReadBetween, IsGivenFew, IsLoadedBetween}
 use Rattle.hgs_views.proofs.Basics.{prefix-refl, prefix-trans, may-front}
 use Rattle.hgs_views.proofs.CourseLemmas.{course-later, itself-between}
-use Rattle.hgs_views.proofs.FormLemmas.{out-of-form, plain-index}
-use Rattle.hgs_views.proofs.LoadLemmas.{LoadsAt, LogStep, answered, below, found-at, front-of-longer, in-order, index-stays, is-apart, last-step, once-step, plain-from, plain-loads, room, said-step, store-plain, viewed, whole-stays}
+use Rattle.hgs_views.proofs.FormLemmas.{out-of-form}
+use Rattle.hgs_views.proofs.LoadLemmas.{IsPlain, LoadsAt, LogStep, answered, below, found-at, front-of-longer, in-order, index-stays, is-apart, last-step, once-step, plain-from, plain-loads, room, said-step, store-plain, viewed, whole-stays}
 use Rattle.hgs_views.proofs.MomentLemmas.{between-later, pieces-end}
 use Rattle.hgs_views.proofs.NewLemmas.{all_bytes, answer-is, both-asked, go-apart, go-front, pieces-asked, read-again, tail-few, whole-few, whole-log-few}
 use Rattle.hgs_views.proofs.OnlyLemmas.{later-end}
@@ -160,9 +160,33 @@ module _ (x : Course) (first last : List Op) (is : IsCourse x first last) where
       let place = last_place old.changelog.entries in
       let stands = (is.stays from v.read from_at low).changelog in
       let was = out-of-form old.changelog.inline (loaded Ignore (index_of_changelog (x.store v.read))) old.changelog loaded_old.is_view.loads in
-      let count = (loaded-count index was.0 (ap (loaded Ignore) (sym (plain-index index plain)) ∙ was.1)).0 in
+      let count = (loaded-count index was.0 (ap (loaded Ignore) (sym (plain-apart index plain)) ∙ was.1)).0 in
       let entries = ap length was.2 in
       (take place index, length-take-le place index (omega (arith, count, entries)), prefix-trans (take place index) index (bytes_at (tree_after x from) changelog_index) (drop place index, sym (take-append-drop place index)) stands)
+
+  -- behind a separate history with an entry the index is separate
+  stays-plain : (law : LoadLaws) (ended from : List Op) (v : Numbers) (old : View) → IsLoadedBetween x first ended v old → IsPrefixOf ended from → (on : IsPrefixOf from last) → (at : IsBetween first last from) → old.changelog.inline ≡ false → 0 < length old.changelog.entries
+      → (is_inline (bytes_at (x.store v.read) changelog_index) ≡ false) × IsPlain x from last (course-later x first from last at is) from
+  stays-plain law ended from v old loaded_old then on at separate some =
+      let entries = old.changelog.entries in
+      let plain = sym (loaded_old.is_view.form some) ∙ separate in
+      let count = law.entries (index_of_changelog (x.store v.read)) (chunks_of_changelog (x.store v.read)) entries (history (x.repo v.read).changesets).changelog loaded_old.is_view.entries in
+      (plain, plain-from x from last (course-later x first from last at is) from v.read (itself-between from last on) (loaded-below ended from v loaded_old.reads then on) (omega (arith, some, count)) plain)
+
+  -- so it is where that is known besides of a history without one
+  pub plain-along : (law : LoadLaws) (ended from : List Op) (v : Numbers) (old : View) → IsLoadedBetween x first ended v old → IsPrefixOf ended from → IsPrefixOf from last → old.changelog.inline ≡ false
+      → (length old.changelog.entries ≡ 0 → (now : List Op) → IsBetween from last now → is_inline (bytes_at (tree_after x now) changelog_index) ≡ false) → (now : List Op) → IsBetween from last now → is_inline (bytes_at (tree_after x now) changelog_index) ≡ false
+  plain-along law ended from v old loaded_old then on separate none = by (length old.changelog.entries == 0) refl
+    where
+      no_entries : (n : ℕ) → (n == 0) ≡ true → n ≡ 0
+      no_entries n h = grind (arith, nat_tests, h)
+
+      some_entries : (n : ℕ) → (n == 0) ≡ false → 0 < n
+      some_entries n h = grind (arith, nat_tests, h)
+
+      by : (b : Bool) → (length old.changelog.entries == 0) ≡ b → (now : List Op) → IsBetween from last now → is_inline (bytes_at (tree_after x now) changelog_index) ≡ false
+      by true e = none (no_entries (length old.changelog.entries) e)
+      by false e = (stays-plain law ended from v old loaded_old then on (record { begins = began-by ended from v loaded_old.reads then; ends = on }) separate (some_entries (length old.changelog.entries) e)).1
 
   -- so what is answered to the question of a refresh is the history of some list
   newer-step : (law : LoadLaws) (ended from : List Op) (v : Numbers) (old : View) → IsLoadedBetween x first ended v old → IsPrefixOf ended from → (on : IsPrefixOf from last) → (at : IsBetween first last from) → (opens : OpensAlong x from last) → LogStep law x from last (course-later x first from last at is) opens (newer_log_asks old.changelog)
@@ -185,11 +209,9 @@ module _ (x : Course) (first last : List Op) (is : IsCourse x first last) where
       by true separate e = said-step law x from last later opens (log_after log.entries) passes
       by false separate e =
           let some = some_entries (length log.entries) e in
-          let plain = sym (loaded_old.is_view.form some) ∙ separate in
-          let front = old-front law ended from v old loaded_old then on plain in
-          let count = law.entries (index_of_changelog (x.store v.read)) (chunks_of_changelog (x.store v.read)) log.entries (history (x.repo v.read).changesets).changelog loaded_old.is_view.entries in
-          let stays = plain-from x from last later from v.read (itself-between from last on) (loaded-below ended from v loaded_old.reads then on) (omega (arith, some, count)) plain in
-          last-step law x from last later opens log front.0 separate stays some front.1 front.2 (begins-at law ended from v old loaded_old then on)
+          let plain = stays-plain law ended from v old loaded_old then on at separate some in
+          let front = old-front law ended from v old loaded_old then on plain.0 in
+          last-step law x from last later opens log front.0 separate plain.1 some front.1 front.2 (begins-at law ended from v old loaded_old then on)
 
       by_form : (b : Bool) → log.inline ≡ b → LogStep law x from last later opens (cond b (inline_whole_asks log.entries) (behind_log_asks log))
       by_form true e = once-step law x from last later opens (log_after log.entries) passes

@@ -124,10 +124,11 @@ pub fn refreshes_answer_views()
     histories_go_on();
 }
 
-/// Such a refresh, where the changelog is separate all the while, is given the small files, each as it was at a moment, and of
-/// the changelog's index an entry for each new one and two more at most, however long the history is.
+/// Such a refresh of what was separate is given the small files, each as it was at a moment, and of the changelog's index an
+/// entry for each new one and two more at most, however long the history is; where nothing was loaded, if the index is separate
+/// all the while.
 pub fn refreshes_read_what_is_new_beside_writers()
-    ensures { (x : Course) (began ended first last : List Op) (v : Numbers) (old view : View) (bytes : ℕ) → IsCourse x began last → OpensAlong x first last → IsLoadedBetween x began ended v old → IsPrefixOf ended first → old.changelog.inline ≡ false → ((log : List Op) → IsBetween first last log → is_inline (bytes_at (tree_after x log) changelog_index) ≡ false) → GoesTo x.start (Some first) (refresh_asks old) bytes (Some last) (answer (Ok view)) →
+    ensures { (x : Course) (began ended first last : List Op) (v : Numbers) (old view : View) (bytes : ℕ) → IsCourse x began last → OpensAlong x first last → IsLoadedBetween x began ended v old → IsPrefixOf ended first → old.changelog.inline ≡ false → (length old.changelog.entries ≡ 0 → (log : List Op) → IsBetween first last log → is_inline (bytes_at (tree_after x log) changelog_index) ≡ false) → GoesTo x.start (Some first) (refresh_asks old) bytes (Some last) (answer (Ok view)) →
         IsGivenFew x first last old view bytes }
 {
     whole_files_are_read();
@@ -141,6 +142,13 @@ pub fn refreshes_read_what_is_new_beside_writers()
     entries_of_changesets();
     roots_of_later_repository();
     histories_go_on();
+}
+
+/// The changelog keeps its form from a moment on at which it has a changeset.
+pub fn changelogs_keep_their_form()
+    ensures { (x : Course) (first last log : List Op) → IsCourse x first last → 0 < length (x.repo (x.published first)).changesets → IsBetween first last log → is_inline (bytes_at (tree_after x log) changelog_index) ≡ is_inline (bytes_at (tree_after x first) changelog_index) }
+{
+    changelog_is_whole();
 }
 
 /// At any later moment a view's questions answer of each of its changesets what was committed, and nothing else.
