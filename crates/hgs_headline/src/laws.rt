@@ -1,15 +1,17 @@
 //! What the definitions of this crate imply. Each function is one law; none does anything but name the laws below that its
 //! proof takes.
-ghost use Rattle.std.specs.Prelude.{◌≡◌, ◌≤◌, ◌++◌, ℕ, List, [], length, map, Result, Ok, Some, slice_get};
+ghost use Rattle.std.specs.Prelude.{◌≡◌, ◌<◌, ◌≤◌, ◌++◌, ℕ, List, [], length, map, Result, Ok, Some, slice_get};
 ghost use Rattle.hgs_bytes.specs.Bytes.{IsPrefixOf};
 ghost use Rattle.hgs_files.specs.declared.op.Op.{Op};
-ghost use Rattle.hgs_files.specs.Tree.{Tree};
+ghost use Rattle.hgs_files.specs.Tree.{Tree, after_all, bytes_at};
+ghost use Rattle.hgs_index.specs.Inline.{is_inline};
 ghost use Rattle.hgs_model.specs.History.{changeset_nodes};
 ghost use Rattle.hgs_model.specs.IsRepo.{IsRepo};
 ghost use Rattle.hgs_model.specs.Names.{named as model_named};
 ghost use Rattle.hgs_model.specs.Phase.{phase_number};
 ghost use Rattle.hgs_model.specs.Repo.{Changeset, Repo};
 ghost use Rattle.hgs_revlog.specs.Log.{nodes_of};
+ghost use Rattle.hgs_stands.specs.Places.{changelog_index};
 ghost use Rattle.hgs_stands.specs.Stands.{IsClean};
 ghost use Rattle.hgs_legal.specs.LegalLog.{IsLegal, IsRun, Run, start_of};
 ghost use Rattle.hgs_legal.specs.Numbers.{b_of, n_of, repo_at, w_of};
@@ -32,9 +34,9 @@ ghost use Rattle.hgs_headline.specs.WritersLog.{WritersLog, course_of, state_aft
 use hgs_legal::laws::{logs_show, numbers_rise, published_files_stay, repositories_go_on};
 use hgs_stands::laws::{filelogs_stand_apart, files_are_not_loose};
 use hgs_views::laws::{
-    calls_of_open, calls_of_refresh, calls_that_add_a_text, contents_of_views, loads_answer_views,
-    refreshes_answer_views, sessions_do_not_fall_back, views_of_one_repository_answer_alike,
-    views_show_repositories,
+    calls_of_open, calls_of_refresh, calls_that_add_a_text, changelogs_keep_their_form,
+    contents_of_views, loads_answer_views, refreshes_answer_views, sessions_do_not_fall_back,
+    views_of_one_repository_answer_alike, views_show_repositories,
 };
 
 /// Each legal log from a clean tree is one that writers make. Behind each front of such a log stands the state to which the
@@ -59,6 +61,14 @@ pub fn writers_logs_are_courses()
     repositories_go_on();
     files_are_not_loose();
     filelogs_stand_apart();
+}
+
+/// Once a changeset is published its changelog keeps its form, inline or separate.
+pub fn changelogs_keep_form()
+    ensures { (h : WritersLog) (front log : List Op) → IsPrefixOf front log → IsPrefixOf log h.log → 0 < length (repo_at h.last (n_of (state_after h front))).changesets → is_inline (bytes_at (after_all log h.start) changelog_index) ≡ is_inline (bytes_at (after_all front h.start) changelog_index) }
+{
+    writers_logs_are_courses();
+    changelogs_keep_their_form();
 }
 
 /// An opening, its reads at moments of such a log that follow one another, answers a view of these moments and no damage; so

@@ -5,7 +5,7 @@ use Rattle.std.specs.Fmt.{signed_decimal}
 use Rattle.std.specs.List.{AllByRecursion, AllZip, list_any}
 use Rattle.std.specs.Option.{option_map}
 use Rattle.hgs_bytes.specs.Bytes.{among, same}
-use Rattle.hgs_files.specs.Tree.{Tree, bytes_at}
+use Rattle.hgs_files.specs.Tree.{Tree}
 use Rattle.hgs_index.specs.ChangeText.{Change}
 use Rattle.hgs_index.specs.declared.entry.Entry.{Entry}
 use Rattle.hgs_index.specs.Hex.{hex}
@@ -21,12 +21,13 @@ use Rattle.hgs_model.specs.declared.phase.Phase.{Phase}
 use Rattle.hgs_model.specs.declared.phase.Phase.TheVariants.{Public, Draft, Secret}
 use Rattle.hgs_model.specs.Repo.{Repo, Changeset, Bookmark, TreeFile, all_parents, tree_at, tree_paths}
 use Rattle.hgs_revlog.specs.Log.{nodes_of, place_of}
+use Rattle.hgs_revlog.specs.Text.{span_in}
 use Rattle.hgs_load.specs.declared.answer.ReadAnswer.{ReadAnswer}
 use Rattle.hgs_load.specs.declared.answer.ReadAnswer.TheVariants.{UnknownPath}
 use Rattle.hgs_load.specs.Asks.{at_rest, part_of}
 use Rattle.hgs_reader.specs.Contents.{cat_asks, files_asks}
 use Rattle.hgs_reader.specs.Heads as reader_heads
-use Rattle.hgs_reader.specs.Line.{change_asks, change_at, changeset_asks, chunk_asks, first_line, field, line_asks, line_at, line_of_change, line_of_entry, line_text, parent_text}
+use Rattle.hgs_reader.specs.Line.{change_asks, change_at, changeset_asks, first_line, field, line_asks, line_at, line_of_change, line_of_entry, line_text, parent_text}
 use Rattle.hgs_reader.specs.Names.{named}
 use Rattle.hgs_load.specs.Open.{open_asks}
 use Rattle.hgs_reader.specs.Shown as reader_shown
@@ -34,7 +35,7 @@ use Rattle.hgs_load.specs.View.{View, changelog_data, changelog_index}
 use Rattle.hgs_stands.specs.Stands.{mark_of}
 use Rattle.hgs_model.specs.Names.{named as model_named}
 use Rattle.hgs_shown.specs.Answers.{IsReadable, tree_text, node_in, log_line, changeset_line, is_number, is_one_of, has_child, head_lines, heads_text, working_line, parents_text, bookmark_line, bookmarks_text, phase_word, body_answer, body_at}
-use Rattle.hgs_shown.specs.Shown.{IsFileShown, IsShown, IsViewOf}
+use Rattle.hgs_shown.specs.Shown.{IsFileShown, IsShown, IsViewOf, chunks_of_changelog, index_of_changelog}
 use Rattle.hgs_shown.proofs.ContentLemmas.{contents, lines-of, loaded-view}
 use Rattle.hgs_shown.proofs.NameLemmas.{same-names}
 use Rattle.hgs_shown.proofs.OpenLemmas.{Loads, shown}
@@ -84,9 +85,9 @@ pub record Has (view : View) (r : Repo) : Type 0 where
 pub has : (laws : Below) (t : Tree) (r : Repo) (view : View) → IsRepo r → IsViewOf view t r → Has view r
 has laws t r view is v =
     let parents : map both view.changelog.entries ≡ all_parents r.changesets =
-    laws.entry_parents (bytes_at t changelog_index) (bytes_at t changelog_data) view.changelog.entries (history r.changesets).changelog v.entries ∙ laws.parents r is in
+    laws.entry_parents (index_of_changelog t) (chunks_of_changelog t) view.changelog.entries (history r.changesets).changelog v.entries ∙ laws.parents r is in
     record {
-      nodes_are = laws.entry_nodes (bytes_at t changelog_index) (bytes_at t changelog_data) view.changelog.entries (history r.changesets).changelog v.entries;
+      nodes_are = laws.entry_nodes (index_of_changelog t) (chunks_of_changelog t) view.changelog.entries (history r.changesets).changelog v.entries;
       parents_are = parents;
       different = v.entries.held.different;
       count = sym (length-map-of both view.changelog.entries) ∙ ap length parents ∙ length-map-of (λ (c : Changeset). c.parents) r.changesets;
@@ -233,12 +234,23 @@ phase-of view r rev e low =
 
 -- ---- the line of a changeset whose text was read
 
-line-asked : (t : Tree) (view : View) (rev : ℕ) (e : Entry) (change : Change) → view.changelog.inline ≡ false → slice_get view.changelog.entries rev ≡ Some e → at_rest t (change_asks view rev) ≡ Ok change → at_rest t (line_asks view rev) ≡ Ok (line_text rev e change)
-line-asked t view rev e change separate at reads =
-    ap (λ b. at_rest t (changeset_asks b rev (slice_get view.changelog.entries rev) (line_at view rev))) separate
-    ∙ ap (λ o. at_rest t (chunk_asks changelog_data o (line_at view rev))) at
-    ∙ ap (λ o. line_of_entry view rev (unwrap_or (part_of t changelog_data e.offset e.stored) []) o) at
-    ∙ ap (line_of_change rev e) (sym (ap (λ b. at_rest t (changeset_asks b rev (slice_get view.changelog.entries rev) (change_at view rev))) separate ∙ ap (λ o. at_rest t (chunk_asks changelog_data o (change_at view rev))) at) ∙ reads)
+-- the bytes that are read for it
+abbrev chunk-read : Bool → Tree → ℕ → Entry → List ℕ
+chunk-read false t rev e = unwrap_or (part_of t changelog_data e.offset e.stored) []
+chunk-read true t rev e = unwrap_or (part_of t changelog_index (span_in true rev e).from e.stored) []
+
+chunk-given : {A : Type 0} (inline : Bool) (t : Tree) (rev : ℕ) (o : Option Entry) (e : Entry) (given : List ℕ → Result A ReadAnswer) → o ≡ Some e → at_rest t (changeset_asks inline rev o given) ≡ given (chunk-read inline t rev e)
+chunk-given false t rev o e given at = ap (λ x. at_rest t (changeset_asks false rev x given)) at
+chunk-given true t rev o e given at = ap (λ x. at_rest t (changeset_asks true rev x given)) at
+
+pub line-asked : (t : Tree) (view : View) (rev : ℕ) (e : Entry) (change : Change) → slice_get view.changelog.entries rev ≡ Some e → at_rest t (change_asks view rev) ≡ Ok change → at_rest t (line_asks view rev) ≡ Ok (line_text rev e change)
+line-asked t view rev e change at reads =
+    let inline = view.changelog.inline in
+    let entry = slice_get view.changelog.entries rev in
+    let chunk = chunk-read inline t rev e in
+    chunk-given inline t rev entry e (line_at view rev) at
+    ∙ ap (line_of_entry view rev chunk) at
+    ∙ ap (line_of_change rev e) (sym (chunk-given inline t rev entry e (change_at view rev) at) ∙ reads)
 
 tree-there : (changesets : List Changeset) (rev : ℕ) (c : Changeset) → slice_get changesets rev ≡ Some c → tree_at changesets rev ≡ c.tree
 tree-there [] rev c e = cc
@@ -315,7 +327,7 @@ module _ (laws : Below) (t : Tree) (r : Repo) (view : View) (s : IsReadable t r)
     line-is =
         let i = contents-are in
         let e = entry-of view r rev c all found in
-        line-asked t view rev e.entry i.change loads-are.separate e.there i.text
+        line-asked t view rev e.entry i.change e.there i.text
         ∙ ap (λ l. let a : Result (List ℕ) ReadAnswer = Ok l in a) (line-of t r view rev c i.change all found i.tells e)
 
     pub files-are : at_rest t (files_asks view rev) ≡ Ok (tree_text r rev (Some c))

@@ -8,9 +8,10 @@ use Rattle.std.proofs.lemmas.Cmp.{tied_itself}
 use Rattle.std.proofs.lemmas.Slice.Zip.{AllZip-long}
 use Rattle.hgs_bytes.specs.Bytes.{same, among, is_below, IsPrefixOf}
 use Rattle.hgs_files.specs.Tree.{Tree, bytes_at}
-use Rattle.hgs_index.specs.ChangeText.{read_change}
-use Rattle.hgs_index.specs.Either.{chunks_either}
+use Rattle.hgs_index.specs.ChangeText.{Change, read_change}
+use Rattle.hgs_index.specs.Either.{chunk_bytes, chunks_either}
 use Rattle.hgs_index.specs.FileText.{unpacked, body_of}
+use Rattle.hgs_index.specs.Inline.{chunks_apart, is_inline}
 use Rattle.hgs_index.specs.Manifest.{Row, AscendFrom, manifest_text}
 use Rattle.hgs_index.specs.TrackedPath.{is_tracked}
 use Rattle.hgs_manifest.specs.Held.{found_in}
@@ -22,14 +23,16 @@ use Rattle.hgs_path.specs.declared.check.PathFault.{PathFault}
 use Rattle.hgs_path.specs.declared.name.Ext.TheVariants.{I, D}
 use Rattle.hgs_path.specs.Check.{checked}
 use Rattle.hgs_path.specs.StoreName.{store_name}
-use Rattle.hgs_revlog.specs.Held.{AreWithinLimits}
+use Rattle.hgs_revlog.specs.declared.fault.Tail.TheVariants.{Ignore}
+use Rattle.hgs_revlog.specs.Held.{AreWithinLimits, read_all}
+use Rattle.hgs_revlog.specs.Text.{text_of}
 use Rattle.hgs_load.specs.declared.answer.ReadAnswer.{ReadAnswer}
 use Rattle.hgs_load.specs.Asks.{at_rest}
 use Rattle.hgs_reader.specs.Contents.{most_file_text, tree_asks, files_asks, files_text}
 use Rattle.hgs_reader.specs.Line.{change_asks}
 use Rattle.hgs_load.specs.Open.{open_asks}
 use Rattle.hgs_load.specs.View.{View}
-use Rattle.hgs_stands.specs.Places.{manifest_index, manifest_data}
+use Rattle.hgs_stands.specs.Places.{changelog_data, changelog_index, manifest_index, manifest_data}
 use Rattle.hgs_stands.specs.Stands.{Stands}
 use Rattle.hgs_stands.specs.Shows.{BeginsAt, BeginsChangesets, Shows}
 use Rattle.hgs_index.specs.Revision.{Revision}
@@ -146,6 +149,20 @@ placed-paths logs (f ∷ tree) (row ∷ rows) is = (ap (λ (x : Row). x.path) is
 
 -- ---- the changeset
 
+-- the text of a changeset is read where its chunk stands in the form of the changelog
+change-in-form : (laws : Below) (t : Tree) (view : View) (rev : ℕ) (revisions : List Revision) (r : Revision) (change : Change) → Loads t revisions view.changelog → slice_get revisions rev ≡ Some r → read_change r.text ≡ Ok change → at_rest t (change_asks view rev) ≡ Ok change
+change-in-form laws t view rev revisions r change loads there reads = by (is_inline index) loads.form loads.texts
+  where
+    index : List ℕ
+    index = bytes_at t changelog_index
+
+    by : (b : Bool) → view.changelog.inline ≡ b → read_all view.changelog.entries (chunk_bytes b index (bytes_at t changelog_data)) ≡ Ok revisions → at_rest t (change_asks view rev) ≡ Ok change
+    by false separate texts = laws.changeset t view rev revisions r change separate texts there reads
+    by true inline texts =
+        let entries = view.changelog.entries in
+        let e = laws.entry entries (chunks_apart index) revisions rev r texts there in
+        laws.placed t view rev e.0 r.text change inline e.1 (ap (text_of entries rev) (laws.places Ignore index view.changelog rev e.0 loads.loads inline e.1) ∙ e.2) reads
+
 -- the rows of a changeset's manifest are those that it has behind the changesets before it
 abbrev pub committed_rows : Repo → ℕ → Changeset → List Row
 committed_rows r rev c = rows_of (history (take rev r.changesets)) c
@@ -156,7 +173,7 @@ module _ (laws : Below) (t : Tree) (r : Repo) (view : View) (rev : ℕ) (c : Cha
   h = laws.held r.changesets is.changesets rev c found
 
   text-of : at_rest t (change_asks view rev) ≡ Ok h.change
-  text-of = laws.changeset t view rev (history r.changesets).changelog h.revision h.change loads.separate loads.texts h.there (ap read_change h.text_is ∙ laws.change h.change h.in_form)
+  text-of = change-in-form laws t view rev (history r.changesets).changelog h.revision h.change loads h.there (ap read_change h.text_is ∙ laws.change h.change h.in_form)
 
   tree-of : at_rest t (tree_asks view rev) ≡ Ok h.rows
   tree-of =

@@ -1,6 +1,7 @@
 pub mod AnswerLemmas
 pub mod Basics
 pub mod ContentLemmas
+pub mod InlineSampleLemmas
 pub mod NameLemmas
 pub mod OpenLemmas
 pub mod PieceLemmas

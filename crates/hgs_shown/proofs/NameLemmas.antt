@@ -3,7 +3,7 @@ use Rattle.std.proofs.Common.{◌≡◌, ℕ, ◌<◌, List, [], ◌∷◌, Bool
 use Rattle.std.specs.Prelude.{codes, find, option_map, position, slice_index_or}
 use Rattle.std.specs.List.{AllByRecursion}
 use Rattle.hgs_bytes.specs.Bytes.{same}
-use Rattle.hgs_files.specs.Tree.{Tree, bytes_at}
+use Rattle.hgs_files.specs.Tree.{Tree}
 use Rattle.hgs_index.specs.declared.entry.Entry.{Entry}
 use Rattle.hgs_index.specs.Node.{null_node}
 use Rattle.hgs_index.specs.Revlog.{all_different}
@@ -14,9 +14,8 @@ use Rattle.hgs_model.specs.Repo.{Repo, Bookmark}
 use Rattle.hgs_revlog.specs.Log.{nodes_of, place_of}
 use Rattle.hgs_reader.specs.Names.{place_of_some, named}
 use Rattle.hgs_load.specs.View.{View}
-use Rattle.hgs_stands.specs.Places.{changelog_index, changelog_data}
 use Rattle.hgs_stands.specs.Stands.{Stands, mark_of}
-use Rattle.hgs_shown.specs.Shown.{IsViewOf, IsViewOver, shown_repo}
+use Rattle.hgs_shown.specs.Shown.{IsViewOf, IsViewOver, chunks_of_changelog, index_of_changelog, shown_repo}
 use Rattle.hgs_shown.proofs.OpenLemmas.{parent-goes-on, below-all}
 use Rattle.hgs_bytes.specs.Bytes.{IsPrefixOf}
 use Rattle.hgs_model.specs.IsRepo.{IsRepo}
@@ -77,8 +76,8 @@ room laws r is = sym (laws.counted (history r.changesets).changelog ∙ laws.cou
 pub same-names : (laws : Below) (t : Tree) (r : Repo) (view : View) (name : List ℕ) → Stands t r → IsViewOf view t r → named view name ≡ model_named r name
 same-names laws t r view name s v =
     let revisions = (history r.changesets).changelog in
-    names-by laws r view name (laws.entry_nodes (bytes_at t changelog_index) (bytes_at t changelog_data) view.changelog.entries revisions v.entries)
-    (laws.entry_count (bytes_at t changelog_index) (bytes_at t changelog_data) view.changelog.entries revisions v.entries ∙ laws.count r s.repository) s.revlogs.changelog.different v.bookmarks
+    names-by laws r view name (laws.entry_nodes (index_of_changelog t) (chunks_of_changelog t) view.changelog.entries revisions v.entries)
+    (laws.entry_count (index_of_changelog t) (chunks_of_changelog t) view.changelog.entries revisions v.entries ∙ laws.count r s.repository) s.revlogs.changelog.different v.bookmarks
     (subst (λ n. AllByRecursion (λ (m : Bookmark). m.rev < n) r.bookmarks) (room laws r s.repository) s.repository.marks) v.working
 
 -- ---- bookmarks of a front of the history

@@ -14,12 +14,13 @@ use Rattle.hgs_path.specs.StoreName.{store_name}
 use Rattle.hgs_revlog.specs.Held.{AreWithinLimits}
 use Rattle.hgs_stands.specs.Samples.{third_begun_files, two_drafts, two_drafts_files}
 use Rattle.hgs_shown.specs.Limits.{OpensWithin, ReadsWithin}
+use Rattle.hgs_shown.specs.Samples.{inline_drafts_files}
 use Rattle.hgs_shown.proofs.Basics.{never, same-eq}
 
 most : (a b : ℕ) → nat_le a b ≡ true → a ≤ b
 most a b e = grind (arith, nat_tests, e)
 
-used-path : (path : List ℕ) → uses two_drafts.changesets path ≡ true → (path ≡ codes "a") ⊎ (path ≡ codes "b")
+pub used-path : (path : List ℕ) → uses two_drafts.changesets path ≡ true → (path ≡ codes "a") ⊎ (path ≡ codes "b")
 used-path path e = by (same path (codes "a")) refl (same path (codes "b")) refl e
   where
     by : (a : Bool) → same path (codes "a") ≡ a → (b : Bool) → same path (codes "b") ≡ b → ((a || false) || ((a || (b || false)) || false)) ≡ true → (path ≡ codes "a") ⊎ (path ≡ codes "b")
@@ -44,6 +45,7 @@ drafts-open = record {
   bookmarks = most _ _ refl;
   dirstate = most _ _ refl;
   roots = most _ _ refl;
+  inline_index = λ inline. most _ _ refl;
   changelog = record { few = most _ _ refl; texts = (most _ _ refl, (most _ _ refl, tt)); data_end = most _ _ refl };
 }
 
@@ -55,6 +57,19 @@ begun-open = record {
   bookmarks = most _ _ refl;
   dirstate = most _ _ refl;
   roots = most _ _ refl;
+  inline_index = λ inline. most _ _ refl;
+  changelog = record { few = most _ _ refl; texts = (most _ _ refl, (most _ _ refl, tt)); data_end = most _ _ refl };
+}
+
+pub inline-open : OpensWithin inline_drafts_files two_drafts two_drafts
+unfolding encode_with sha1 first_words schedule rounds compress hash_after digest_bytes digits
+inline-open = record {
+  requires = most _ _ refl;
+  bookmarks_text = most _ _ refl;
+  bookmarks = most _ _ refl;
+  dirstate = most _ _ refl;
+  roots = most _ _ refl;
+  inline_index = λ inline. most _ _ refl;
   changelog = record { few = most _ _ refl; texts = (most _ _ refl, (most _ _ refl, tt)); data_end = most _ _ refl };
 }
 
@@ -64,6 +79,14 @@ drafts-read = record {
   manifest = record { few = most _ _ refl; texts = (most _ _ refl, (most _ _ refl, tt)); data_end = most _ _ refl };
   filelogs = filelogs two_drafts_files (record { few = most _ _ refl; texts = (most _ _ refl, tt); data_end = most _ _ refl }) (record { few = most _ _ refl; texts = (most _ _ refl, tt); data_end = most _ _ refl });
   trees = (record { files = most _ _ refl; bodies = (most _ _ refl, tt) }, (record { files = most _ _ refl; bodies = (most _ _ refl, (most _ _ refl, tt)) }, tt));
+}
+
+pub inline-read : ReadsWithin inline_drafts_files two_drafts
+unfolding encode_with sha1 first_words schedule rounds compress hash_after digest_bytes digits
+inline-read = record {
+  manifest = record { few = most _ _ refl; texts = (most _ _ refl, (most _ _ refl, tt)); data_end = most _ _ refl };
+  filelogs = filelogs inline_drafts_files (record { few = most _ _ refl; texts = (most _ _ refl, tt); data_end = most _ _ refl }) (record { few = most _ _ refl; texts = (most _ _ refl, tt); data_end = most _ _ refl });
+  trees = drafts-read.trees;
 }
 
 pub begun-read : ReadsWithin third_begun_files two_drafts

@@ -9,14 +9,14 @@ use Rattle.hgs_index.specs.Either.{chunk_bytes, chunks_either}
 use Rattle.hgs_index.specs.Inline.{chunks_apart, is_inline}
 use Rattle.hgs_index.specs.Node.{null_node}
 use Rattle.hgs_index.specs.Revision.{Revision, nodes}
-use Rattle.hgs_index.specs.Revlog.{Begins, Holds, all_different}
+use Rattle.hgs_index.specs.Revlog.{Begins, BeginsWithRevisions, Holds, all_different}
 use Rattle.hgs_index.specs.Theorems.EitherLemmas.{form-begins-front, held-form}
 use Rattle.hgs_index.specs.Theorems.InlineLemmas.{apart-front}
 use Rattle.hgs_revlog.specs.Held.{AreWithinLimits, EndsFirstAt}
 use Rattle.hgs_revlog.specs.Load.{most_revisions, most_text}
 use Rattle.hgs_model.specs.History.{node_at, text_at}
 use Rattle.hgs_reader.specs.Held.{EndsInline, HasSeparateText, HasText}
-use Rattle.hgs_stands.specs.Shows.{BeginsApart, BeginsAt}
+use Rattle.hgs_stands.specs.Shows.{BeginsAt}
 use Rattle.hgs_shown.specs.Below.{Below}
 
 front-get : (revisions : List Revision) (rev : ℕ) → slice_get (take (suc rev) revisions) rev ≡ slice_get revisions rev
@@ -87,9 +87,9 @@ module _ (laws : Below) (revisions : List Revision) (rev : ℕ) (node text : Lis
   few-in : length revisions ≤ most_revisions → length front ≤ most_revisions
   few-in most = omega (arith, most, size, lt)
 
-  pub separate-text : (t : Tree) (index chunks : List ℕ) → BeginsApart t index chunks revisions → AreWithinLimits revisions (bytes_at t chunks) → HasSeparateText t index chunks node text
+  pub separate-text : (t : Tree) (index chunks : List ℕ) → BeginsWithRevisions (bytes_at t index) (bytes_at t chunks) revisions → AreWithinLimits revisions (bytes_at t chunks) → HasSeparateText t index chunks node text
   separate-text t index chunks begin within =
-      let begins : BeginsApart t index chunks front = form-begins-front false (bytes_at t index) (bytes_at t chunks) revisions front (drop (suc rev) revisions) joined begin in
+      let begins : BeginsWithRevisions (bytes_at t index) (bytes_at t chunks) front = form-begins-front false (bytes_at t index) (bytes_at t chunks) revisions front (drop (suc rev) revisions) joined begin in
       record {
         revisions = front;
         last = r.0;

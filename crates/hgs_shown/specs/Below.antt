@@ -1,5 +1,5 @@
 -- What the laws of the crates below say, as the proofs of this crate take it.
-use Rattle.std.specs.Prelude.{◌≡◌, ◌<◌, ◌≤◌, ◌*◌, ◌/◌, ℕ, List, false, true, None, Some, Ok, Err, length, map, position, slice_get, slice_index_or, is_ok, take}
+use Rattle.std.specs.Prelude.{◌≡◌, ◌<◌, ◌≤◌, ◌/◌, ℕ, List, false, true, None, Some, Ok, Err, length, map, position, slice_get, slice_index_or, is_ok, drop, take}
 use Rattle.std.specs.List.{AllByRecursion}
 use Rattle.hgs_bytes.specs.Bytes.{IsPrefixOf, among, same}
 use Rattle.hgs_files.specs.Tree.{Tree, bytes_at}
@@ -7,11 +7,9 @@ use Rattle.hgs_index.specs.declared.entry.Entry.{Entry}
 use Rattle.hgs_index.specs.declared.kinds.Flag.{Flag}
 use Rattle.hgs_index.specs.ChangeText.{Change, IsChange, change_text, read_change}
 use Rattle.hgs_index.specs.FileText.{body_of}
-use Rattle.hgs_index.specs.Inline.{is_inline}
-use Rattle.hgs_index.specs.Hex.{hex}
-use Rattle.hgs_index.specs.Hex.{node_at as hex_node}
+use Rattle.hgs_index.specs.Inline.{chunks_apart, is_inline}
 use Rattle.hgs_index.specs.Manifest.{Row, AreRows, manifest_text}
-use Rattle.hgs_index.specs.Node.{IsNode, null_node}
+use Rattle.hgs_index.specs.Node.{null_node}
 use Rattle.hgs_index.specs.Revision.{Parents, Revision, nodes}
 use Rattle.hgs_index.specs.Revlog.{BeginsWithRevisions, HoldsRevisions, all_different}
 use Rattle.hgs_index.specs.TrackedPath.{is_tracked}
@@ -27,13 +25,15 @@ use Rattle.hgs_path.specs.Check.{checked}
 use Rattle.hgs_path.specs.StoreName.{store_name}
 use Rattle.hgs_phases.specs.declared.roots.Root.{Root}
 use Rattle.hgs_phases.specs.Phases.{history_of, phases_by}
+use Rattle.hgs_revlog.specs.declared.fault.Tail.{Tail}
 use Rattle.hgs_revlog.specs.declared.fault.Tail.TheVariants.{Ignore}
 use Rattle.hgs_revlog.specs.Held.{Agrees, AreWithinLimits, chunk_in, read_all}
-use Rattle.hgs_revlog.specs.Load.{loaded, most_revisions}
+use Rattle.hgs_revlog.specs.Load.{loaded, loaded_either, most_revisions}
 use Rattle.hgs_revlog.specs.Log.{Log, nodes_of, place_of}
-use Rattle.hgs_revlog.specs.Text.{text_of}
+use Rattle.hgs_revlog.specs.Text.{span_in, text_of}
 use Rattle.hgs_load.specs.declared.answer.ReadAnswer.TheVariants.{UnknownPath}
 use Rattle.hgs_load.specs.Asks.{at_rest}
+use Rattle.hgs_load.specs.Form.{either_log_of, most_inline_index}
 use Rattle.hgs_reader.specs.Contents.{most_files, most_file_text, tree_asks, files_text, files_asks, cat_asks}
 use Rattle.hgs_reader.specs.Held.{HasText}
 use Rattle.hgs_reader.specs.Line.{change_asks}
@@ -48,17 +48,13 @@ use Rattle.hgs_stands.specs.Stands.{Stands, changeset_entries}
 
 pub record Below : Type 0 where
   pub change : (c : Change) → IsChange c → read_change (change_text c) ≡ Ok c
-  pub node_back : (node : List ℕ) → IsNode node → hex_node (hex node) ≡ Some node
-  pub node_found : (digits node : List ℕ) → hex_node digits ≡ Some node → (digits ≡ hex node) × IsNode node
   pub counted : (revisions : List Revision) → length (nodes revisions) ≡ length revisions
   pub first_place : (known : List (List ℕ)) (rev : ℕ) → all_different known ≡ true → rev < length known → position (λ n. same n (slice_index_or known rev null_node)) known ≡ Some rev
   pub not_null : (known : List (List ℕ)) (rev : ℕ) → among null_node known ≡ false → rev < length known → same (slice_index_or known rev null_node) null_node ≡ false
-  pub index_length : (index data_bytes : List ℕ) (revisions : List Revision) → HoldsRevisions index data_bytes revisions → length index ≡ 64 * length revisions
   pub held : (changesets : List Changeset) → EachChangeset IsNextChangeset no_history changesets → (rev : ℕ) (c : Changeset) → slice_get changesets rev ≡ Some c → IsHeld (history (take rev changesets)) (history changesets) rev c
   pub nodes_go_on : (front all : List Changeset) → IsPrefixOf front all → IsPrefixOf (changeset_nodes front) (changeset_nodes all)
   pub there : (revisions : List Revision) (rev : ℕ) → rev < length revisions → (r : Revision) × (slice_get revisions rev ≡ Some r) × (r.text ≡ text_at revisions rev)
   pub node_stays : (front revisions : List Revision) (rev : ℕ) → IsPrefixOf front revisions → rev < length front → node_at revisions rev ≡ node_at front rev
-  pub all_nodes : (revisions : List Revision) → AllByRecursion IsNode (nodes revisions)
   pub used : (changesets : List Changeset) (rev : ℕ) (c : Changeset) → slice_get changesets rev ≡ Some c → AllByRecursion (λ (f : TreeFile). uses changesets f.path ≡ true) c.tree
   pub count : (r : Repo) → IsRepo r → length (history r.changesets).changelog ≡ length r.changesets
   pub parents : (r : Repo) → IsRepo r → parents_in (history r.changesets).changelog ≡ all_parents r.changesets
@@ -69,15 +65,18 @@ pub record Below : Type 0 where
   pub place : (entries : List Entry) (node : List ℕ) → place_of entries node ≡ position (λ n. same n node) (nodes_of entries)
   pub loads : (index data_bytes : List ℕ) (revisions : List Revision) → (begins : BeginsWithRevisions index data_bytes revisions) → length revisions ≡ length index / 64 → AreWithinLimits revisions data_bytes → (log : Log) × (loaded Ignore index ≡ Ok log) × (read_all log.entries data_bytes ≡ Ok revisions) × Agrees begins.index_front begins.data_front log.entries revisions
   pub loads_whole : (index data_bytes : List ℕ) (revisions : List Revision) → HoldsRevisions index data_bytes revisions → AreWithinLimits revisions data_bytes → (log : Log) × (loaded Ignore index ≡ Ok log) × Agrees index data_bytes log.entries revisions
+  pub separate_form : (tail : Tail) (index : List ℕ) → is_inline index ≡ false → loaded_either tail index ≡ loaded tail index
+  pub places : (tail : Tail) (index : List ℕ) (log : Log) (rev : ℕ) (e : Entry) → loaded_either tail index ≡ Ok log → log.inline ≡ true → slice_get log.entries rev ≡ Some e → take e.stored (drop (span_in true rev e).from index) ≡ chunk_in (chunks_apart index) e
+  pub entry : (entries : List Entry) (data_bytes : List ℕ) (revisions : List Revision) (rev : ℕ) (r : Revision) → read_all entries data_bytes ≡ Ok revisions → slice_get revisions rev ≡ Some r → (e : Entry) × (slice_get entries rev ≡ Some e) × (text_of entries rev (chunk_in data_bytes e) ≡ Ok r.text)
   pub requires_file : (t : Tree) → length (bytes_at t requires_path) ≤ most_requires → at_rest t requires_asks ≡ requires_answer (t requires_path)
   pub bookmarks_file : (t : Tree) → length (bytes_at t bookmarks_path) ≤ most_bookmarks_text → at_rest t bookmarks_asks ≡ bookmarks_answer (t bookmarks_path)
   pub dirstate_file : (t : Tree) → length (bytes_at t dirstate_path) ≤ most_dirstate → at_rest t dirstate_asks ≡ dirstate_answer (t dirstate_path)
   pub roots_file : (t : Tree) → length (bytes_at t roots_path) ≤ most_roots → at_rest t roots_asks ≡ roots_answer (t roots_path)
   pub index_file : (t : Tree) → is_inline (bytes_at t changelog_index) ≡ false → length (bytes_at t changelog_index) / 64 ≤ most_revisions → at_rest t log_asks ≡ log_of (bytes_at t changelog_index)
+  pub inline_file : (t : Tree) → is_inline (bytes_at t changelog_index) ≡ true → length (bytes_at t changelog_index) ≤ most_inline_index → at_rest t log_asks ≡ either_log_of (bytes_at t changelog_index)
   pub opened : (t : Tree) (marks : List Mark) (nodes : Nodes) (log : Log) (roots : List Root) (working : Working) → at_rest t requires_asks ≡ Ok tt → at_rest t bookmarks_asks ≡ Ok marks → at_rest t dirstate_asks ≡ Ok nodes → at_rest t log_asks ≡ Ok log → at_rest t roots_asks ≡ Ok roots → working_answer log.entries nodes ≡ Ok working → at_rest t open_asks ≡ Ok (record { changelog = log; bookmarks = marks; working = working; phases = phases_by roots log.entries })
   pub refreshed : (t : Tree) (old : View) (marks : List Mark) (nodes : Nodes) (log : Log) (roots : List Root) (working : Working) → at_rest t bookmarks_asks ≡ Ok marks → at_rest t dirstate_asks ≡ Ok nodes → at_rest t log_asks ≡ Ok log → at_rest t roots_asks ≡ Ok roots → working_answer log.entries nodes ≡ Ok working → first_changed 0 old.changelog.entries log.entries ≡ None → (old.changelog.inline ≡ false → log.inline ≡ false) → at_rest t (refresh_asks old) ≡ Ok (record { changelog = log; bookmarks = marks; working = working; phases = phases_by roots log.entries })
-  pub log : (t : Tree) (view : View) → at_rest t open_asks ≡ Ok view → at_rest t log_asks ≡ Ok view.changelog
-  pub chunk : (t : Tree) (view : View) (rev : ℕ) (entry : Entry) (text : List ℕ) (change : Change) → view.changelog.inline ≡ false → slice_get view.changelog.entries rev ≡ Some entry → text_of view.changelog.entries rev (chunk_in (bytes_at t changelog_data) entry) ≡ Ok text → read_change text ≡ Ok change → at_rest t (change_asks view rev) ≡ Ok change
+  pub placed : (t : Tree) (view : View) (rev : ℕ) (entry : Entry) (text : List ℕ) (change : Change) → view.changelog.inline ≡ true → slice_get view.changelog.entries rev ≡ Some entry → text_of view.changelog.entries rev (take entry.stored (drop (span_in true rev entry).from (bytes_at t changelog_index))) ≡ Ok text → read_change text ≡ Ok change → at_rest t (change_asks view rev) ≡ Ok change
   pub changeset : (t : Tree) (view : View) (rev : ℕ) (revisions : List Revision) (r : Revision) (change : Change) → view.changelog.inline ≡ false → read_all view.changelog.entries (bytes_at t changelog_data) ≡ Ok revisions → slice_get revisions rev ≡ Some r → read_change r.text ≡ Ok change → at_rest t (change_asks view rev) ≡ Ok change
   pub tree : (t : Tree) (view : View) (rev : ℕ) (change : Change) (rows : List Row) → at_rest t (change_asks view rev) ≡ Ok change → same change.manifest null_node ≡ false → HasText t manifest_index manifest_data change.manifest (manifest_text rows) → AreRows rows → length rows ≤ most_files → at_rest t (tree_asks view rev) ≡ Ok rows
   pub files : (t : Tree) (view : View) (rev : ℕ) (rows : List Row) → at_rest t (tree_asks view rev) ≡ Ok rows → at_rest t (files_asks view rev) ≡ Ok (files_text rows)

@@ -2,4 +2,5 @@ pub mod Answers
 pub mod Below
 pub mod Found
 pub mod Limits
+pub mod Samples
 pub mod Shown

@@ -4,8 +4,11 @@ use Rattle.std.specs.List.{AllZip}
 use Rattle.hgs_bytes.specs.Bytes.{among}
 use Rattle.hgs_files.specs.Tree.{Tree, bytes_at}
 use Rattle.hgs_index.specs.ChangeText.{Change}
+use Rattle.hgs_index.specs.Either.{chunks_either}
+use Rattle.hgs_index.specs.Inline.{index_apart}
 use Rattle.hgs_index.specs.Manifest.{Row}
 use Rattle.hgs_index.specs.Revision.{parent_node}
+use Rattle.hgs_index.specs.Revlog.{BeginsWithRevisions}
 use Rattle.hgs_model.specs.History.{history, changeset_nodes}
 use Rattle.hgs_model.specs.Phase.{phase_number}
 use Rattle.hgs_model.specs.Repo.{Repo, Changeset, TreeFile, tree_paths}
@@ -18,12 +21,18 @@ use Rattle.hgs_load.specs.Marks.{Nodes}
 use Rattle.hgs_load.specs.View.{View}
 use Rattle.hgs_stands.specs.Committed.{Tells}
 use Rattle.hgs_stands.specs.Places.{changelog_index, changelog_data}
-use Rattle.hgs_stands.specs.Shows.{BeginsApart}
 use Rattle.hgs_stands.specs.Stands.{mark_of}
+
+-- the index and the chunks of the changelog; of an inline one, those of the separate one that it is taken apart into
+abbrev pub index_of_changelog : Tree → List ℕ
+index_of_changelog t = index_apart (bytes_at t changelog_index)
+
+abbrev pub chunks_of_changelog : Tree → List ℕ
+chunks_of_changelog t = chunks_either (bytes_at t changelog_index) (bytes_at t changelog_data)
 
 -- The view has the index entries of the repository's changesets, its bookmarks, its working parents and its phases.
 pub record IsViewOf (view : View) (t : Tree) (r : Repo) : Type 0 where
-  pub entries : Agrees (bytes_at t changelog_index) (bytes_at t changelog_data) view.changelog.entries (history r.changesets).changelog
+  pub entries : Agrees (index_of_changelog t) (chunks_of_changelog t) view.changelog.entries (history r.changesets).changelog
   pub bookmarks : view.bookmarks ≡ map (mark_of (changeset_nodes r.changesets)) r.bookmarks
   pub working : view.working ≡ r.working
   pub phases : map phase_number view.phases ≡ r.phases
@@ -38,7 +47,7 @@ working_nodes r = (parent_node (changeset_nodes r.changesets) r.working.0, paren
 
 -- The view has index entries of the changesets of r, the bookmarks of marked, the working parents of worked and the phases of r.
 pub record IsViewOver (view : View) (t : Tree) (marked worked r : Repo) : Type 0 where
-  pub begins : BeginsApart t changelog_index changelog_data (history r.changesets).changelog
+  pub begins : BeginsWithRevisions (index_of_changelog t) (chunks_of_changelog t) (history r.changesets).changelog
   pub entries : Agrees begins.index_front begins.data_front view.changelog.entries (history r.changesets).changelog
   pub bookmarks : view.bookmarks ≡ map (mark_of (changeset_nodes marked.changesets)) marked.bookmarks
   pub working : view.working ≡ worked.working

@@ -1,6 +1,6 @@
 //! What the definitions of this crate imply. Each function is one law; none does anything but to call laws
 //! that it rests on.
-ghost use Rattle.std.specs.Prelude.{◌≡◌, ◌<◌, ◌≤◌, ℕ, List, true, false, length, map, Ok, None, Some, slice_get};
+ghost use Rattle.std.specs.Prelude.{◌≡◌, ◌<◌, ◌≤◌, ℕ, List, true, false, length, map, Ok, None, Some, drop, slice_get, take};
 ghost use Rattle.std.specs.List.{AllByRecursion, AllZip, list_all};
 ghost use Rattle.hgs_files.specs.Tree.{Tree, bytes_at};
 ghost use Rattle.hgs_index.specs.declared.entry.Entry.{Entry};
@@ -10,7 +10,7 @@ ghost use Rattle.hgs_index.specs.Inline.{chunks_apart};
 ghost use Rattle.hgs_index.specs.Manifest.{Row, AscendFrom};
 ghost use Rattle.hgs_index.specs.Node.{null_node};
 ghost use Rattle.hgs_index.specs.Revision.{Revision};
-ghost use Rattle.hgs_index.specs.Revlog.{Begins, all_different};
+ghost use Rattle.hgs_index.specs.Revlog.{Begins, BeginsWithRevisions, all_different};
 ghost use Rattle.hgs_index.specs.TrackedPath.{is_tracked};
 ghost use Rattle.hgs_manifest.specs.Held.{found_in};
 ghost use Rattle.hgs_model.specs.History.{EachChangeset, changeset_nodes, no_history, node_at, parents_in, text_at};
@@ -19,11 +19,11 @@ ghost use Rattle.hgs_path.specs.Check.{checked};
 ghost use Rattle.hgs_phases.specs.Phases.{history_of};
 ghost use Rattle.hgs_load.specs.Asks.{at_rest};
 ghost use Rattle.hgs_reader.specs.Held.{EndsInline, HasSeparateText, HasText};
-ghost use Rattle.hgs_reader.specs.Line.{change_asks};
+ghost use Rattle.hgs_reader.specs.Line.{change_asks, line_asks, line_text};
 ghost use Rattle.hgs_load.specs.Marks.{working_answer};
 ghost use Rattle.hgs_revlog.specs.Held.{Agrees, AreWithinLimits, chunk_in};
 ghost use Rattle.hgs_revlog.specs.Log.{nodes_of};
-ghost use Rattle.hgs_revlog.specs.Text.{text_of};
+ghost use Rattle.hgs_revlog.specs.Text.{span_in, text_of};
 ghost use Rattle.hgs_model.specs.Names.{named as model_named};
 ghost use Rattle.hgs_reader.specs.Names.{named};
 ghost use Rattle.hgs_load.specs.Refresh.{first_changed, refresh_asks};
@@ -35,26 +35,26 @@ ghost use Rattle.hgs_shown.specs.Limits.{OpensWithin, ReadsWithin, IsSmallTree};
 ghost use Rattle.hgs_shown.specs.Shown.{IsShown, IsViewOf, IsViewOver, shown_repo, working_nodes};
 ghost use Rattle.hgs_bytes.specs.Bytes.{IsPrefixOf, among, same};
 ghost use Rattle.hgs_model.specs.IsRepo.{IsNextChangeset, IsRepo};
-ghost use Rattle.hgs_stands.specs.Places.{changelog_data};
+ghost use Rattle.hgs_stands.specs.Places.{changelog_data, changelog_index};
 ghost use Rattle.hgs_stands.specs.Requires.{IsInProfile};
-ghost use Rattle.hgs_stands.specs.Shows.{BeginsApart, BeginsAt, Shows};
+ghost use Rattle.hgs_stands.specs.Shows.{BeginsAt, Shows};
 ghost use Rattle.hgs_stands.specs.Stands.{Stands, mark_of};
 
-use hgs_index::laws::{
-    held_index_length, nodes_are_counted, nodes_have_places, nodes_written_then_read,
-};
+use hgs_index::laws::{nodes_are_counted, nodes_have_places};
 use hgs_index::texts::change_prints_then_reads;
 use hgs_load::laws::{files_are_read_whole, parts_make_views};
 use hgs_model::history_laws::{
-    changesets_are_held, histories_go_on, nodes_name_revisions, revisions_stay,
-    used_paths_have_revisions,
+    changesets_are_held, histories_go_on, revisions_stay, used_paths_have_revisions,
 };
 use hgs_model::laws::changelog_is_whole;
 use hgs_path::laws::tracked_without_fault;
 use hgs_reader::laws::{
     body_of_file_held, changesets_are_read, files_of_manifest_held, paths_without_row,
+    revisions_have_entries,
 };
-use hgs_revlog::laws::{entries_of_revisions, held_bytes_load, ignored_rest, places_of_nodes};
+use hgs_revlog::laws::{
+    either_form, entries_of_revisions, held_bytes_load, ignored_rest, inline_index, places_of_nodes,
+};
 use hgs_stands::laws::{entries_of_changesets, standing_trees_show};
 
 /// Over files that stand for a repository and are within the limits, a load gives its view.
@@ -64,9 +64,10 @@ pub fn load_shows_repository()
     laws_below();
 }
 
-/// A refresh over them gives the same view as a load, where the history of the old one still stands.
+/// A refresh over them gives the same view as a load, where the history of the old one still stands, and what was separate has
+/// not become inline.
 pub fn refresh_shows_repository()
-    ensures { (t : Tree) (r : Repo) (old view : View) → Stands t r → OpensWithin t r r → at_rest t open_asks ≡ Ok view → first_changed 0 old.changelog.entries view.changelog.entries ≡ None → at_rest t (refresh_asks old) ≡ Ok view }
+    ensures { (t : Tree) (r : Repo) (old view : View) → Stands t r → OpensWithin t r r → at_rest t open_asks ≡ Ok view → first_changed 0 old.changelog.entries view.changelog.entries ≡ None → (old.changelog.inline ≡ false → view.changelog.inline ≡ false) → at_rest t (refresh_asks old) ≡ Ok view }
 {
     laws_below();
 }
@@ -136,19 +137,26 @@ pub fn parents_of_entries()
 /// its node is not null. Of an inline index some bytes at its front end with the text.
 pub fn texts_are_found()
     ensures text { (t : Tree) (index chunks : List ℕ) (revisions : List Revision) (rev : ℕ) (node text : List ℕ) → BeginsAt t index chunks revisions → AreWithinLimits revisions (chunks_either (bytes_at t index) (bytes_at t chunks)) → rev < length revisions → node_at revisions rev ≡ node → text_at revisions rev ≡ text → HasText t index chunks node text }
-    ensures apart { (t : Tree) (index chunks : List ℕ) (revisions : List Revision) (rev : ℕ) (node text : List ℕ) → BeginsApart t index chunks revisions → AreWithinLimits revisions (bytes_at t chunks) → rev < length revisions → node_at revisions rev ≡ node → text_at revisions rev ≡ text → HasSeparateText t index chunks node text }
+    ensures apart { (t : Tree) (index chunks : List ℕ) (revisions : List Revision) (rev : ℕ) (node text : List ℕ) → BeginsWithRevisions (bytes_at t index) (bytes_at t chunks) revisions → AreWithinLimits revisions (bytes_at t chunks) → rev < length revisions → node_at revisions rev ≡ node → text_at revisions rev ≡ text → HasSeparateText t index chunks node text }
     ensures inline { (index data_bytes : List ℕ) (revisions : List Revision) (rev : ℕ) (node text : List ℕ) → Begins true index data_bytes revisions → AreWithinLimits revisions (chunks_apart index) → rev < length revisions → node_at revisions rev ≡ node → text_at revisions rev ≡ text → (front : List ℕ) × IsPrefixOf front index × EndsInline front node text }
     ensures not_null { (t : Tree) (index chunks : List ℕ) (revisions : List Revision) (rev : ℕ) (node : List ℕ) → BeginsAt t index chunks revisions → rev < length revisions → node_at revisions rev ≡ node → same node null_node ≡ false }
 {
     laws_below();
 }
 
-/// The changeset of a revision of a separate changelog is what the text in its chunk says.
+/// The changeset of a revision is what the text in its chunk says, which stands in the data file, or in the index of an inline
+/// changelog.
 pub fn changeset_is_read()
-    ensures { (t : Tree) (view : View) (rev : ℕ) (entry : Entry) (text : List ℕ) (change : Change) → view.changelog.inline ≡ false → slice_get view.changelog.entries rev ≡ Some entry → text_of view.changelog.entries rev (chunk_in (bytes_at t changelog_data) entry) ≡ Ok text → read_change text ≡ Ok change → at_rest t (change_asks view rev) ≡ Ok change }
+    ensures placed { (t : Tree) (view : View) (rev : ℕ) (entry : Entry) (text : List ℕ) (change : Change) → view.changelog.inline ≡ true → slice_get view.changelog.entries rev ≡ Some entry → text_of view.changelog.entries rev (take entry.stored (drop (span_in true rev entry).from (bytes_at t changelog_index))) ≡ Ok text → read_change text ≡ Ok change → at_rest t (change_asks view rev) ≡ Ok change }
+    ensures chunk { (t : Tree) (view : View) (rev : ℕ) (entry : Entry) (text : List ℕ) (change : Change) → view.changelog.inline ≡ false → slice_get view.changelog.entries rev ≡ Some entry → text_of view.changelog.entries rev (chunk_in (bytes_at t changelog_data) entry) ≡ Ok text → read_change text ≡ Ok change → at_rest t (change_asks view rev) ≡ Ok change }
 {
     changesets_are_read();
 }
+
+/// Where the changeset of a revision is read, its line says of it what the changeset does.
+pub fn lines_of_changesets()
+    ensures { (t : Tree) (view : View) (rev : ℕ) (entry : Entry) (change : Change) → slice_get view.changelog.entries rev ≡ Some entry → at_rest t (change_asks view rev) ≡ Ok change → at_rest t (line_asks view rev) ≡ Ok (line_text rev entry change) }
+{}
 
 /// Of rows that ascend each is found by its path, and a path that no file has is not. The files of a changeset have tracked
 /// paths, which pass the test of paths, and are as small as all files are.
@@ -167,14 +175,11 @@ pub(crate) fn laws_below()
     ensures { Below }
 {
     change_prints_then_reads();
-    nodes_written_then_read();
     nodes_are_counted();
     nodes_have_places();
-    held_index_length();
     changesets_are_held();
     histories_go_on();
     revisions_stay();
-    nodes_name_revisions();
     used_paths_have_revisions();
     changelog_is_whole();
     tracked_without_fault();
@@ -182,9 +187,12 @@ pub(crate) fn laws_below()
     places_of_nodes();
     ignored_rest();
     held_bytes_load();
+    either_form();
+    inline_index();
     files_are_read_whole();
     parts_make_views();
     changesets_are_read();
+    revisions_have_entries();
     files_of_manifest_held();
     body_of_file_held();
     paths_without_row();

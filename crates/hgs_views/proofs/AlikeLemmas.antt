@@ -3,7 +3,7 @@ use Rattle.std.proofs.Common.{◌≡◌, ℕ, zero, suc, List, [], ◌∷◌, �
 use Rattle.std.specs.Prelude.{slice_get, position}
 use Rattle.std.specs.List.{AllZip, list_any}
 use Rattle.hgs_bytes.specs.Bytes.{same}
-use Rattle.hgs_files.specs.Tree.{Tree, bytes_at}
+use Rattle.hgs_files.specs.Tree.{Tree}
 use Rattle.hgs_index.specs.declared.entry.Entry.{Entry}
 use Rattle.hgs_marks.specs.Bookmarks.{Mark}
 use Rattle.hgs_model.specs.History.{history}
@@ -14,8 +14,7 @@ use Rattle.hgs_revlog.specs.Log.{nodes_of, place_of}
 use Rattle.hgs_reader.specs.Heads.{is_parent, has_parent, head_line, line_unless, heads_from, heads_text}
 use Rattle.hgs_reader.specs.Shown.{shown_mark, marks_shown, marks_text, line_of_entry, parent_shown, parents_text}
 use Rattle.hgs_load.specs.View.{View}
-use Rattle.hgs_stands.specs.Places.{changelog_index, changelog_data}
-use Rattle.hgs_shown.specs.Shown.{IsViewOf}
+use Rattle.hgs_shown.specs.Shown.{IsViewOf, chunks_of_changelog, index_of_changelog}
 use Rattle.hgs_views.proofs.Below.{NodesLaw, ParentsLaw, PlaceLaw}
 
 -- the same node and the same parents
@@ -90,8 +89,8 @@ views-alike parents_law nodes_law place_law t u r view other v w =
     let a = view.changelog.entries in
     let b = other.changelog.entries in
     let revisions = (history r.changesets).changelog in
-    let n : nodes_of a ≡ nodes_of b = nodes_law (bytes_at t changelog_index) (bytes_at t changelog_data) a revisions v.entries ∙ sym (nodes_law (bytes_at u changelog_index) (bytes_at u changelog_data) b revisions w.entries) in
-    let h : history_of a ≡ history_of b = parents_law (bytes_at t changelog_index) (bytes_at t changelog_data) a revisions v.entries ∙ sym (parents_law (bytes_at u changelog_index) (bytes_at u changelog_data) b revisions w.entries) in
+    let n : nodes_of a ≡ nodes_of b = nodes_law (index_of_changelog t) (chunks_of_changelog t) a revisions v.entries ∙ sym (nodes_law (index_of_changelog u) (chunks_of_changelog u) b revisions w.entries) in
+    let h : history_of a ≡ history_of b = parents_law (index_of_changelog t) (chunks_of_changelog t) a revisions v.entries ∙ sym (parents_law (index_of_changelog u) (chunks_of_changelog u) b revisions w.entries) in
     let s = alike a b n h in
     let working = v.working ∙ sym w.working in (
       heads-alike a b a b 0 s s,

@@ -5,6 +5,7 @@ use Rattle.hgs_bytes.specs.Bytes.{IsPrefixOf, same, among}
 use Rattle.hgs_files.specs.declared.op.Op.{Op}
 use Rattle.hgs_files.specs.declared.op.Op.TheVariants.{Append}
 use Rattle.hgs_files.specs.Tree.{Tree, bytes_at, same_path, with_file, apply}
+use Rattle.hgs_index.specs.Inline.{index_apart}
 use Rattle.hgs_index.specs.Revision.{Revision}
 use Rattle.hgs_marks.specs.Bookmarks.{read_bookmarks}
 use Rattle.hgs_marks.specs.Dirstate.{read_dirstate}
@@ -13,7 +14,7 @@ use Rattle.hgs_path.specs.declared.name.Ext.TheVariants.{I, D}
 use Rattle.hgs_path.specs.StoreName.{store_name}
 use Rattle.hgs_phases.specs.Roots.{read_roots}
 use Rattle.hgs_stands.specs.Places.{requires_path, bookmarks_path, dirstate_path, roots_path, changelog_index, changelog_data, manifest_index, manifest_data}
-use Rattle.hgs_stands.specs.Shows.{BeginsApart, BeginsAt, Shows}
+use Rattle.hgs_stands.specs.Shows.{BeginsAt, Shows}
 use Rattle.hgs_views.specs.Course.{Course, IsBetween, IsCourse, IsStep, KeepsFronts, AreSame, tree_after, whole_files}
 use Rattle.hgs_views.proofs.Basics.{begins-on, same_path-eq, with_file-other, after_all-append, other-path, prefix-refl, prefix-trans}
 use Rattle.hgs_views.proofs.CourseLemmas.{stepped}
@@ -63,21 +64,12 @@ append-goes-on t path bytes apart =
 log-on : (t u : Tree) (index chunks : List ℕ) (revisions : List Revision) → GoesOn t u → BeginsAt t index chunks revisions → BeginsAt u index chunks revisions
 log-on t u index chunks revisions g b = begins-on (bytes_at t index) (bytes_at t chunks) (bytes_at u index) (bytes_at u chunks) revisions (g.fronts index) (g.fronts chunks) b
 
-apart-on : (t u : Tree) (index chunks : List ℕ) (revisions : List Revision) → GoesOn t u → BeginsApart t index chunks revisions → BeginsApart u index chunks revisions
-apart-on t u index chunks revisions g b = record {
-  index_front = b.index_front;
-  data_front = b.data_front;
-  held = b.held;
-  index_begins = prefix-trans b.index_front (bytes_at t index) (bytes_at u index) b.index_begins (g.fronts index);
-  data_begins = prefix-trans b.data_front (bytes_at t chunks) (bytes_at u chunks) b.data_begins (g.fronts chunks);
-}
-
 pub shows-on : (t u : Tree) (marked worked r : Repo) → GoesOn t u → Shows t marked worked r → Shows u marked worked r
 shows-on t u marked worked r g s = record {
   requires = record { text = s.requires.text; there = g.requires ∙ s.requires.there; known = s.requires.known; whole = s.requires.whole };
   revlogs = record {
-    whole = s.revlogs.whole ∙ sym (ap (λ l. length l / 64) (bytes-same t u changelog_index g.changelog));
-    changelog = apart-on t u changelog_index changelog_data _ g s.revlogs.changelog;
+    whole = s.revlogs.whole ∙ sym (ap (λ l. length (index_apart l) / 64) (bytes-same t u changelog_index g.changelog));
+    changelog = log-on t u changelog_index changelog_data _ g s.revlogs.changelog;
     manifest = log-on t u manifest_index manifest_data _ g s.revlogs.manifest;
     filelogs = λ path used. log-on t u (store_name path I) (store_name path D) _ g (s.revlogs.filelogs path used);
   };

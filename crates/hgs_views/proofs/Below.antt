@@ -9,6 +9,7 @@ use Rattle.hgs_index.specs.declared.entry.Entry.{Entry}
 use Rattle.hgs_index.specs.declared.node.Node.{Node}
 use Rattle.hgs_index.specs.Ancestor.{IsAncestor, IsParent, is_ancestor}
 use Rattle.hgs_index.specs.ChangeText.{Change, IsChange, change_text, read_change}
+use Rattle.hgs_index.specs.Inline.{chunks_apart, is_inline}
 use Rattle.hgs_index.specs.Manifest.{Row, AreRows, AscendFrom, manifest_text, read_manifest}
 use Rattle.hgs_index.specs.Node.{null_node}
 use Rattle.hgs_index.specs.Revision.{Revision, Parents, ParentsBefore, nodes}
@@ -26,22 +27,23 @@ use Rattle.hgs_path.specs.Check.{checked}
 use Rattle.hgs_path.specs.StoreName.{store_name}
 use Rattle.hgs_phases.specs.declared.roots.Root.{Root}
 use Rattle.hgs_phases.specs.Phases.{history_of, phases_by}
+use Rattle.hgs_revlog.specs.declared.fault.Tail.{Tail}
 use Rattle.hgs_revlog.specs.declared.fault.Tail.TheVariants.{Ignore, Refuse, Until}
 use Rattle.hgs_revlog.specs.Held.{Agrees, AreWithinLimits, EndsFirstAt, chunk_in, read_all}
-use Rattle.hgs_revlog.specs.Load.{loaded}
+use Rattle.hgs_revlog.specs.Load.{loaded, loaded_either}
 use Rattle.hgs_revlog.specs.Log.{Log, nodes_of, place_of}
-use Rattle.hgs_revlog.specs.Text.{text_of}
+use Rattle.hgs_revlog.specs.Text.{span_in, text_of}
 use Rattle.hgs_load.specs.declared.answer.ReadAnswer.{ReadAnswer}
 use Rattle.hgs_load.specs.Asks.{at_rest, MayAnswer}
 use Rattle.hgs_reader.specs.Find.{has_node, separate_asks, text_asks}
 use Rattle.hgs_reader.specs.Held.{HasSeparateText}
-use Rattle.hgs_reader.specs.Line.{change_asks}
+use Rattle.hgs_reader.specs.Line.{change_asks, line_asks, line_text}
 use Rattle.hgs_load.specs.Marks.{working_answer}
 use Rattle.hgs_load.specs.Open.{most_requires, requires_path, requires_asks, bookmarks_asks, dirstate_asks, roots_asks}
 use Rattle.hgs_load.specs.View.{View}
-use Rattle.hgs_stands.specs.Places.{changelog_data, own_files}
+use Rattle.hgs_stands.specs.Places.{changelog_data, changelog_index, own_files}
 use Rattle.hgs_stands.specs.Requires.{IsInProfile}
-use Rattle.hgs_stands.specs.Shows.{BeginsApart, BeginsAt, Shows}
+use Rattle.hgs_stands.specs.Shows.{BeginsAt, Shows}
 use Rattle.hgs_stands.specs.Stands.{Stands, changeset_entries, entries_of, mark_of}
 use Rattle.hgs_shown.specs.Found.{HasPathOf, IsFound}
 use Rattle.hgs_shown.specs.Limits.{OpensWithin, IsSmallTree}
@@ -54,7 +56,7 @@ ParentsLaw = (index data_bytes : List ℕ) (entries : List Entry) (revisions : L
 
 -- a revision of a separate revlog is what a search by its node finds
 abbrev pub TextLaw : Type 0
-TextLaw = (t : Tree) (index chunks : List ℕ) (revisions : List Revision) (rev : ℕ) (node text : List ℕ) → BeginsApart t index chunks revisions → AreWithinLimits revisions (bytes_at t chunks) → rev < length revisions → node_at revisions rev ≡ node → text_at revisions rev ≡ text → HasSeparateText t index chunks node text
+TextLaw = (t : Tree) (index chunks : List ℕ) (revisions : List Revision) (rev : ℕ) (node text : List ℕ) → BeginsWithRevisions (bytes_at t index) (bytes_at t chunks) revisions → AreWithinLimits revisions (bytes_at t chunks) → rev < length revisions → node_at revisions rev ≡ node → text_at revisions rev ≡ text → HasSeparateText t index chunks node text
 
 -- files that stand for a repository show it
 abbrev pub ShowsLaw : Type 0
@@ -131,7 +133,9 @@ pub record LoadLaws : Type 0 where
   pub count : CountLaw
   pub all_parents_are : (r : Repo) → IsRepo r → parents_in (history r.changesets).changelog ≡ all_parents r.changesets
   pub nodes : NodesLaw
+  pub entries : (index data_bytes : List ℕ) (entries : List Entry) (revisions : List Revision) → Agrees index data_bytes entries revisions → length entries ≡ length revisions
   pub loads : LoadsLaw
+  pub separate : (tail : Tail) (index : List ℕ) → is_inline index ≡ false → loaded_either tail index ≡ loaded tail index
   pub whole : (index : List ℕ) → loaded Ignore index ≡ loaded Refuse (take (64 * (length index / 64)) index)
   pub phases : (r : Repo) (entries : List Entry) (roots : List Root) (phases : List ℕ) → IsRepo r → nodes_of entries ≡ changeset_nodes r.changesets → history_of entries ≡ all_parents r.changesets → map phase_number (phases_by roots (changeset_entries r.changesets)) ≡ phases
       → map phase_number (phases_by roots entries) ≡ phases
@@ -154,6 +158,10 @@ pub record ContentLaws : Type 0 where
   pub manifest : (front all : List Changeset) → IsPrefixOf front all → IsPrefixOf (history front).manifest (history all).manifest
   pub filelogs : (front all : List Changeset) (path : List ℕ) → IsPrefixOf front all → IsPrefixOf ((history front).filelog path) ((history all).filelog path)
   pub not_null : (t : Tree) (index chunks : List ℕ) (revisions : List Revision) (rev : ℕ) (node : List ℕ) → BeginsAt t index chunks revisions → rev < length revisions → node_at revisions rev ≡ node → same node null_node ≡ false
+  pub placed : (t : Tree) (view : View) (rev : ℕ) (entry : Entry) (text : List ℕ) (change : Change) → view.changelog.inline ≡ true → slice_get view.changelog.entries rev ≡ Some entry → text_of view.changelog.entries rev (take entry.stored (drop (span_in true rev entry).from (bytes_at t changelog_index))) ≡ Ok text → read_change text ≡ Ok change
+      → at_rest t (change_asks view rev) ≡ Ok change
+  pub places : (tail : Tail) (index : List ℕ) (log : Log) (rev : ℕ) (e : Entry) → loaded_either tail index ≡ Ok log → log.inline ≡ true → slice_get log.entries rev ≡ Some e → take e.stored (drop (span_in true rev e).from index) ≡ chunk_in (chunks_apart index) e
+  pub line : (t : Tree) (view : View) (rev : ℕ) (entry : Entry) (change : Change) → slice_get view.changelog.entries rev ≡ Some entry → at_rest t (change_asks view rev) ≡ Ok change → at_rest t (line_asks view rev) ≡ Ok (line_text rev entry change)
   pub change : (t : Tree) (view : View) (rev : ℕ) (entry : Entry) (text : List ℕ) (change : Change) → view.changelog.inline ≡ false → slice_get view.changelog.entries rev ≡ Some entry → text_of view.changelog.entries rev (chunk_in (bytes_at t changelog_data) entry) ≡ Ok text → read_change text ≡ Ok change
       → at_rest t (change_asks view rev) ≡ Ok change
   pub rows : (last : List ℕ) (rows : List Row) → AscendFrom last rows → AllByRecursion (IsFound rows) rows

@@ -1,9 +1,11 @@
 -- Each changeset, its files and their bodies, while writers are at work.
-use Rattle.std.proofs.Common.{◌≡◌, ℕ, zero, suc, ◌<◌, ◌≤◌, List, [], ◌∷◌, ◌++◌, true, false, cond, length, map, ◌||◌, Some, None, Option, Result, Ok, Err, refl, sym, ◌∙◌, ap, subst, arith, append-nil, length-append, take}
-use Rattle.std.specs.Prelude.{slice_get, nat_lt}
+use Rattle.std.proofs.Common.{◌≡◌, ℕ, zero, suc, ◌<◌, ◌≤◌, List, [], ◌∷◌, ◌++◌, Bool, true, false, cond, not, length, map, ◌||◌, Some, None, Option, Result, Ok, Err, refl, sym, ◌∙◌, ap, subst, arith, append-nil, length-append, take, drop}
+use Rattle.std.specs.Prelude.{◌==◌, slice_get, nat_lt}
 use Rattle.std.specs.List.{AllByRecursion, AllZip, list_all, list_any}
 use Rattle.std.proofs.lemmas.Bool.Decides.{nat_tests}
+use Rattle.std.proofs.lemmas.List.{length-take, take-append-le}
 use Rattle.std.proofs.lemmas.List.Folds.{list_any-append}
+use Rattle.std.proofs.lemmas.Option.{slice_get_within}
 use Rattle.std.proofs.lemmas.Slice.Zip.{AllZip-long}
 use Rattle.hgs_bytes.specs.Bytes.{among, same, IsPrefixOf}
 use Rattle.hgs_files.specs.declared.op.Op.{Op}
@@ -11,11 +13,12 @@ use Rattle.hgs_files.specs.Tree.{Tree, bytes_at, after_all}
 use Rattle.hgs_index.specs.declared.entry.Entry.{Entry}
 use Rattle.hgs_index.specs.declared.kinds.Which.TheVariants.{FileText, Tree as TooMany}
 use Rattle.hgs_index.specs.ChangeText.{Change, read_change}
-use Rattle.hgs_index.specs.Either.{chunks_either}
+use Rattle.hgs_index.specs.Either.{chunk_bytes, chunks_either}
 use Rattle.hgs_index.specs.FileText.{unpacked, body_of}
+use Rattle.hgs_index.specs.Inline.{chunks_apart, is_inline}
 use Rattle.hgs_index.specs.Manifest.{Row, manifest_text, read_manifest}
 use Rattle.hgs_index.specs.Revision.{Revision}
-use Rattle.hgs_index.specs.Revlog.{BeginsWithRevisions}
+use Rattle.hgs_index.specs.Revlog.{BeginsWithRevisions, chunk_text}
 use Rattle.hgs_index.specs.Theorems.EitherLemmas.{either-begins}
 use Rattle.hgs_index.specs.TrackedPath.{is_tracked}
 use Rattle.hgs_manifest.specs.Held.{found_in}
@@ -27,31 +30,56 @@ use Rattle.hgs_path.specs.declared.name.Ext.TheVariants.{I, D}
 use Rattle.hgs_path.specs.Check.{checked}
 use Rattle.hgs_path.specs.StoreName.{store_name}
 use Rattle.hgs_revlog.specs.declared.fault.RevFault.{RevFault}
+use Rattle.hgs_revlog.specs.declared.fault.RevFault.TheVariants.{Delta, Flagged, Short}
 use Rattle.hgs_revlog.specs.declared.fault.Tail.TheVariants.{Ignore}
 use Rattle.hgs_revlog.specs.Held.{AreWithinLimits, chunk_in, read_all}
-use Rattle.hgs_revlog.specs.Load.{loaded, most_text}
-use Rattle.hgs_revlog.specs.Theorems.BehindLemmas.{loaded-count}
+use Rattle.hgs_revlog.specs.Load.{in_form, loaded, loaded_either, most_text}
 use Rattle.hgs_revlog.specs.Log.{Log}
-use Rattle.hgs_revlog.specs.Text.{text_of}
+use Rattle.hgs_revlog.specs.Text.{fitting_text, span_in, text_at as entry_text_at, text_of}
 use Rattle.hgs_load.specs.declared.answer.ReadAnswer.{ReadAnswer}
 use Rattle.hgs_load.specs.declared.answer.ReadAnswer.TheVariants.{Limit, UnknownPath}
 use Rattle.hgs_load.specs.Asks.{Asks, answer, at_rest, then_asks, MayAnswer}
 use Rattle.hgs_reader.specs.Contents.{most_files, most_file_text, rows_answer, rows_asks, tree_asks, files_text, files_asks, tracked_node, file_node, body_answer, body_asks, cat_asks}
 use Rattle.hgs_reader.specs.Find.{text_asks}
-use Rattle.hgs_reader.specs.Line.{changeset_asks, chunk_asks, change_asks, change_at, change_of_chunk, change_of_text, line_asks, line_at, line_of_entry, line_of_change, line_text}
+use Rattle.hgs_reader.specs.Line.{change_asks, change_at, line_asks, line_at, line_text}
 use Rattle.hgs_load.specs.View.{View}
 use Rattle.hgs_stands.specs.Places.{changelog_index, changelog_data, manifest_index, manifest_data}
 use Rattle.hgs_shown.specs.Limits.{IsSmallTree}
+use Rattle.hgs_stands.specs.Theorems.FormLemmas.{apart-held}
 use Rattle.hgs_shown.specs.Found.{HasPathOf, IsFound}
+use Rattle.hgs_shown.specs.Shown.{chunks_of_changelog, index_of_changelog}
 use Rattle.hgs_views.specs.Answered.{OnlyAnswers, IsFileAnswered, IsAnswered}
 use Rattle.hgs_views.specs.Course.{Course, IsBetween, IsCourse, OpensAlong, ReadsAlong, tree_after}
 use Rattle.hgs_views.specs.Moments.{StaysAt}
 use Rattle.hgs_views.specs.Seen.{Numbers, IsViewAt}
-use Rattle.hgs_views.proofs.Basics.{and-left, and-right, prefix-trans, part_is, may-front, slice_get-front}
-use Rattle.hgs_views.proofs.LoadLemmas.{below}
+use Rattle.hgs_views.proofs.Basics.{and-left, and-right, prefix-refl, prefix-trans, may-front, slice_get-front}
+use Rattle.hgs_views.proofs.FormLemmas.{out-of-form, plain-chunks}
+use Rattle.hgs_views.proofs.LoadLemmas.{below, chunks-stay, form-at}
 use Rattle.hgs_views.proofs.MomentLemmas.{between-later}
 use Rattle.hgs_views.proofs.Below.{ContentLaws}
-use Rattle.hgs_views.proofs.OnlyLemmas.{Only, later-end, only-given, only-then, only-chunk}
+use Rattle.hgs_views.proofs.OnlyLemmas.{Only, later-end, only-changeset, only-given, only-then}
+
+-- ---- chunks
+
+-- a chunk of which a text is read is whole
+whole-chunk : (entries : List Entry) (rev : ℕ) (chunk : List ℕ) (e : Entry) (text : List ℕ) → slice_get entries rev ≡ Some e → text_of entries rev chunk ≡ Ok text → e.stored ≤ length chunk
+whole-chunk entries rev chunk e text at read = by (not (e.flags == 0)) (not (e.base == rev)) (nat_lt (length chunk) e.stored) refl (sym (ap (entry_text_at entries rev chunk) at) ∙ read)
+  where
+    enough : (n m : ℕ) → nat_lt n m ≡ false → m ≤ n
+    enough n m h = grind (arith, nat_tests, h)
+
+    by : (a b c : Bool) → nat_lt (length chunk) e.stored ≡ c → cond a (Err (Flagged rev)) (cond b (Err (Delta rev)) (cond c (Err (Short rev)) (fitting_text entries rev e (chunk_text chunk)))) ≡ Ok text → e.stored ≤ length chunk
+    by true b c s r = cc
+    by false true c s r = cc
+    by false false true s r = cc
+    by false false false s r = enough (length chunk) e.stored s
+
+-- what stands whole in a front stands so in all
+span-longer : (front more : List ℕ) (from n : ℕ) → n ≤ length (take n (drop from front)) → take n (drop from (front ++ more)) ≡ take n (drop from front)
+span-longer front more zero n le = take-append-le n front more (let l = length-take n front in omega (arith, l, le))
+span-longer [] more (suc from) zero le = refl
+span-longer [] more (suc from) (suc n) le = absurd (omega (arith, le))
+span-longer (b ∷ front) more (suc from) n le = span-longer front more from n le
 
 -- ---- fronts
 
@@ -77,9 +105,6 @@ get-map f (y ∷ xs) (suc rev) z e = get-map f xs rev z e
 
 not_above : (most n : ℕ) → n ≤ most → nat_lt most n ≡ false
 not_above most n h = grind (arith, nat_tests, h)
-
-entry-same : (e f : Entry) (o : Option Entry) → o ≡ Some e → o ≡ Some f → e ≡ f
-entry-same e f o a b = cc
 
 log-same : (a b : Log) (r : Result Log RevFault) → r ≡ Ok a → r ≡ Ok b → a ≡ b
 log-same a b r p q = cc
@@ -136,57 +161,85 @@ module _ (x : Course) (first last : List Op) (is : IsCourse x first last) (opens
       → Only x.start now last (text_asks index chunks node) (Ok text)
   text-only now store index chunks revisions rev node text apart lt at is stays y m = law.texts x.start store now last index chunks revisions rev node text y stays apart lt at is m
 
-  -- the texts of the changelog are read from each tree
-  texts-at : (c : ℕ) (now : List Op) (log : Log) → IsReached c now → loaded Ignore (bytes_at (x.store c) changelog_index) ≡ Ok log → read_all log.entries (bytes_at (tree_after x now) changelog_data) ≡ Ok (history (x.repo c).changesets).changelog
-  texts-at c now log n loads =
-      let store = bytes_at (x.store c) changelog_index in
-      let chunks = bytes_at (x.store c) changelog_data in
-      let data_bytes = bytes_at (tree_after x now) changelog_data in
+  -- the texts of the changelog are read from chunks that begin with those of the files of a number
+  texts-in : (c : ℕ) (now : List Op) (log : Log) (data_bytes : List ℕ) → IsReached c now → in_form log.inline (loaded Ignore (index_of_changelog (x.store c))) ≡ Ok log → IsPrefixOf (chunks_of_changelog (x.store c)) data_bytes → length data_bytes ≤ length (chunks_of_changelog (tree_after x now))
+      → read_all log.entries data_bytes ≡ Ok (history (x.repo c).changesets).changelog
+  texts-in c now log data_bytes n loads begun few =
+      let store = index_of_changelog (x.store c) in
+      let chunks = chunks_of_changelog (x.store c) in
       let revisions = (history (x.repo c).changesets).changelog in
-      let held_there = (is.holds c (low c now n)).changelog in
+      let held_there = apart-held (bytes_at (x.store c) changelog_index) (bytes_at (x.store c) changelog_data) revisions (is.holds c (low c now n)).changelog in
       let size = law.size store chunks revisions held_there in
-      let limits = within-front revisions (history (x.repo (x.published now)).changesets).changelog data_bytes (law.changelog (x.repo c).changesets (x.repo (x.published now)).changesets (goes c now n)) (opens now n.at).changelog in
-      let begins : BeginsWithRevisions store data_bytes revisions = record { index_front = store; data_front = chunks; held = held_there; index_begins = ([], sym (append-nil store)); data_begins = (is.stays now c n.at n.top).changelog_chunks } in
+      let all = within-front revisions (history (x.repo (x.published now)).changesets).changelog (chunks_of_changelog (tree_after x now)) (law.changelog (x.repo c).changesets (x.repo (x.published now)).changesets (goes c now n)) (opens now n.at).changelog in
+      let limits : AreWithinLimits revisions data_bytes = record { few = all.few; texts = all.texts; data_end = (let room = all.data_end in omega (arith, room, few)) } in
+      let begins : BeginsWithRevisions store data_bytes revisions = record { index_front = store; data_front = chunks; held = held_there; index_begins = ([], sym (append-nil store)); data_begins = begun } in
       let h = law.loads store data_bytes revisions begins (omega (arith, size)) limits in
-      ap (λ (l : Log). read_all l.entries data_bytes) (log-same log h.0 (loaded Ignore store) loads h.1) ∙ h.2
+      let o = out-of-form log.inline (loaded Ignore store) log loads in
+      ap (λ l. read_all l data_bytes) (sym o.2 ∙ ap (λ (l : Log). l.entries) (log-same o.0 h.0 (loaded Ignore store) o.1 h.1)) ∙ h.2
 
-  module _ (c : ℕ) (view : View) (rev : ℕ) (d : Changeset) (loads : loaded Ignore (bytes_at (x.store c) changelog_index) ≡ Ok view.changelog) (found : slice_get (x.repo c).changesets rev ≡ Some d) (h : IsHeld (history (take rev (x.repo c).changesets)) (history (x.repo c).changesets) rev d) where
-    entry-at : (now : List Op) → IsReached c now → (e : Entry) × (slice_get view.changelog.entries rev ≡ Some e) × (text_of view.changelog.entries rev (chunk_in (bytes_at (tree_after x now) changelog_data) e) ≡ Ok h.revision.text)
+  -- so they are from each tree, and from the files of the number
+  texts-at : (c : ℕ) (now : List Op) (log : Log) → IsReached c now → in_form log.inline (loaded Ignore (index_of_changelog (x.store c))) ≡ Ok log → read_all log.entries (chunks_of_changelog (tree_after x now)) ≡ Ok (history (x.repo c).changesets).changelog
+  texts-at c now log n loads = texts-in c now log (chunks_of_changelog (tree_after x now)) n loads (chunks-stay x first last is now c n.at n.top) (omega arith)
+
+  store-texts : (c : ℕ) (now : List Op) (log : Log) → IsReached c now → in_form log.inline (loaded Ignore (index_of_changelog (x.store c))) ≡ Ok log → read_all log.entries (chunks_of_changelog (x.store c)) ≡ Ok (history (x.repo c).changesets).changelog
+  store-texts c now log n loads =
+      let kept = chunks-stay x first last is now c n.at n.top in
+      let longer = ap length kept.1 in
+      let both = length-append (chunks_of_changelog (x.store c)) kept.0 in
+      texts-in c now log (chunks_of_changelog (x.store c)) n loads (prefix-refl (chunks_of_changelog (x.store c))) (omega (arith, longer, both))
+
+  module _ (c : ℕ) (view : View) (rev : ℕ) (d : Changeset) (loads : in_form view.changelog.inline (loaded Ignore (index_of_changelog (x.store c))) ≡ Ok view.changelog) (form : 0 < length view.changelog.entries → view.changelog.inline ≡ is_inline (bytes_at (x.store c) changelog_index))
+      (found : slice_get (x.repo c).changesets rev ≡ Some d) (h : IsHeld (history (take rev (x.repo c).changesets)) (history (x.repo c).changesets) rev d) where
+    entry-at : (now : List Op) → IsReached c now → (e : Entry) × (slice_get view.changelog.entries rev ≡ Some e) × (text_of view.changelog.entries rev (chunk_in (chunks_of_changelog (tree_after x now)) e) ≡ Ok h.revision.text)
     entry-at now n =
-        let entries = view.changelog.entries in
-        let data_bytes = bytes_at (tree_after x now) changelog_data in
-        law.entry entries data_bytes (history (x.repo c).changesets).changelog rev h.revision (texts-at c now view.changelog n loads) h.there
+        let data_bytes = chunks_of_changelog (tree_after x now) in
+        law.entry view.changelog.entries data_bytes (history (x.repo c).changesets).changelog rev h.revision (texts-at c now view.changelog n loads) h.there
 
     change-read : read_change h.revision.text ≡ Ok h.change
     change-read = ap read_change h.text_is ∙ law.change_text h.change h.in_form
 
-    separate : view.changelog.inline ≡ false
-    separate = (loaded-count (bytes_at (x.store c) changelog_index) view.changelog loads).2
+    -- the form of the view is that of the files of its number, and of each tree
+    form-store : (now : List Op) → IsReached c now → view.changelog.inline ≡ is_inline (bytes_at (x.store c) changelog_index)
+    form-store now n = let e = entry-at now n in form (let within = slice_get_within view.changelog.entries rev e.0 e.1 in omega (arith, within))
 
-    pub change-only : (from : List Op) → IsReached c from → Only x.start from last (change_asks view rev) (Ok h.change)
-    change-only from r =
-        subst (λ b. Only x.start from last (changeset_asks b rev (slice_get view.changelog.entries rev) (change_at view rev)) (Ok h.change)) (sym separate)
-        (only-chunk x.start changelog_data (slice_get view.changelog.entries rev) (change_at view rev) (Ok h.change) from last
-        (λ now there. let e = entry-at now (reached-later c from now r there) in
-        ap (λ b. at_rest (tree_after x now) (changeset_asks b rev (slice_get view.changelog.entries rev) (change_at view rev))) (sym separate) ∙ law.change (tree_after x now) view rev e.0 h.revision.text h.change separate e.1 e.2 change-read))
+    form-now : (now : List Op) → IsReached c now → is_inline (bytes_at (tree_after x now) changelog_index) ≡ is_inline (bytes_at (x.store c) changelog_index)
+    form-now now n = form-at x first last is now c n.at n.top (let within = slice_get_within (history (x.repo c).changesets).changelog rev h.revision h.there in omega (arith, within))
 
-    pub line-only : (entry : Entry) → slice_get view.changelog.entries rev ≡ Some entry → (from : List Op) → IsReached c from → Only x.start from last (line_asks view rev) (Ok (line_text rev entry h.change))
-    line-only entry at from r =
-        subst (λ b. Only x.start from last (changeset_asks b rev (slice_get view.changelog.entries rev) (line_at view rev)) (Ok (line_text rev entry h.change))) (sym separate)
-        (only-chunk x.start changelog_data (slice_get view.changelog.entries rev) (line_at view rev) (Ok (line_text rev entry h.change)) from last (λ now there. one now (reached-later c from now r there)))
+    -- in an inline index the chunk stands where it stands in the files of the number
+    placed-at : (now : List Op) → IsReached c now → view.changelog.inline ≡ true → at_rest (tree_after x now) (change_asks view rev) ≡ Ok h.change
+    placed-at now n inline =
+        let log = view.changelog in
+        let index = bytes_at (x.store c) changelog_index in
+        let says : is_inline index ≡ true = sym (form-store now n) ∙ inline in
+        let e = law.entry log.entries (chunks_of_changelog (x.store c)) (history (x.repo c).changesets).changelog rev h.revision (store-texts c now log n loads) h.there in
+        let span = span_in true rev e.0 in
+        let either : loaded_either Ignore index ≡ Ok log = ap (λ b. in_form b (loaded Ignore (index_of_changelog (x.store c)))) (sym (form-store now n)) ∙ loads in
+        let chunks : chunk_in (chunks_apart index) e.0 ≡ chunk_in (chunks_of_changelog (x.store c)) e.0 = ap (λ b. chunk_in (chunk_bytes b index (bytes_at (x.store c) changelog_data)) e.0) (sym says) in
+        let place = law.places Ignore index log rev e.0 either inline e.1 ∙ chunks in
+        let whole = whole-chunk log.entries rev (chunk_in (chunks_of_changelog (x.store c)) e.0) e.0 h.revision.text e.1 e.2 in
+        let kept = (is.stays now c n.at n.top).changelog in
+        let span_now : take e.0.stored (drop span.from (bytes_at (tree_after x now) changelog_index)) ≡ chunk_in (chunks_of_changelog (x.store c)) e.0 =
+        ap (λ l. take e.0.stored (drop span.from l)) kept.1 ∙ span-longer index kept.0 span.from e.0.stored (subst (λ l. e.0.stored ≤ length l) (sym place) whole) ∙ place in
+        law.placed (tree_after x now) view rev e.0 h.revision.text h.change inline e.1 (ap (text_of log.entries rev) span_now ∙ e.2) change-read
+
+    change-at : (now : List Op) → IsReached c now → at_rest (tree_after x now) (change_asks view rev) ≡ Ok h.change
+    change-at now n = by view.changelog.inline refl
       where
-        one : (now : List Op) → IsReached c now → at_rest (tree_after x now) (chunk_asks changelog_data (slice_get view.changelog.entries rev) (line_at view rev)) ≡ Ok (line_text rev entry h.change)
-        one now n =
+        by : (b : Bool) → view.changelog.inline ≡ b → at_rest (tree_after x now) (change_asks view rev) ≡ Ok h.change
+        by true inline = placed-at now n inline
+        by false separate =
             let t = tree_after x now in
             let e = entry-at now n in
-            let chunk = chunk_in (bytes_at t changelog_data) entry in
-            let same_entry : e.0 ≡ entry = entry-same e.0 entry (slice_get view.changelog.entries rev) e.1 at in
-            let read : text_of view.changelog.entries rev chunk ≡ Ok h.revision.text = ap (λ z. text_of view.changelog.entries rev (chunk_in (bytes_at t changelog_data) z)) (sym same_entry) ∙ e.2 in
-            ap (λ o. at_rest t (chunk_asks changelog_data o (line_at view rev))) at
-            ∙ ap (line_at view rev) (part_is (t changelog_data) entry.offset entry.stored)
-            ∙ ap (line_of_entry view rev chunk) at
-            ∙ ap (λ q. line_of_change rev entry (change_of_chunk rev q)) read
-            ∙ ap (λ q. line_of_change rev entry (change_of_text rev q)) change-read
+            let plain = form-now now n ∙ sym (form-store now n) ∙ separate in
+            let chunks = plain-chunks (bytes_at t changelog_index) (bytes_at t changelog_data) plain in
+            law.change t view rev e.0 h.revision.text h.change separate e.1 (ap (λ l. text_of view.changelog.entries rev (chunk_in l e.0)) (sym chunks) ∙ e.2) change-read
+
+    pub change-only : (from : List Op) → IsReached c from → Only x.start from last (change_asks view rev) (Ok h.change)
+    change-only from r = only-changeset x.start view.changelog.inline rev (slice_get view.changelog.entries rev) (change_at view rev) (Ok h.change) from last (λ now there. change-at now (reached-later c from now r there))
+
+    pub line-only : (entry : Entry) → slice_get view.changelog.entries rev ≡ Some entry → (from : List Op) → IsReached c from → Only x.start from last (line_asks view rev) (Ok (line_text rev entry h.change))
+    line-only entry at from r = only-changeset x.start view.changelog.inline rev (slice_get view.changelog.entries rev) (line_at view rev) (Ok (line_text rev entry h.change)) from last
+        (λ now there. law.line (tree_after x now) view rev entry h.change at (change-at now (reached-later c from now r there)))
 
     small : (from : List Op) → IsReached c from → IsSmallTree d.tree
     small from r =
@@ -303,12 +356,12 @@ module _ (x : Course) (first last : List Op) (is : IsCourse x first last) (opens
         where
           named : (e : Entry) → slice_get view.changelog.entries rev ≡ Some e → slice_get (changeset_nodes (x.repo c).changesets) rev ≡ Some e.node.0
           named e at =
-              let all = law.nodes (bytes_at (x.store v.read) changelog_index) (bytes_at (x.store v.read) changelog_data) view.changelog.entries (history (x.repo v.read).changesets).changelog at_view.entries in
+              let all = law.nodes (index_of_changelog (x.store v.read)) (chunks_of_changelog (x.store v.read)) view.changelog.entries (history (x.repo v.read).changesets).changelog at_view.entries in
               ap (λ n. slice_get (changeset_nodes (x.repo n).changesets) rev) (sym same_number) ∙ ap (λ l. slice_get l rev) (sym all) ∙ get-map (λ (z : Entry). z.node.0) view.changelog.entries rev e at
 
           parents : (e : Entry) → slice_get view.changelog.entries rev ≡ Some e → (e.p1, e.p2) ≡ d.parents
           parents e at =
-              let lists = law.parents (bytes_at (x.store v.read) changelog_index) (bytes_at (x.store v.read) changelog_data) view.changelog.entries (history (x.repo v.read).changesets).changelog at_view.entries in
+              let lists = law.parents (index_of_changelog (x.store v.read)) (chunks_of_changelog (x.store v.read)) view.changelog.entries (history (x.repo v.read).changesets).changelog at_view.entries in
               let lists_c = lists ∙ ap (λ n. parents_in (history (x.repo n).changesets).changelog) same_number in
               some-is (e.p1, e.p2) h.revision.parents
               (sym (get-map (λ (z : Entry). (z.p1, z.p2)) view.changelog.entries rev e at)
@@ -320,4 +373,4 @@ module _ (x : Course) (first last : List Op) (is : IsCourse x first last) (opens
   pub contents-along : (v : Numbers) (view : View) (seen : List Op) (rev : ℕ) (d : Changeset) → IsViewAt x v view → IsBetween first last seen → v.read ≤ x.published seen → slice_get (x.repo v.read).changesets rev ≡ Some d → IsAnswered x seen last view (x.repo v.read).changesets rev d
   contents-along v view seen rev d at_view at top found =
       let r : IsReached v.read seen = record { at = at; top = top } in
-      answered-of v.read view rev d at_view.loads found (law.held (x.repo v.read).changesets (is.repository v.read (low v.read seen r)).changesets rev d found) seen r v refl at_view
+      answered-of v.read view rev d at_view.loads at_view.form found (law.held (x.repo v.read).changesets (is.repository v.read (low v.read seen r)).changesets rev d found) seen r v refl at_view

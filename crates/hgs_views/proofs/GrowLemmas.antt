@@ -5,6 +5,7 @@ use Rattle.hgs_bytes.specs.Bytes.{IsPrefixOf, among}
 use Rattle.hgs_files.specs.declared.op.Op.TheVariants.{Append}
 use Rattle.hgs_files.specs.Tree.{Tree, bytes_at, same_path, with_file}
 use Rattle.hgs_index.specs.Either.{HoldsEither}
+use Rattle.hgs_index.specs.Inline.{index_apart}
 use Rattle.hgs_index.specs.Revlog.{HoldsRevisions}
 use Rattle.hgs_index.specs.Theorems.EitherLemmas.{either-begins}
 use Rattle.hgs_model.specs.History.{history, uses}
@@ -17,6 +18,8 @@ use Rattle.hgs_stands.specs.Places.{own_files, changelog_index, changelog_data, 
 use Rattle.hgs_stands.specs.Samples.{two_drafts, two_drafts_files}
 use Rattle.hgs_stands.specs.Shows.{BeginsAt, Shows}
 use Rattle.hgs_stands.specs.Stands.{HoldsAt, HoldsChangesets, IsClean}
+use Rattle.hgs_stands.specs.Theorems.FormLemmas.{apart-held}
+use Rattle.hgs_shown.specs.Shown.{chunks_of_changelog, index_of_changelog}
 use Rattle.hgs_views.specs.Course.{IsCourse, KeepsFronts, tree_after}
 use Rattle.hgs_views.specs.Samples.{then_repo, then_tree, committing, no_files, unmarked_files}
 use Rattle.hgs_views.proofs.Below.{ApartLaw, CountLaw, RootsLaw, ShowsLaw, SizeLaw}
@@ -57,9 +60,10 @@ module _ (law : GrowLaws) (t u : Tree) (r s : Repo) (entries : List ℕ) (r_is :
   behind-log : (path : List ℕ) (ext : Ext) → bytes_at behind (store_name path ext) ≡ bytes_at u (store_name path ext)
   behind-log path ext = log-bytes law.apart before changelog_index (Some (bytes_at before changelog_index ++ entries)) path ext refl ∙ before-log path ext
 
-  whole : length r.changesets ≡ length (bytes_at t changelog_index) / 64
+  whole : length r.changesets ≡ length (index_of_changelog t) / 64
   whole =
-      let size = law.size (bytes_at t changelog_index) (bytes_at t changelog_data) (history r.changesets).changelog old.changelog in
+      let held = apart-held (bytes_at t changelog_index) (bytes_at t changelog_data) (history r.changesets).changelog old.changelog in
+      let size = law.size (index_of_changelog t) (chunks_of_changelog t) (history r.changesets).changelog held in
       let count = law.count r r_is in
       omega (arith, size, count)
 
@@ -100,14 +104,8 @@ module _ (law : GrowLaws) (t u : Tree) (r s : Repo) (entries : List ℕ) (r_is :
   shown-behind = record {
     requires = record { text = shows.requires.text; there = shows.requires.there; known = shows.requires.known; whole = shows.requires.whole };
     revlogs = record {
-      whole = shows.revlogs.whole ∙ ap (λ l. length l / 64) joined;
-      changelog = (let b = shows.revlogs.changelog in record {
-        index_front = b.index_front;
-        data_front = b.data_front;
-        held = b.held;
-        index_begins = subst (IsPrefixOf b.index_front) joined b.index_begins;
-        data_begins = b.data_begins;
-      });
+      whole = shows.revlogs.whole ∙ ap (λ l. length (index_apart l) / 64) joined;
+      changelog = begins-same (bytes_at u changelog_index) (bytes_at u changelog_data) (bytes_at t changelog_index ++ entries) (bytes_at u changelog_data) (history s.changesets).changelog (sym joined) refl shows.revlogs.changelog;
       manifest = shows.revlogs.manifest;
       filelogs = new-log;
     };

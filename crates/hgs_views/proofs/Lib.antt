@@ -2,6 +2,7 @@ pub mod Basics
 pub mod Below
 pub mod MomentLemmas
 pub mod PhaseLemmas
+pub mod FormLemmas
 pub mod LoadLemmas
 pub mod RefreshLemmas
 pub mod OnlyLemmas

@@ -14,8 +14,8 @@ use Rattle.hgs_revlog.specs.Text.{text_of}
 use Rattle.hgs_load.specs.declared.answer.ReadAnswer.{ReadAnswer}
 use Rattle.hgs_load.specs.Asks.{Asks, answer, read, part_of, at_rest, then_asks, MayAnswer}
 use Rattle.hgs_reader.specs.Find.{has_node, is_last_of, bytes_until, text_at_asks, text_answer}
-use Rattle.hgs_reader.specs.Line.{chunk_asks}
-use Rattle.hgs_load.specs.View.{piece_length}
+use Rattle.hgs_reader.specs.Line.{changeset_asks, chunk_asks}
+use Rattle.hgs_load.specs.View.{changelog_data, piece_length}
 use Rattle.hgs_views.specs.Course.{IsBetween}
 use Rattle.hgs_views.proofs.Below.{TextLaws}
 use Rattle.hgs_views.proofs.Basics.{prefix-refl, prefix-trans, part_is, may-front}
@@ -68,6 +68,13 @@ pub only-chunk : {A : Type 0} (start : Tree) (path : List ℕ) (o : Option Entry
     → Only start from last (chunk_asks path o given) z
 only-chunk start path None given z from last each y m = m.1 ∙ each from (record { begins = prefix-refl from; ends = m.0 })
 only-chunk start path (Some e) given z from last each y m = m.2.1 ∙ each m.0 (record { begins = m.1; ends = m.2.0 })
+
+-- in the data file, or in an inline index
+pub only-changeset : {A : Type 0} (start : Tree) (inline : Bool) (rev : ℕ) (o : Option Entry) (given : List ℕ → Result A ReadAnswer) (z : Result A ReadAnswer) (from last : List Op) → ((now : List Op) → IsBetween from last now → at_rest (after_all now start) (changeset_asks inline rev o given) ≡ z)
+    → Only start from last (changeset_asks inline rev o given) z
+only-changeset start false rev o given z from last each y m = only-chunk start changelog_data o given z from last each y m
+only-changeset start true rev None given z from last each y m = m.1 ∙ each from (record { begins = prefix-refl from; ends = m.0 })
+only-changeset start true rev (Some e) given z from last each y m = m.2.1 ∙ each m.0 (record { begins = m.1; ends = m.2.0 })
 
 pub only-text : (start : Tree) (index chunks : List ℕ) (log : Log) (o : Option ℕ) (z : Result (List ℕ) ReadAnswer) (from last : List Op) → ((now : List Op) → IsBetween from last now → at_rest (after_all now start) (text_at_asks index chunks log o) ≡ z)
     → Only start from last (text_at_asks index chunks log o) z

@@ -7,6 +7,7 @@ use Rattle.hgs_bytes.specs.Bytes.{IsPrefixOf}
 use Rattle.hgs_files.specs.declared.op.Op.{Op}
 use Rattle.hgs_files.specs.Tree.{bytes_at}
 use Rattle.hgs_index.specs.declared.entry.Entry.{Entry}
+use Rattle.hgs_index.specs.Inline.{is_inline}
 use Rattle.hgs_model.specs.History.{history}
 use Rattle.hgs_revlog.specs.declared.fault.RevFault.{RevFault}
 use Rattle.hgs_revlog.specs.declared.fault.Tail.TheVariants.{Ignore}
@@ -25,11 +26,14 @@ use Rattle.hgs_load.specs.Theorems.FormLemmas.{IsApart}
 use Rattle.hgs_load.specs.Theorems.TailLemmas.{entry-itself, tail-answers}
 use Rattle.hgs_revlog.specs.Theorems.BehindLemmas.{loaded-count}
 use Rattle.hgs_stands.specs.Places.{bookmarks_path, dirstate_path, roots_path, changelog_index, changelog_data}
+use Rattle.hgs_stands.specs.Theorems.FormLemmas.{apart-held, plain-apart}
+use Rattle.hgs_shown.specs.Shown.{chunks_of_changelog, index_of_changelog}
 use Rattle.hgs_views.specs.Course.{Course, IsBetween, IsCourse, OpensAlong, tree_after}
 use Rattle.hgs_views.specs.Seen.{Numbers, NoneFell, AreReadBetween, IsGivenFew, IsLoadedBetween}
 use Rattle.hgs_views.proofs.Basics.{prefix-refl, prefix-trans, may-front}
 use Rattle.hgs_views.proofs.CourseLemmas.{course-later, itself-between}
-use Rattle.hgs_views.proofs.LoadLemmas.{LoadsAt, LogStep, front-of-longer, below, loads-as, loads-at, is-apart, pieces-step, said-step, last-step, room, whole-stays, answered, in-order, viewed}
+use Rattle.hgs_views.proofs.FormLemmas.{out-of-form}
+use Rattle.hgs_views.proofs.LoadLemmas.{IsPlain, LoadsAt, LogStep, answered, below, found-at, front-of-longer, in-order, index-stays, is-apart, last-step, once-step, plain-from, plain-loads, room, said-step, store-plain, viewed, whole-stays}
 use Rattle.hgs_views.proofs.MomentLemmas.{between-later, pieces-end}
 use Rattle.hgs_views.proofs.NewLemmas.{all_bytes, answer-is, both-asked, go-apart, go-front, pieces-asked, read-again, tail-few, whole-few, whole-log-few}
 use Rattle.hgs_views.proofs.OnlyLemmas.{later-end}
@@ -76,20 +80,21 @@ loaded-front front rest small end h g =
 -- ---- the refresh
 
 module _ (x : Course) (first last : List Op) (is : IsCourse x first last) where
-  -- the index of an earlier number stands at the front of a later one's
-  pub store-front : (law : LoadLaws) (log : List Op) (i j : ℕ) → IsBetween first last log → i ≤ j → j ≤ x.published log → IsPrefixOf (bytes_at (x.store i) changelog_index) (bytes_at (x.store j) changelog_index)
+  -- the index of an earlier number stands, taken apart, at the front of a later one's
+  pub store-front : (law : LoadLaws) (log : List Op) (i j : ℕ) → IsBetween first last log → i ≤ j → j ≤ x.published log → IsPrefixOf (index_of_changelog (x.store i)) (index_of_changelog (x.store j))
   store-front law log i j at le top =
       let low = below x first last is log at in
-      let i_index = bytes_at (x.store i) changelog_index in
-      let j_index = bytes_at (x.store j) changelog_index in
       let i_revisions = (history (x.repo i).changesets).changelog in
       let j_revisions = (history (x.repo j).changesets).changelog in
-      let i_size = law.size i_index (bytes_at (x.store i) changelog_data) i_revisions (is.holds i (omega (arith, le, top, low))).changelog in
-      let j_size = law.size j_index (bytes_at (x.store j) changelog_data) j_revisions (is.holds j (omega (arith, top, low))).changelog in
+      let i_held = apart-held (bytes_at (x.store i) changelog_index) (bytes_at (x.store i) changelog_data) i_revisions (is.holds i (omega (arith, le, top, low))).changelog in
+      let j_held = apart-held (bytes_at (x.store j) changelog_index) (bytes_at (x.store j) changelog_data) j_revisions (is.holds j (omega (arith, top, low))).changelog in
+      let i_size = law.size (index_of_changelog (x.store i)) (chunks_of_changelog (x.store i)) i_revisions i_held in
+      let j_size = law.size (index_of_changelog (x.store j)) (chunks_of_changelog (x.store j)) j_revisions j_held in
       let goes = law.changelog (x.repo i).changesets (x.repo j).changesets (is.goes_on i j le (omega (arith, top, low))) in
       let longer = ap length goes.1 in
       let both = length-append i_revisions goes.0 in
-      front-of-longer i_index j_index (bytes_at (tree_after x log) changelog_index) (is.stays log i at (omega (arith, le, top))).changelog (is.stays log j at top).changelog (omega (arith, i_size, j_size, longer, both))
+      front-of-longer (index_of_changelog (x.store i)) (index_of_changelog (x.store j)) (index_of_changelog (tree_after x log)) (index-stays x first last is log i at (omega (arith, le, top))) (index-stays x first last is log j at top)
+      (omega (arith, i_size, j_size, longer, both))
 
   none-fell : (ended from : List Op) (v w : Numbers) → AreReadBetween x first ended v → IsPrefixOf ended from → IsPrefixOf from last → x.marked from ≤ w.marked → x.worked from ≤ w.worked → x.published from ≤ w.read → w.read ≤ w.rooted → NoneFell v w
   none-fell ended from v w r then on marked worked read rooted =
@@ -135,29 +140,57 @@ module _ (x : Course) (first last : List Op) (is : IsCourse x first last) where
       let low = loaded-below ended from v loaded_old.reads then on in
       let up = (is.rises from log from_at at).published in
       let front = store-front law log v.read (x.published log) log_at (omega (arith, low, up)) (omega arith) in
-      loaded-front (bytes_at (x.store v.read) changelog_index) front.0 old.changelog found loaded_old.is_view.loads (ap (loaded Ignore) (sym front.1) ∙ is_at.loads)
+      let was = out-of-form old.changelog.inline (loaded Ignore (index_of_changelog (x.store v.read))) old.changelog loaded_old.is_view.loads in
+      let now = out-of-form found.inline (loaded Ignore (index_of_changelog (x.store (x.published log)))) found is_at.loads in
+      subst (λ l. IsPrefixOf l found.entries) was.2
+      (subst (IsPrefixOf was.0.entries) now.2 (loaded-front (index_of_changelog (x.store v.read)) front.0 was.0 now.0 was.1 (ap (loaded Ignore) (sym front.1) ∙ now.1)))
 
   kept-at : (law : LoadLaws) (ended from : List Op) (v : Numbers) (old : View) → IsLoadedBetween x first ended v old → IsPrefixOf ended from → IsPrefixOf from last → (log : List Op) (found : Log) → IsBetween from last log → LoadsAt x (x.published log) found → first_changed 0 old.changelog.entries found.entries ≡ None
   kept-at law ended from v old loaded_old then on log found at is_at =
       let kept = begins-at law ended from v old loaded_old then on log found at is_at in
       ap (first_changed 0 old.changelog.entries) kept.1 ∙ unchanged 0 old.changelog.entries kept.0
 
-  -- what the index had before the last of the old entries stands in front of it
-  old-front : (law : LoadLaws) (ended from : List Op) (v : Numbers) (old : View) → IsLoadedBetween x first ended v old → IsPrefixOf ended from → IsPrefixOf from last
+  -- what a separate index had before the last of the old entries stands in front of it
+  old-front : (law : LoadLaws) (ended from : List Op) (v : Numbers) (old : View) → IsLoadedBetween x first ended v old → IsPrefixOf ended from → IsPrefixOf from last → is_inline (bytes_at (x.store v.read) changelog_index) ≡ false
       → (front : List ℕ) × (length front ≡ last_place old.changelog.entries) × IsPrefixOf front (bytes_at (tree_after x from) changelog_index)
-  old-front law ended from v old loaded_old then on =
+  old-front law ended from v old loaded_old then on plain =
       let from_at : IsBetween first last from = record { begins = began-by ended from v loaded_old.reads then; ends = on } in
       let low = loaded-below ended from v loaded_old.reads then on in
       let index = bytes_at (x.store v.read) changelog_index in
       let place = last_place old.changelog.entries in
       let stands = (is.stays from v.read from_at low).changelog in
-      let count = (loaded-count index old.changelog loaded_old.is_view.loads).0 in
-      (take place index, length-take-le place index (omega (arith, count)), prefix-trans (take place index) index (bytes_at (tree_after x from) changelog_index) (drop place index, sym (take-append-drop place index)) stands)
+      let was = out-of-form old.changelog.inline (loaded Ignore (index_of_changelog (x.store v.read))) old.changelog loaded_old.is_view.loads in
+      let count = (loaded-count index was.0 (ap (loaded Ignore) (sym (plain-apart index plain)) ∙ was.1)).0 in
+      let entries = ap length was.2 in
+      (take place index, length-take-le place index (omega (arith, count, entries)), prefix-trans (take place index) index (bytes_at (tree_after x from) changelog_index) (drop place index, sym (take-append-drop place index)) stands)
+
+  -- behind a separate history with an entry the index is separate
+  stays-plain : (law : LoadLaws) (ended from : List Op) (v : Numbers) (old : View) → IsLoadedBetween x first ended v old → IsPrefixOf ended from → (on : IsPrefixOf from last) → (at : IsBetween first last from) → old.changelog.inline ≡ false → 0 < length old.changelog.entries
+      → (is_inline (bytes_at (x.store v.read) changelog_index) ≡ false) × IsPlain x from last (course-later x first from last at is) from
+  stays-plain law ended from v old loaded_old then on at separate some =
+      let entries = old.changelog.entries in
+      let plain = sym (loaded_old.is_view.form some) ∙ separate in
+      let count = law.entries (index_of_changelog (x.store v.read)) (chunks_of_changelog (x.store v.read)) entries (history (x.repo v.read).changesets).changelog loaded_old.is_view.entries in
+      (plain, plain-from x from last (course-later x first from last at is) from v.read (itself-between from last on) (loaded-below ended from v loaded_old.reads then on) (omega (arith, some, count)) plain)
+
+  -- so it is where that is known besides of a history without one
+  pub plain-along : (law : LoadLaws) (ended from : List Op) (v : Numbers) (old : View) → IsLoadedBetween x first ended v old → IsPrefixOf ended from → IsPrefixOf from last → old.changelog.inline ≡ false
+      → (length old.changelog.entries ≡ 0 → (now : List Op) → IsBetween from last now → is_inline (bytes_at (tree_after x now) changelog_index) ≡ false) → (now : List Op) → IsBetween from last now → is_inline (bytes_at (tree_after x now) changelog_index) ≡ false
+  plain-along law ended from v old loaded_old then on separate none = by (length old.changelog.entries == 0) refl
+    where
+      no_entries : (n : ℕ) → (n == 0) ≡ true → n ≡ 0
+      no_entries n h = grind (arith, nat_tests, h)
+
+      some_entries : (n : ℕ) → (n == 0) ≡ false → 0 < n
+      some_entries n h = grind (arith, nat_tests, h)
+
+      by : (b : Bool) → (length old.changelog.entries == 0) ≡ b → (now : List Op) → IsBetween from last now → is_inline (bytes_at (tree_after x now) changelog_index) ≡ false
+      by true e = none (no_entries (length old.changelog.entries) e)
+      by false e = (stays-plain law ended from v old loaded_old then on (record { begins = began-by ended from v loaded_old.reads then; ends = on }) separate (some_entries (length old.changelog.entries) e)).1
 
   -- so what is answered to the question of a refresh is the history of some list
   newer-step : (law : LoadLaws) (ended from : List Op) (v : Numbers) (old : View) → IsLoadedBetween x first ended v old → IsPrefixOf ended from → (on : IsPrefixOf from last) → (at : IsBetween first last from) → (opens : OpensAlong x from last) → LogStep law x from last (course-later x first from last at is) opens (newer_log_asks old.changelog)
-  newer-step law ended from v old loaded_old then on at opens =
-      subst (λ b. LogStep law x from last later opens (cond b (inline_whole_asks log.entries) (behind_log_asks log))) (sym separate) (by (length log.entries == 0) refl)
+  newer-step law ended from v old loaded_old then on at opens = by_form log.inline refl
     where
       later : IsCourse x from last
       later = course-later x first from last at is
@@ -165,20 +198,24 @@ module _ (x : Course) (first last : List Op) (is : IsCourse x first last) where
       log : Log
       log = old.changelog
 
-      separate : log.inline ≡ false
-      separate = (loaded-count (bytes_at (x.store v.read) changelog_index) log loaded_old.is_view.loads).2
+      passes : (list : List Op) (found : Log) → IsBetween from last list → LoadsAt x (x.published list) found → log_after log.entries (Ok found) ≡ Ok found
+      passes list found now is_at = ap (λ o. unless_changed o found) (kept-at law ended from v old loaded_old then on list found now is_at)
 
       some_entries : (n : ℕ) → (n == 0) ≡ false → 0 < n
       some_entries n h = grind (arith, nat_tests, h)
 
-      by : (b : Bool) → (length log.entries == 0) ≡ b
+      by : (b : Bool) → log.inline ≡ false → (length log.entries == 0) ≡ b
           → LogStep law x from last later opens (cond b (whole_log_asks log.entries) (pieces_from changelog_index (last_place log.entries) most_pieces [] (λ tail. behind_asks log (behind_last log.entries tail))))
-      by true e =
-          said-step law x from last later opens (inline_whole_asks log.entries) (λ index. answer (log_after log.entries (log_of index)))
-          (pieces-step law x from last later opens (λ index. log_after log.entries (log_of index)) (λ list found now is_at loads. ap (log_after log.entries) loads ∙ ap (λ o. unless_changed o found) (kept-at law ended from v old loaded_old then on list found now is_at)))
-      by false e =
-          let front = old-front law ended from v old loaded_old then on in
-          last-step law x from last later opens log front.0 separate (some_entries (length log.entries) e) front.1 front.2 (begins-at law ended from v old loaded_old then on)
+      by true separate e = said-step law x from last later opens (log_after log.entries) passes
+      by false separate e =
+          let some = some_entries (length log.entries) e in
+          let plain = stays-plain law ended from v old loaded_old then on at separate some in
+          let front = old-front law ended from v old loaded_old then on plain.0 in
+          last-step law x from last later opens log front.0 separate plain.1 some front.1 front.2 (begins-at law ended from v old loaded_old then on)
+
+      by_form : (b : Bool) → log.inline ≡ b → LogStep law x from last later opens (cond b (inline_whole_asks log.entries) (behind_log_asks log))
+      by_form true e = once-step law x from last later opens (log_after log.entries) passes
+      by_form false e = by (length log.entries == 0) e refl
 
   pub refreshed-along : (law : LoadLaws) (ended from : List Op) (v : Numbers) (old : View) (y : Result View ReadAnswer) → IsLoadedBetween x first ended v old → IsPrefixOf ended from → OpensAlong x from last → MayAnswer x.start from (refresh_asks old) last y
       → (w : Numbers) × (view : View) × (y ≡ Ok view) × IsLoadedBetween x from last w view × NoneFell v w
@@ -196,7 +233,8 @@ module _ (x : Course) (first last : List Op) (is : IsCourse x first last) where
 
   -- ---- how many bytes it is given
 
-  module _ (law : LoadLaws) (ended from : List Op) (v : Numbers) (old : View) (loaded_old : IsLoadedBetween x first ended v old) (then : IsPrefixOf ended from) (on : IsPrefixOf from last) (opens : OpensAlong x from last) where
+  module _ (law : LoadLaws) (ended from : List Op) (v : Numbers) (old : View) (loaded_old : IsLoadedBetween x first ended v old) (then : IsPrefixOf ended from) (on : IsPrefixOf from last) (opens : OpensAlong x from last)
+      (separate : old.changelog.inline ≡ false) (plain : (now : List Op) → IsBetween from last now → is_inline (bytes_at (tree_after x now) changelog_index) ≡ false) where
     abbrev log_old : Log
     log_old = old.changelog
 
@@ -207,23 +245,25 @@ module _ (x : Course) (first last : List Op) (is : IsCourse x first last) where
     later_on = course-later x first from last from_at is
 
     -- the tail that was read begins with the last of the old entries
-    tail-stands : log_old.inline ≡ false → 0 < length log_old.entries → (now mid : List Op) (tail : List ℕ) → IsPrefixOf from now → IsPrefixOf mid last
+    tail-stands : 0 < length log_old.entries → (now mid : List Op) (tail : List ℕ) → IsPrefixOf from now → IsPrefixOf mid last
         → MayAnswer x.start now (pieces_from changelog_index (last_place log_old.entries) most_pieces [] all_bytes) mid (Ok tail) → (found : Log) × (behind_asks log_old (behind_last log_old.entries tail) ≡ answer (Ok found))
-    tail-stands separate some now mid tail begun ends m =
+    tail-stands some now mid tail begun ends m =
         let place = last_place log_old.entries in
         let q = pieces_from changelog_index place most_pieces [] all_bytes in
         let late = later-end x.start q now mid last (Ok tail) ends m in
         let at : IsBetween from last now = record { begins = begun; ends = may-front q x.start now last (Ok tail) late } in
-        let front = old-front law ended from v old loaded_old then on in
-        let stays = whole-stays law x from last later_on in
-        let kept = stays from now front.0 (length log_old.entries - 1) (itself-between from last on) at front.1 front.2 in
+        let from_itself = itself-between from last on in
+        let store = store-plain x from last later_on from v.read from_itself (loaded-below ended from v loaded_old.reads then on) (plain from from_itself) in
+        let front = old-front law ended from v old loaded_old then on store in
+        let stays = whole-stays law x from last later_on from from_itself plain in
+        let kept = stays from now front.0 (length log_old.entries - 1) from_itself at front.1 front.2 in
         let asked = read-again x.start now last q (Ok tail) late in
-        let a = pieces-end x.start changelog_index from last (Ok tail) all_bytes all_bytes stays (room law x from last later_on opens) front.0 (length log_old.entries - 1) front.1 (λ bytes. place + length bytes) (λ b. ap (λ n. n + length b) (sym front.1))
+        let a = pieces-end x.start changelog_index from last (Ok tail) all_bytes all_bytes stays (λ log there. room law x from last later_on opens log there (plain log there)) front.0 (length log_old.entries - 1) front.1 (λ bytes. place + length bytes) (λ b. ap (λ n. n + length b) (sym front.1))
         most_pieces 0 [] now at refl refl (subst (λ l. IsPrefixOf l (bytes_at (tree_after x now) changelog_index)) (sym (append-nil front.0)) kept) asked in
         let here = between-later from last now a.0 at a.1 in
-        let found = loads-at law x from last later_on opens a.0 here in
-        let whole : loaded Ignore (front.0 ++ a.2) ≡ Ok found.0 = ap (loaded Ignore) (sym a.3) ∙ loads-as law x from last later_on a.0 here ∙ found.1.loads in
-        (found.0, ap (λ t. behind_asks log_old (behind_last log_old.entries t)) (same tail a.2 a.4.1) ∙ tail-answers front.0 a.2 log_old found.0 separate some front.1 whole (begins-at law ended from v old loaded_old then on a.0 found.0 here found.1))
+        let found = found-at law x from last later_on opens a.0 here in
+        let whole : loaded Ignore (front.0 ++ a.2) ≡ Ok found.history_is = ap (loaded Ignore) (sym a.3) ∙ plain-loads law x from last later_on opens a.0 here (plain a.0 here) in
+        (found.history_is, ap (λ t. behind_asks log_old (behind_last log_old.entries t)) (same tail a.2 a.4.1) ∙ tail-answers front.0 a.2 log_old found.history_is separate some front.1 whole (begins-at law ended from v old loaded_old then on a.0 found.history_is here found.is_at))
       where
         same : (s t : List ℕ) → (let r : Result (List ℕ) ReadAnswer = Ok s in r) ≡ Ok t → s ≡ t
         same s t e = cc
@@ -231,9 +271,6 @@ module _ (x : Course) (first last : List Op) (is : IsCourse x first last) where
     newer-few : (k l : List Op) (n : ℕ) (log : Log) → IsPrefixOf from k → IsPrefixOf l last → GoesTo x.start (Some k) (newer_log_asks log_old) n (Some l) (answer (Ok log)) → n ≤ 64 * (length log.entries - length log_old.entries + 2)
     newer-few k l n log begun ends h = by (length log_old.entries == 0) refl (subst (λ b. GoesTo x.start (Some k) (cond b (inline_whole_asks log_old.entries) (behind_log_asks log_old)) n (Some l) (answer (Ok log))) separate h)
       where
-        separate : log_old.inline ≡ false
-        separate = (loaded-count (bytes_at (x.store v.read) changelog_index) log_old loaded_old.is_view.loads).2
-
         no_entries : (n : ℕ) → (n == 0) ≡ true → n ≡ 0
         no_entries n h = grind (arith, nat_tests, h)
 
@@ -243,16 +280,16 @@ module _ (x : Course) (first last : List Op) (is : IsCourse x first last) where
         few : (n own rest tail most : ℕ) → n ≡ own + rest → rest ≡ 0 → tail ≡ 0 + own → tail ≤ most → n ≤ most
         few n own rest tail most e z s f = omega (arith, e, z, s, f)
 
-        plain : IsApart x.start k l (separate_whole_asks log_old.entries)
-        plain = λ now later early. is-apart law x from last later_on k begun (λ index. answer (log_after log_old.entries (log_of index))) now later (prefix-trans now l last early ends)
+        apart : IsApart x.start k l (separate_whole_asks log_old.entries)
+        apart = λ now later early. is-apart x from last later_on from plain (λ index. answer (log_after log_old.entries (log_of index))) now (prefix-trans from k now begun later) (prefix-trans now l last early ends)
 
         by : (b : Bool) → (length log_old.entries == 0) ≡ b
             → GoesTo x.start (Some k) (cond b (whole_log_asks log_old.entries) (pieces_from changelog_index (last_place log_old.entries) most_pieces [] (λ tail. behind_asks log_old (behind_last log_old.entries tail)))) n (Some l) (answer (Ok log))
             → n ≤ 64 * (length log.entries - length log_old.entries + 2)
-        by true e m = whole-log-few x.start k l log_old.entries n log (no_entries (length log_old.entries) e) (go-apart x.start k l (inline_whole_asks log_old.entries) (separate_whole_asks log_old.entries) n (Ok log) plain m)
+        by true e m = whole-log-few x.start k l log_old.entries n log (no_entries (length log_old.entries) e) (go-apart x.start k l (inline_whole_asks log_old.entries) (separate_whole_asks log_old.entries) n (Ok log) apart m)
         by false e m =
             let p = pieces-asked x.start k l changelog_index (λ bytes. last_place log_old.entries + length bytes) most_pieces [] (λ tail. behind_asks log_old (behind_last log_old.entries tail)) n log m in
-            let s = tail-stands separate (some_entries (length log_old.entries) e) k p.log p.all begun (prefix-trans p.log l last (go-front x.start p.log l (behind_asks log_old (behind_last log_old.entries p.all)) (answer (Ok log)) p.rest p.goes_on) ends) p.may in
+            let s = tail-stands (some_entries (length log_old.entries) e) k p.log p.all begun (prefix-trans p.log l last (go-front x.start p.log l (behind_asks log_old (behind_last log_old.entries p.all)) (answer (Ok log)) p.rest p.goes_on) ends) p.may in
             let m1 = subst (λ q. GoesTo x.start (Some p.log) q p.rest (Some l) (answer (Ok log))) s.1 p.goes_on in
             few n p.own p.rest (length p.all) (64 * (length log.entries - length log_old.entries + 2)) p.sum m1.1 p.size (tail-few log_old log p.all (s.1 ∙ sym m1.2))
 

@@ -26,7 +26,8 @@ use Rattle.hgs_load.specs.Refresh.{refresh_asks}
 use Rattle.hgs_load.specs.View.{View}
 use Rattle.hgs_stands.specs.Places.{changelog_index, changelog_data}
 use Rattle.hgs_stands.specs.Stands.{mark_of}
-use Rattle.hgs_shown.specs.Shown.{IsViewOf, IsViewOver, shown_repo}
+use Rattle.hgs_stands.specs.Theorems.FormLemmas.{apart-held}
+use Rattle.hgs_shown.specs.Shown.{IsViewOf, IsViewOver, chunks_of_changelog, index_of_changelog, shown_repo}
 use Rattle.hgs_views.specs.Course.{Course, IsCourse, OpensAlong}
 use Rattle.hgs_views.specs.Answered.{OnlyAnswers}
 use Rattle.hgs_views.specs.Seen.{Numbers, IsViewAt, AreInOrder, IsLoadedBetween, NoneFell, Given, Refreshed, seen}
@@ -140,11 +141,11 @@ seen-by law x first last v view is o at =
     let r_is = is.repository v.read c_low in
     let b_on = is.goes_on v.marked v.read b_le c_low in
     let repo_is : IsRepo (seen x v) = mixed-repo law.before b (x.repo v.worked) r (x.repo v.rooted) b_is (is.repository v.worked w_low) r_is (is.repository v.rooted p_low) b_on (is.goes_on v.worked v.read o.worked_read c_low) (is.goes_on v.read v.rooted o.read_rooted p_low) in
-    let store = bytes_at (x.store v.read) changelog_index in
-    let chunks = bytes_at (x.store v.read) changelog_data in
+    let store = index_of_changelog (x.store v.read) in
+    let chunks = chunks_of_changelog (x.store v.read) in
     let revisions = (history r.changesets).changelog in
     let marks = at.bookmarks ∙ law.marks b r b_is b_on in
-    let held = (is.holds v.read c_low).changelog in
+    let held = apart-held (bytes_at (x.store v.read) changelog_index) (bytes_at (x.store v.read) changelog_data) revisions (is.holds v.read c_low).changelog in
     let over : IsViewOver view (x.store v.read) b (x.repo v.worked) (seen x v) = record {
       begins = record { index_front = store; data_front = chunks; held = held; index_begins = ([], sym (append-nil store)); data_begins = ([], sym (append-nil chunks)) };
       entries = at.entries;

@@ -8,7 +8,7 @@ use Rattle.hgs_index.specs.declared.node.Node.{Node}
 use Rattle.hgs_index.specs.Either.{chunk_bytes}
 use Rattle.hgs_index.specs.Inline.{chunks_apart, is_inline}
 use Rattle.hgs_index.specs.Revision.{Revision}
-use Rattle.hgs_index.specs.Revlog.{Begins, Holds}
+use Rattle.hgs_index.specs.Revlog.{Begins, Holds, HoldsRevisions}
 use Rattle.hgs_index.specs.Theorems.EitherLemmas.{held-form, holds-begins}
 use Rattle.hgs_index.specs.Theorems.InlineLemmas.{apart-front}
 use Rattle.hgs_model.specs.History.{node_at, text_at}
@@ -21,24 +21,24 @@ use Rattle.hgs_load.specs.Asks.{Asks, answer, at_rest, MayAnswer}
 use Rattle.hgs_reader.specs.Find.{has_node, bytes_until, log_until, text_asks, text_at_asks, separate_asks}
 use Rattle.hgs_reader.specs.Held.{EndsInline, HasSeparateText}
 use Rattle.hgs_load.specs.View.{log_answer, most_pieces}
-use Rattle.hgs_stands.specs.Stands.{HoldsApart}
 use Rattle.hgs_views.specs.Course.{IsBetween}
 use Rattle.hgs_views.specs.Moments.{StaysAt}
 use Rattle.hgs_views.proofs.Basics.{same-refl, prefix-refl, prefix-trans, may-front, rest_then, rest_both}
+use Rattle.hgs_views.proofs.FormLemmas.{same-form}
 use Rattle.hgs_views.proofs.MomentLemmas.{between-later}
 use Rattle.hgs_views.proofs.Below.{TextLaws}
 use Rattle.hgs_views.proofs.OnlyLemmas.{Behind, Only, later-end, split, only-text, text-same, until-one, until-same}
 
 -- the same of a separate revlog
 pub record StaysApart (start : Tree) (from last : List Op) (store : Tree) (index chunks : List ℕ) (revisions : List Revision) : Type 0 where
-  pub held : HoldsApart store index chunks revisions
+  pub held : HoldsRevisions (bytes_at store index) (bytes_at store chunks) revisions
   pub index_stays : (now : List Op) → IsBetween from last now → IsPrefixOf (bytes_at store index) (bytes_at (after_all now start) index)
   pub chunks_stay : (now : List Op) → IsBetween from last now → IsPrefixOf (bytes_at store chunks) (bytes_at (after_all now start) chunks)
   pub within : (now : List Op) → IsBetween from last now → AreWithinLimits revisions (bytes_at (after_all now start) chunks)
 
 module _ (law : TextLaws) (start : Tree) (from last : List Op) (store : Tree) (index chunks : List ℕ) (revisions : List Revision) (rev : ℕ) (node text : List ℕ) (apart : same index chunks ≡ false) (lt : rev < length revisions) (at : node_at revisions rev ≡ node) (is : text_at revisions rev ≡ text) where
   -- where the two files of a tree go on from those of the store
-  text-of : (t : Tree) → HoldsApart store index chunks revisions → IsPrefixOf (bytes_at store index) (bytes_at t index) → IsPrefixOf (bytes_at store chunks) (bytes_at t chunks) → AreWithinLimits revisions (bytes_at t chunks) → HasSeparateText t index chunks node text
+  text-of : (t : Tree) → HoldsRevisions (bytes_at store index) (bytes_at store chunks) revisions → IsPrefixOf (bytes_at store index) (bytes_at t index) → IsPrefixOf (bytes_at store chunks) (bytes_at t chunks) → AreWithinLimits revisions (bytes_at t chunks) → HasSeparateText t index chunks node text
   text-of t held p q within = law.found t index chunks revisions rev node text (record { index_front = bytes_at store index; data_front = bytes_at store chunks; held = held; index_begins = p; data_begins = q }) within lt at is
 
   -- the place of the node in the index
@@ -131,11 +131,6 @@ fewer-chunks front more data_bytes (r ∷ revisions) some held =
     let parts = apart-front front more data_bytes r revisions (held-form true front data_bytes more r revisions held) held in
     let rest = parts.1 in
     omega (arith, ap length rest.1, length-append (chunks_apart front) rest.0)
-
--- an index that holds a revision keeps its form
-same-form : (inline : Bool) (index data_bytes more : List ℕ) (revisions : List Revision) → 0 < length revisions → Holds inline index data_bytes revisions → is_inline (index ++ more) ≡ inline
-same-form inline index data_bytes more [] some held = absurd (omega (arith, some))
-same-form inline index data_bytes more (r ∷ revisions) some held = held-form inline index data_bytes more r revisions held
 
 module _ (start : Tree) (from last : List Op) (store : Tree) (index chunks : List ℕ) (revisions : List Revision) (some : 0 < length revisions) (s : StaysAt start from last store index chunks revisions) where
   form-stays : (inline : Bool) → Holds inline (bytes_at store index) (bytes_at store chunks) revisions → (now : List Op) → IsBetween from last now → is_inline (bytes_at (after_all now start) index) ≡ inline

@@ -19,9 +19,10 @@ ghost use Rattle.hgs_model.specs.History.{changeset_nodes, node_at, text_at};
 ghost use Rattle.hgs_load.specs.Refresh.{refresh_asks};
 ghost use Rattle.hgs_load.specs.View.{View, pieces_then, piece_length, most_pieces};
 ghost use Rattle.hgs_views.specs.Answered.{IsAnswered, OnlyAnswers};
-ghost use Rattle.hgs_views.specs.Course.{Course, IsBetween, IsCourse, OpensAlong, ReadsAlong, IsStep, KeepsFronts, AreSame, whole_files, still};
+ghost use Rattle.hgs_views.specs.Course.{Course, IsBetween, IsCourse, OpensAlong, ReadsAlong, IsStep, KeepsFronts, AreSame, tree_after, whole_files, still};
 ghost use Rattle.hgs_views.specs.Samples.{committing, publishing};
 ghost use Rattle.hgs_reader.specs.Find.{text_asks};
+ghost use Rattle.hgs_index.specs.Inline.{is_inline};
 ghost use Rattle.hgs_index.specs.Revision.{Revision};
 ghost use Rattle.hgs_views.specs.Moments.{WholeStays, StaysAt};
 ghost use Rattle.hgs_views.specs.Seen.{Numbers, NoneFell, IsGivenFew, IsLoadedBetween, Given, Refreshed, seen};
@@ -44,11 +45,12 @@ use hgs_reader::laws::{
     inline_text_at_moments, nodes_among_entries, revisions_have_entries, separate_texts_are_asked,
 };
 use hgs_revlog::laws::{
-    entries_of_revisions, ignored_rest, places_go_on, places_of_nodes, until_node,
+    either_form, entries_of_revisions, ignored_rest, inline_index, places_go_on, places_of_nodes,
+    until_node,
 };
 use hgs_shown::laws::{
-    changeset_is_read, files_are_found, names_of_what_is_shown, older_parts_stay,
-    parents_of_entries, texts_are_found, whole_files_are_read,
+    changeset_is_read, files_are_found, lines_of_changesets, names_of_what_is_shown,
+    older_parts_stay, parents_of_entries, texts_are_found, whole_files_are_read,
 };
 use hgs_stands::laws::{entries_of_changesets, filelogs_stand_apart, standing_trees_show};
 
@@ -97,6 +99,7 @@ pub fn loads_answer_views()
     held_index_length();
     changelog_is_whole();
     entries_of_revisions();
+    either_form();
     ignored_rest();
     entries_of_changesets();
     roots_of_later_repository();
@@ -114,16 +117,18 @@ pub fn refreshes_answer_views()
     held_index_length();
     changelog_is_whole();
     entries_of_revisions();
+    either_form();
     ignored_rest();
     entries_of_changesets();
     roots_of_later_repository();
     histories_go_on();
 }
 
-/// Such a refresh over what was opened is given the small files, each as it was at a moment, and of the changelog's index an
-/// entry for each new one and two more at most, however long the history is.
+/// Such a refresh of what was separate is given the small files, each as it was at a moment, and of the changelog's index an
+/// entry for each new one and two more at most, however long the history is; where nothing was loaded, if the index is separate
+/// all the while.
 pub fn refreshes_read_what_is_new_beside_writers()
-    ensures { (x : Course) (began ended first last : List Op) (v : Numbers) (old view : View) (bytes : ℕ) → IsCourse x began last → OpensAlong x first last → IsLoadedBetween x began ended v old → IsPrefixOf ended first → GoesTo x.start (Some first) (refresh_asks old) bytes (Some last) (answer (Ok view)) →
+    ensures { (x : Course) (began ended first last : List Op) (v : Numbers) (old view : View) (bytes : ℕ) → IsCourse x began last → OpensAlong x first last → IsLoadedBetween x began ended v old → IsPrefixOf ended first → old.changelog.inline ≡ false → (length old.changelog.entries ≡ 0 → (log : List Op) → IsBetween first last log → is_inline (bytes_at (tree_after x log) changelog_index) ≡ false) → GoesTo x.start (Some first) (refresh_asks old) bytes (Some last) (answer (Ok view)) →
         IsGivenFew x first last old view bytes }
 {
     whole_files_are_read();
@@ -132,10 +137,18 @@ pub fn refreshes_read_what_is_new_beside_writers()
     held_index_length();
     changelog_is_whole();
     entries_of_revisions();
+    either_form();
     ignored_rest();
     entries_of_changesets();
     roots_of_later_repository();
     histories_go_on();
+}
+
+/// The changelog keeps its form from a moment on at which it has a changeset.
+pub fn changelogs_keep_their_form()
+    ensures { (x : Course) (first last log : List Op) → IsCourse x first last → 0 < length (x.repo (x.published first)).changesets → IsBetween first last log → is_inline (bytes_at (tree_after x log) changelog_index) ≡ is_inline (bytes_at (tree_after x first) changelog_index) }
+{
+    changelog_is_whole();
 }
 
 /// At any later moment a view's questions answer of each of its changesets what was committed, and nothing else.
@@ -155,6 +168,8 @@ pub fn contents_of_views()
     histories_go_on();
     texts_are_found();
     changeset_is_read();
+    lines_of_changesets();
+    inline_index();
     files_are_found();
     parents_of_entries();
     entries_of_revisions();
@@ -182,6 +197,7 @@ pub fn calls_of_open()
     held_index_length();
     changelog_is_whole();
     entries_of_revisions();
+    either_form();
     ignored_rest();
     entries_of_changesets();
     roots_of_later_repository();
@@ -199,6 +215,7 @@ pub fn calls_of_refresh()
     held_index_length();
     changelog_is_whole();
     entries_of_revisions();
+    either_form();
     ignored_rest();
     entries_of_changesets();
     roots_of_later_repository();
@@ -216,6 +233,7 @@ pub fn sessions_do_not_fall_back()
     held_index_length();
     changelog_is_whole();
     entries_of_revisions();
+    either_form();
     ignored_rest();
     entries_of_changesets();
     roots_of_later_repository();

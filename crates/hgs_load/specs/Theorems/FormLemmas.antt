@@ -1,31 +1,18 @@
 -- What the first piece of an index says of its form.
-use Rattle.std.proofs.Common.{◌≡◌, ◌<◌, ◌/◌, ◌&&◌, ◌∷◌, ℕ, ◌+◌, ◌≤◌, Bool, true, false, cond, List, [], length, take, drop, Result, refl, sym, ◌∙◌, ap, subst, arith}
-use Rattle.std.specs.Prelude.{nat_le, nat_lt, unwrap_or}
-use Rattle.std.proofs.lemmas.Bool.Decides.{nat_tests}
+use Rattle.std.proofs.Common.{◌≡◌, ℕ, ◌+◌, ◌≤◌, Bool, true, false, cond, List, [], length, take, drop, refl, sym, ◌∙◌, ap, subst, arith}
+use Rattle.std.specs.Prelude.{nat_lt, unwrap_or}
 use Rattle.std.proofs.lemmas.List.{take-append-drop, take_all, length-take}
 use Rattle.hgs_bytes.specs.Bytes.{IsPrefixOf}
 use Rattle.hgs_files.specs.declared.op.Op.{Op}
 use Rattle.hgs_files.specs.Tree.{Tree, after_all, bytes_at}
-use Rattle.hgs_index.specs.Entry.{header_at}
-use Rattle.hgs_index.specs.Inline.{is_inline, says_inline}
-use Rattle.hgs_index.specs.Revision.{Revision}
-use Rattle.hgs_index.specs.Revlog.{BeginsWithRevisions}
-use Rattle.hgs_index.specs.Theorems.EitherLemmas.{begins-form, form-more}
-use Rattle.hgs_load.specs.declared.answer.ReadAnswer.{ReadAnswer}
-use Rattle.hgs_load.specs.Asks.{Asks, answer, read, part_of, at_rest, MayAnswer, then_asks}
+use Rattle.hgs_index.specs.Inline.{is_inline}
+use Rattle.hgs_index.specs.Theorems.EitherLemmas.{form-more}
+use Rattle.hgs_load.specs.Asks.{Asks, answer, read, part_of, at_rest, MayAnswer}
 use Rattle.hgs_load.specs.Form.{unless_inline}
 use Rattle.hgs_load.specs.Given.{given_at_rest, size_of}
 use Rattle.hgs_load.specs.Theorems.AskLemmas.{prefix-refl}
 use Rattle.hgs_load.specs.Theorems.PartLemmas.{part_is}
 use Rattle.hgs_load.specs.Theorems.RestLemmas.{may-front}
-
--- an index that begins with revisions of a separate revlog, and has no more whole entries, says that it is separate
-pub begins-plain : (index data_bytes : List ℕ) (revisions : List Revision) → BeginsWithRevisions index data_bytes revisions → length revisions ≡ length index / 64 → is_inline index ≡ false
-begins-plain index data_bytes (r ∷ revisions) begins whole = begins-form false index data_bytes r revisions begins
-begins-plain index data_bytes [] begins whole = ap (λ b. b && says_inline (header_at index)) (short (length index) (omega (arith, whole)))
-  where
-    short : (n : ℕ) → n < 64 → nat_le 64 n ≡ false
-    short n h = grind (arith, nat_tests, h)
 
 -- a front of at least an entry says the same form
 pub front-form : (n : ℕ) (index : List ℕ) → 64 ≤ n → is_inline (take n index) ≡ is_inline index
@@ -79,15 +66,6 @@ may-apart start from last inline (read path at most rest) y plain m =
     let part = part_of (after_all m.0 start) path at most in
     let goes = may-front (cond (is_inline (unwrap_or part [])) inline (rest part)) start m.0 last y m.2 in
     (m.0, m.1, subst (λ b. MayAnswer start m.0 (cond b inline (rest part)) last y) (plain m.0 m.1 goes) m.2)
-
--- the same of a question that is asked before others
-pub may-apart-then : {A B : Type 0} (start : Tree) (from last : List Op) (inline q : Asks (Result A ReadAnswer)) (more : A → Asks (Result B ReadAnswer)) (y : Result B ReadAnswer) → IsApart start from last q
-    → MayAnswer start from (then_asks (unless_inline inline q) more) last y → MayAnswer start from (then_asks q more) last y
-may-apart-then start from last inline (answer x) more y plain m = m
-may-apart-then start from last inline (read path at most rest) more y plain m =
-    let part = part_of (after_all m.0 start) path at most in
-    let goes = may-front (then_asks (cond (is_inline (unwrap_or part [])) inline (rest part)) more) start m.0 last y m.2 in
-    (m.0, m.1, subst (λ b. MayAnswer start m.0 (then_asks (cond b inline (rest part)) more) last y) (plain m.0 m.1 goes) m.2)
 
 -- where it would say at each of them that the index is inline, the other question is asked
 pub may-inline : {A : Type 0} (start : Tree) (from last : List Op) (inline q : Asks A) (y : A) → ((now : List Op) → IsPrefixOf from now → IsPrefixOf now last → first_says (after_all now start) q ≡ true) → MayAnswer start from (unless_inline inline q) last y

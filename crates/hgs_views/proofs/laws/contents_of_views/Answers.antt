@@ -22,7 +22,10 @@ returns c x began ended first last v view rev d is opens reads loaded then on fo
       manifest = c.histories_go_on.ensures.manifest;
       filelogs = c.histories_go_on.ensures.filelogs;
       not_null = c.texts_are_found.ensures.not_null;
-      change = c.changeset_is_read.ensures;
+      change = c.changeset_is_read.ensures.chunk;
+      placed = c.changeset_is_read.ensures.placed;
+      places = c.inline_index.ensures.places;
+      line = c.lines_of_changesets.ensures;
       rows = c.files_are_found.ensures.rows;
       others = c.files_are_found.ensures.others;
       tracked = c.files_are_found.ensures.tracked;

@@ -3,12 +3,12 @@ use Rattle.hgs_load.specs.Asks.{answer}
 use Rattle.hgs_load.specs.Refresh.{refresh_asks}
 use Rattle.hgs_views.proofs.Basics.{front-limits}
 use Rattle.hgs_views.proofs.Below.{LoadLaws}
-use Rattle.hgs_views.proofs.RefreshLemmas.{given-along}
+use Rattle.hgs_views.proofs.RefreshLemmas.{given-along, plain-along}
 use Rattle.hgs_views.proofs.NewLemmas.{go-front}
 use Rattle.hgs_views.proofs.laws.refreshes_read_what_is_new_beside_writers.Goals as goal
 
 pub returns : goal.returns
-returns c x began ended first last v old view bytes is opens seen then m =
+returns c x began ended first last v old view bytes is opens seen then separate none m =
     let law : LoadLaws = record {
       requirements = c.whole_files_are_read.ensures.requirements;
       bookmarks = c.whole_files_are_read.ensures.bookmarks;
@@ -20,10 +20,13 @@ returns c x began ended first last v old view bytes is opens seen then m =
       count = c.changelog_is_whole.ensures.count;
       all_parents_are = c.changelog_is_whole.ensures.parents;
       nodes = c.entries_of_revisions.ensures.nodes;
+      entries = c.entries_of_revisions.ensures.count;
+      separate = c.either_form.ensures.separate;
       loads = λ index data_bytes revisions begins whole within. c.ignored_rest.ensures.loads index data_bytes revisions begins whole (front-limits index data_bytes revisions begins within);
       whole = c.ignored_rest.ensures.front;
       phases = c.entries_of_changesets.ensures.phases;
       roots_before = c.roots_of_later_repository.ensures;
       changelog = c.histories_go_on.ensures.changelog;
     } in
-    given-along x began last is law ended first v old seen then (go-front x.start first last (refresh_asks old) (answer (Ok view)) bytes m) opens view bytes m
+    let on = go-front x.start first last (refresh_asks old) (answer (Ok view)) bytes m in
+    given-along x began last is law ended first v old seen then on opens separate (plain-along x began last is law ended first v old seen then on separate none) view bytes m
