@@ -67,8 +67,8 @@ within-locks files t r who locking locks within =
       dirstate = subst (λ (b : List ℕ). length b ≤ most_dirstate) (at dirstate_path refl refl) within.dirstate;
       roots = subst (λ (b : List ℕ). length b ≤ most_roots) (at roots_path refl refl) within.roots;
       fncache = subst (λ (b : List ℕ). length b ≤ most_fncache) (at fncache_path refl refl) within.fncache;
-      changelog = subst (AreWithinLimits (history r.changesets).changelog) (at changelog_data refl refl) within.changelog;
       changelog = subst (AreWithinLimits (history r.changesets).changelog) (λ i. chunks_either (at changelog_index refl refl i) (at changelog_data refl refl i)) within.changelog;
+      manifest = subst (AreWithinLimits (history r.changesets).manifest) (λ i. chunks_either (at manifest_index refl refl i) (at manifest_data refl refl i)) within.manifest;
     }
 
 -- ---- refusals
