@@ -30,7 +30,7 @@ use Rattle.hgs_path.specs.StoreName.{listed_name, store_name}
 use Rattle.hgs_phases.specs.declared.roots.Root.{Root}
 use Rattle.hgs_phases.specs.Roots.{IsTextOf, read_roots, roots_text}
 use Rattle.hgs_stands.specs.Places.{bookmarks_path, changelog_data, changelog_index, dirstate_path, manifest_data, manifest_index, roots_path}
-use Rattle.hgs_stands.specs.Stands.{HoldsApart, HoldsAt, IsClean, ListsFilelogs, Stands}
+use Rattle.hgs_stands.specs.Stands.{HoldsAt, IsClean, ListsFilelogs, Stands}
 use Rattle.hgs_built.specs.CanBeStored.{HasRoom}
 use Rattle.hgs_built.specs.Samples.{beside, first, long_path, merge, merged, merged_files, renaming}
 use Rattle.hgs_built.proofs.Basics.{never, none-some, some-same, and-both, and-left, and-right, same-eq}
@@ -234,9 +234,9 @@ long-room : HasRoom ((history merged.changesets).filelog long_path)
 unfolding encode_with sha1 first_words schedule rounds compress hash_after digest_bytes digits
 long-room = record { different = refl; not_null = refl; room = (fit _ refl refl refl refl refl refl refl refl refl, tt) }
 
-changelog-held : (laws : RevisionLaws) → HoldsApart merged_files changelog_index changelog_data (history merged.changesets).changelog
+changelog-held : (laws : RevisionLaws) → HoldsAt merged_files changelog_index changelog_data (history merged.changesets).changelog
 unfolding encode_with sha1 first_words schedule rounds compress hash_after digest_bytes digits
-changelog-held laws = holds laws (history merged.changesets).changelog changelog-room (laws.changelog_before merged (merged-repo laws))
+changelog-held laws = separate-holds _ _ (history merged.changesets).changelog (holds laws (history merged.changesets).changelog changelog-room (laws.changelog_before merged (merged-repo laws)))
 
 manifest-held : (laws : RevisionLaws) → HoldsAt merged_files manifest_index manifest_data (history merged.changesets).manifest
 unfolding encode_with sha1 first_words schedule rounds compress hash_after digest_bytes digits

@@ -67,7 +67,7 @@ filelog-holds laws names r is can p used = separate-holds _ _ ((history r.change
 
 pub changesets-held : (laws : RevisionLaws) (names : NameLaws) (r : Repo) → IsRepo r → CanBeStored r → HoldsChangesets (tree_of r) r.changesets
 changesets-held laws names r is can = record {
-  changelog = holds laws (history r.changesets).changelog can.changelog (laws.changelog_before r is);
+  changelog = separate-holds _ _ (history r.changesets).changelog (holds laws (history r.changesets).changelog can.changelog (laws.changelog_before r is));
   manifest = separate-holds _ _ (history r.changesets).manifest (holds laws (history r.changesets).manifest can.manifest (laws.manifest_before r is));
   filelogs = filelog-holds laws names r is can;
   names = can.names;
