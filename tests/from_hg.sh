@@ -57,6 +57,24 @@ for seed in 4 5; do
     rm -rf alone
 done
 
+# One without merges, which Mercurial records by rules of its own: nothing is found in it. Where the last byte of its changelog
+# is another one, the second changeset cannot be read, and nothing names what is of it.
+verifies() { # FOLDER STATUS LINE..
+    local folder=$1 status=$2
+    shift 2
+    (cd "$folder" && "$here/../bin/hg_store" verify) >"$work/verified" 2>"$work/hints"
+    [ $? = "$status" ] && cmp "$work/verified" <(printf '%s\n' "$@")
+}
+hg "${alone[@]}" init alone && (
+    cd alone && echo a >a && hg "${alone[@]}" commit -qAm a && hg bookmark --inactive mark && echo b >>a && hg "${alone[@]}" commit -qm b
+) || exit 1
+check "the changelog is inline" cmp -n 4 alone/.hg/store/00changelog.i <(printf '\0\1\0\1')
+check "nothing is found in a store of Mercurial's" verifies alone 0 "checked 2 changesets, 1 filelogs, 0 findings"
+truncate -s -1 alone/.hg/store/00changelog.i && printf '?' >>alone/.hg/store/00changelog.i
+check "a damaged inline changelog" verifies alone 29 "dirstate - 15" "store/00changelog.i 1 3" "store/00manifest.i 1 6" "store/data/a.i 1 6" \
+    "checked 1 changesets, 1 filelogs, 4 findings"
+rm -rf alone
+
 check "the sample that proofs compute with" "$(head -n 1 "$(command -v hg)" | sed 's/^#! *//; s/ .*//')" "$here/check_samples.py"
 
 hg init stock

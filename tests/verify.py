@@ -86,6 +86,10 @@ DRAFTS = {
 INLINE = {name: data for name, data in DRAFTS.items() if name not in (MANIFEST_DATA, FILE_DATA)}
 INLINE |= {MANIFEST: inline(*MANIFESTS), FILE: inline(*BODIES), NAMES: b"data/a.i\n"}
 
+# And with an inline changelog too.
+ALL_INLINE = {name: data for name, data in INLINE.items() if name != CHANGELOG_DATA} | {CHANGELOG: inline(*CHANGESETS)}
+MOST_INLINE = 16_777_216
+
 
 def at(name, place, data):
     """The drafts with these bytes at a place of a file."""
@@ -100,6 +104,10 @@ def behind(name, data):
 def without(*names):
     return {name: data for name, data in DRAFTS.items() if name not in names}
 
+
+# What is found besides where the second changeset of the inline drafts, or both, cannot be read.
+SECOND_LOST = [f"{MANIFEST} 1 6", f"{FILE} 1 6", "dirstate - 15"]
+BOTH_LOST = [f"{MANIFEST} 0 6", f"{MANIFEST} 1 6", f"{ROOTS} 1 13", "bookmarks 1 14", "dirstate - 15", f"{FILE} - 12"]
 
 # A store, its findings, and how many changesets and filelogs are checked.
 ROWS = [
@@ -155,19 +163,27 @@ ROWS = [
     ({**INLINE, FILE: INLINE[FILE][:8] + b"\x80" + INLINE[FILE][9:]}, [f"{FILE} 0 3", f"{FILE} 0 5", f"{FILE} 1 5"], 2, 1),
     ({**INLINE, FILE: b"\0\5" + INLINE[FILE][2:]}, [f"{FILE} 0 3", f"{FILE} 0 5", f"{FILE} 1 5", f"{FILE_DATA} - 10"], 2, 1),
     ({**INLINE, FILE: b"\0\1\0\2" + INLINE[FILE][4:]}, [f"{FILE} 0 3", f"{FILE} 0 5", f"{FILE} 1 5", f"{FILE_DATA} - 10"], 2, 1),
-    # an inline changelog is not read
-    (
-        {**DRAFTS, CHANGELOG: inline(*CHANGESETS)},
-        [f"{CHANGELOG} 0 3", f"{MANIFEST} 0 6", f"{MANIFEST} 1 6", f"{ROOTS} 1 13", "bookmarks 1 14", "dirstate - 15", f"{FILE} - 12", f"{FILE_DATA} - 12"],
-        0,
-        0,
-    ),
+    # an inline changelog: whole, with a data file beside it, and with one byte behind it
+    (ALL_INLINE, [], 2, 1),
+    ({**ALL_INLINE, CHANGELOG_DATA: b"?"}, [], 2, 1),
+    ({**DRAFTS, CHANGELOG: inline(*CHANGESETS)}, [], 2, 1),
+    ({**ALL_INLINE, CHANGELOG: ALL_INLINE[CHANGELOG] + b"x"}, [f"{CHANGELOG} 2 17"], 2, 1),
+    # its last byte changed, and cut; without its second changeset nothing names what is of it
+    ({**ALL_INLINE, CHANGELOG: ALL_INLINE[CHANGELOG][:-1] + b"x"}, [f"{CHANGELOG} 1 3", *SECOND_LOST], 1, 1),
+    ({**ALL_INLINE, CHANGELOG: ALL_INLINE[CHANGELOG][:-1]}, [f"{CHANGELOG} 1 17", *SECOND_LOST], 1, 1),
+    # its first chunk cut, a stored length with its sign set, and another version: no changeset is left
+    ({**ALL_INLINE, CHANGELOG: ALL_INLINE[CHANGELOG][:66]}, [f"{CHANGELOG} 0 17", *BOTH_LOST], 0, 0),
+    ({**ALL_INLINE, CHANGELOG: ALL_INLINE[CHANGELOG][:8] + b"\x80" + ALL_INLINE[CHANGELOG][9:]}, [f"{CHANGELOG} 0 3", *BOTH_LOST], 0, 0),
+    ({**ALL_INLINE, CHANGELOG: b"\0\1\0\2" + ALL_INLINE[CHANGELOG][4:]}, [f"{CHANGELOG} 0 3", *BOTH_LOST], 0, 0),
+    # the greatest length of an inline changelog and manifest
+    *(({**ALL_INLINE, name: ALL_INLINE[name].ljust(MOST_INLINE, b"\x7f")}, [f"{name} 2 17"], 2, 1) for name in (CHANGELOG, MANIFEST)),
 ]
 
 # A store, the words, what is written, and the status.
 REFUSALS = [
     ({}, ["verify"], b"abort: not a repository\n", 24),
     ({**DRAFTS, "requires": b"dotencode\nfncache\ntreemanifest\n"}, ["verify"], b"abort: requirement treemanifest\n", 27),
+    *(({**ALL_INLINE, name: ALL_INLINE[name].ljust(MOST_INLINE + 1, b"\x7f")}, ["verify"], b"abort: limit 9\n", 20) for name in (CHANGELOG, MANIFEST)),
     (DRAFTS, ["verify", "x"], b"abort: bad word 1\n", 28),
     (DRAFTS, ["verify", "--jobs=2"], b"abort: bad word 1\n", 28),
     (DRAFTS, ["verify", "x", "--jobs", "2"], b"abort: bad word 1\n", 28),

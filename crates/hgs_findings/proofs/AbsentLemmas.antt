@@ -23,6 +23,7 @@ use Rattle.hgs_phases.specs.declared.roots.Root.{Root}
 use Rattle.hgs_phases.specs.Roots.{read_roots}
 use Rattle.hgs_stands.specs.Places.{bookmarks_path, dirstate_path, roots_path, fncache_path}
 use Rattle.hgs_stands.specs.Stands.{IsUsedName, Stands, IsClean}
+use Rattle.hgs_stands.specs.Theorems.FormLemmas.{apart-held}
 use Rattle.hgs_stands.specs.Theorems.ListedLemmas.{among-at}
 use Rattle.hgs_findings.specs.Namings.{FollowsRules}
 use Rattle.hgs_findings.specs.Sight.{Sight, Seen, value, place, row_paths, seen}
@@ -31,7 +32,6 @@ use Rattle.hgs_findings.specs.Reading.{Log, the_changelog, the_manifest, the_fil
 use Rattle.hgs_findings.specs.Findings.{IsFinding, is_looked_at, revisions_in, namings_in, roots_in, mark_lines_in, names_in, dirstate_in, known, is_name_used, is_unknown_parent, paths_of_seen, paths_at_node, have_same, tracks_others, AreWithin}
 use Rattle.hgs_findings.specs.Findings as found
 use Rattle.hgs_findings.proofs.Basics.{same-eq, same-refl, bool, never, none-some, some-same, and-left, and-right}
-use Rattle.hgs_findings.proofs.EitherLemmas.{either-there}
 use Rattle.hgs_findings.proofs.LogLemmas.{IsLog, position-none}
 use Rattle.hgs_findings.proofs.SightLemmas.{IsRead}
 use Rattle.hgs_findings.proofs.HeldLemmas.{held-reading}
@@ -106,13 +106,13 @@ module _ (t : Tree) (r : Repo) (clean : IsClean t r) (within : AreWithin t r) wh
   st = clean.stands
 
   changelog-read : IsWholeReading (index_in t the_changelog) (data_in t the_changelog) H.changelog
-  changelog-read = held-reading _ _ H.changelog st.revlogs.changelog within.changelog
+  changelog-read = held-reading _ _ H.changelog (apart-held _ _ H.changelog st.revlogs.changelog) within.changelog
 
   manifest-read : IsWholeReading (index_in t the_manifest) (data_in t the_manifest) H.manifest
-  manifest-read = held-reading _ _ H.manifest (either-there _ _ H.manifest st.revlogs.manifest) within.manifest
+  manifest-read = held-reading _ _ H.manifest (apart-held _ _ H.manifest st.revlogs.manifest) within.manifest
 
   filelog-read : (path : List ℕ) → uses cs path ≡ true → IsWholeReading (index_in t (the_filelog path)) (data_in t (the_filelog path)) (H.filelog path)
-  filelog-read path u = held-reading _ _ (H.filelog path) (either-there _ _ (H.filelog path) (st.revlogs.filelogs path u)) (within.filelogs path u)
+  filelog-read path u = held-reading _ _ (H.filelog path) (apart-held _ _ (H.filelog path) (st.revlogs.filelogs path u)) (within.filelogs path u)
 
   log-of : (index data_bytes : List ℕ) (log read : List Revision) → read ≡ log → HoldsRevisions index data_bytes log → IsLog read
   log-of index data_bytes log read e h = subst IsLog (sym e) (record { different = h.different; before = h.earlier })
@@ -122,9 +122,9 @@ module _ (t : Tree) (r : Repo) (clean : IsClean t r) (within : AreWithin t r) wh
     changelog = changelog-read.are;
     manifest = manifest-read.are;
     filelogs = λ path u. (filelog-read path u).are;
-    changelog_log = log-of _ _ H.changelog s.changelog changelog-read.are st.revlogs.changelog;
-    manifest_log = log-of _ _ H.manifest s.manifest manifest-read.are (either-there _ _ H.manifest st.revlogs.manifest);
-    filelog_logs = λ path u. log-of _ _ (H.filelog path) (s.filelog path) (filelog-read path u).are (either-there _ _ (H.filelog path) (st.revlogs.filelogs path u));
+    changelog_log = log-of _ _ H.changelog s.changelog changelog-read.are (apart-held _ _ H.changelog st.revlogs.changelog);
+    manifest_log = log-of _ _ H.manifest s.manifest manifest-read.are (apart-held _ _ H.manifest st.revlogs.manifest);
+    filelog_logs = λ path u. log-of _ _ (H.filelog path) (s.filelog path) (filelog-read path u).are (apart-held _ _ (H.filelog path) (st.revlogs.filelogs path u));
   }
 
   regular : IsRegular s

@@ -128,7 +128,7 @@ module _ (t : Tree) (n : FindsNothing t) where
 
   pub revlogs : HoldsChangesets t (changesets_of (sight_of t))
   revlogs = record {
-    changelog = subst (HoldsRevisions (index_in t the_changelog) (data_in t the_changelog)) (sym (changelog-whole (sight_of t) logs regular)) (holds the_changelog refl);
+    changelog = either-back _ _ _ (subst (HoldsRevisions (index_in t the_changelog) (data_in t the_changelog)) (sym (changelog-whole (sight_of t) logs regular)) (holds the_changelog refl));
     manifest = either-back _ _ _ (subst (HoldsRevisions (index_in t the_manifest) (data_in t the_manifest)) (sym (manifest-whole (sight_of t) logs regular)) (holds the_manifest refl));
     filelogs = λ path u. either-back _ _ _ (subst (HoldsRevisions (index_in t (the_filelog path)) (data_in t (the_filelog path))) (sym (filelog-whole (sight_of t) logs regular path (used-is path u))) (holds (the_filelog path) (used-is path u)));
     names = λ path other u v. apart path other (used-is path u) (used-is other v);

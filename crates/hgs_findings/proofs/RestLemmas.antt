@@ -1,11 +1,10 @@
 -- Where there is no fault, the chunks of an inline index are as long as its entries say: no data is left over.
-use Rattle.std.proofs.Common.{◌≡◌, ℕ, zero, suc, ◌+◌, ◌/◌, ◌<◌, ◌≤◌, List, [], ◌∷◌, ◌++◌, Bool, true, false, cond, ◌&&◌, ◌||◌, not, length, take, drop, refl, sym, ◌∙◌, ap, arith, length-append}
+use Rattle.std.proofs.Common.{◌≡◌, ℕ, zero, suc, ◌+◌, ◌/◌, ◌≤◌, List, [], ◌∷◌, ◌++◌, Bool, true, false, cond, ◌&&◌, ◌||◌, not, length, take, drop, refl, sym, ◌∙◌, ap, arith, length-append}
 use Rattle.std.specs.Prelude.{Result, Ok, Err, nat_lt, ◌==◌}
 use Rattle.std.specs.Int.{w16, w32, from_be_bytes}
 use Rattle.std.proofs.lemmas.Bool.Decides.{nat_tests}
 use Rattle.std.proofs.lemmas.List.{length-take, length-drop, take_at, drop_at, take-take, drop-take}
 use Rattle.hgs_index.specs.declared.entry.Entry.{Entry}
-use Rattle.hgs_index.specs.declared.entry.EntryFault.{EntryFault}
 use Rattle.hgs_index.specs.declared.entry.EntryFault.TheVariants.{Version, HeaderFlags, Negative, Padding}
 use Rattle.hgs_index.specs.Entry.{fields_of, has_bad_header, has_negative, has_padding, is_negative, is_no_parent, number_at, part}
 use Rattle.hgs_index.specs.Inline.{chunks_apart, chunks_in, entries_in, index_apart, is_cut, is_inline, without_inline}
@@ -14,7 +13,7 @@ use Rattle.hgs_revlog.specs.Load.{entry_behind}
 use Rattle.hgs_revlog.specs.Log.{stored_sum}
 use Rattle.hgs_revlog.specs.Theorems.LogLemmas.{sum_push}
 use Rattle.hgs_revlog.specs.Theorems.ReadLemmas.{read_entry}
-use Rattle.hgs_findings.specs.Reading.{Reading, has_data_rest, on_entry, on_text, read_on, reading_of, text_behind}
+use Rattle.hgs_findings.specs.Reading.{has_data_rest, on_entry, on_text, read_on, reading_of, text_behind}
 use Rattle.hgs_findings.proofs.Basics.{never}
 
 -- ---- the stored length of an entry that is taken

@@ -18,11 +18,12 @@ use Rattle.hgs_path.specs.declared.name.Ext.TheVariants.{I, D}
 use Rattle.hgs_path.specs.Fncache.{lists}
 use Rattle.hgs_path.specs.StoreName.{store_name}
 use Rattle.hgs_revlog.specs.Held.{AreWithinLimits}
+use Rattle.hgs_stands.specs.Places.{changelog_data, changelog_index}
 use Rattle.hgs_stands.specs.Samples.{sample_names, two_drafts, two_drafts_files}
 use Rattle.hgs_stands.specs.Stands.{HoldsAt, IsClean}
 use Rattle.hgs_findings.specs.Reading.{data_in, the_filelog}
 use Rattle.hgs_findings.specs.Findings.{AreWithin, IsReport}
-use Rattle.hgs_findings.specs.Samples.{inline_a, inline_drafts}
+use Rattle.hgs_findings.specs.Samples.{inline_a, inline_changelog, inline_drafts}
 use Rattle.hgs_findings.proofs.Basics.{same-eq, never, and-left, and-right}
 use Rattle.hgs_findings.proofs.AbsentLemmas.{absent}
 
@@ -101,12 +102,17 @@ drafts-report clean = record {
   filelog_count = refl;
 }
 
--- ---- one filelog inline
+-- ---- the changelog and a filelog inline
 
 a-inline-held : IsClean two_drafts_files two_drafts → HoldsAt inline_drafts (store_name (codes "a") I) (store_name (codes "a") D) ((history two_drafts.changesets).filelog (codes "a"))
 unfolding encode encode_with decode_pairs split_at_blank header_lines when_at number_within is_utf8 chars sha1 first_words schedule rounds compress hash_after digest_bytes digits
 a-inline-held clean =
     apart-held inline_a (bytes_at two_drafts_files (codes "store/data/a.d")) (bytes_at two_drafts_files (codes "store/data/a.d")) [] ((history two_drafts.changesets).filelog (codes "a")) refl (clean.stands.revlogs.filelogs (codes "a") refl) refl
+
+changelog-inline-held : IsClean two_drafts_files two_drafts → HoldsAt inline_drafts changelog_index changelog_data (history two_drafts.changesets).changelog
+unfolding encode encode_with decode_pairs split_at_blank header_lines when_at number_within is_utf8 chars sha1 first_words schedule rounds compress hash_after digest_bytes digits
+changelog-inline-held clean =
+    apart-held inline_changelog [] (bytes_at two_drafts_files changelog_data) [] (history two_drafts.changesets).changelog refl clean.stands.revlogs.changelog refl
 
 inline-clean : IsClean two_drafts_files two_drafts → IsClean inline_drafts two_drafts
 unfolding encode encode_with decode_pairs split_at_blank header_lines when_at number_within is_utf8 chars sha1 first_words schedule rounds compress hash_after digest_bytes digits
@@ -117,7 +123,7 @@ inline-clean clean =
         repository = s.repository;
         requires = record { text = s.requires.text; there = s.requires.there; known = s.requires.known; whole = s.requires.whole };
         revlogs = record {
-          changelog = s.revlogs.changelog;
+          changelog = changelog-inline-held clean;
           manifest = s.revlogs.manifest;
           filelogs = λ path used. elim (used-path path used) [
             | inl e ↦ subst (λ p. HoldsAt inline_drafts (store_name p I) (store_name p D) ((history two_drafts.changesets).filelog p)) (sym e) (a-inline-held clean)
@@ -156,7 +162,7 @@ a-inline-within = record { few = most _ _ refl; texts = (most _ _ refl, tt); dat
 inline-within : AreWithin inline_drafts two_drafts
 unfolding encode encode_with decode_pairs split_at_blank header_lines when_at number_within is_utf8 chars sha1 first_words schedule rounds compress hash_after digest_bytes digits
 inline-within = record {
-  changelog = drafts-within.changelog;
+  changelog = record { few = most _ _ refl; texts = (most _ _ refl, (most _ _ refl, tt)); data_end = most _ _ refl };
   manifest = drafts-within.manifest;
   filelogs = λ path used. elim (used-path path used) [
     | inl e ↦ subst (λ p. AreWithinLimits ((history two_drafts.changesets).filelog p) (data_in inline_drafts (the_filelog p))) (sym e) a-inline-within

@@ -51,12 +51,18 @@ drafts_behind path bytes = drafts_with path (bytes_at two_drafts_files path ++ b
 abbrev pub drafts_at : List ℕ → ℕ → List ℕ → Tree
 drafts_at path at bytes = drafts_with path (take at (bytes_at two_drafts_files path) ++ bytes ++ drop (at + length bytes) (bytes_at two_drafts_files path))
 
--- the sample with the filelog of `a` inline, as Mercurial keeps it by default; its data file is left beside it
+-- the filelog of `a` inline, as Mercurial keeps it by default, and so the changelog, whose first chunk has 55 bytes
 abbrev pub inline_a : List ℕ
 inline_a = 0 ∷ 1 ∷ drop 2 (bytes_at two_drafts_files (codes "store/data/a.i")) ++ bytes_at two_drafts_files (codes "store/data/a.d")
 
+abbrev pub inline_changelog : List ℕ
+inline_changelog =
+    0 ∷ 1 ∷ drop 2 (take 64 (bytes_at two_drafts_files changelog_index)) ++ take 55 (bytes_at two_drafts_files changelog_data)
+    ++ drop 64 (bytes_at two_drafts_files changelog_index) ++ drop 55 (bytes_at two_drafts_files changelog_data)
+
+-- the sample with both inline; the data file of `a` is left beside its index, and that of the changelog is not there
 abbrev pub inline_drafts : Tree
-inline_drafts = drafts_with (codes "store/data/a.i") inline_a
+inline_drafts = with_file (with_file (drafts_with (codes "store/data/a.i") inline_a) changelog_index (Some inline_changelog)) changelog_data None
 
 -- a node that no changeset has, and its digits
 abbrev pub strange_node : List ℕ

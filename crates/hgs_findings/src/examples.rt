@@ -10,7 +10,7 @@ ghost use Rattle.hgs_findings.specs.Namings.{first_use, is_misplaced, is_unneede
 ghost use Rattle.hgs_findings.specs.OnePath.{lists_word_wrongly, words};
 ghost use Rattle.hgs_findings.specs.Reading.{reading, sight_of, the_changelog, the_filelog, the_manifest};
 ghost use Rattle.hgs_findings.specs.Regular.{used_paths};
-ghost use Rattle.hgs_findings.specs.Samples.{drafts_at, drafts_behind, drafts_with, strange_digits, strange_node, five_namings, finding, inline_a, inline_drafts, kept_as, listing_files, made, merged_sight, lost_files, needless_files, three_revisions, turned_files};
+ghost use Rattle.hgs_findings.specs.Samples.{drafts_at, drafts_behind, drafts_with, strange_digits, strange_node, five_namings, finding, inline_a, inline_changelog, inline_drafts, kept_as, listing_files, made, merged_sight, lost_files, needless_files, three_revisions, turned_files};
 ghost use Rattle.hgs_findings.specs.Sight.{changesets_of, file_namings, manifest_namings};
 ghost use Rattle.hgs_journal.specs.Names.{journal_path};
 ghost use Rattle.hgs_model.specs.Samples.{merged};
@@ -49,12 +49,14 @@ pub fn findings()
     ensures behind { IsFinding (drafts_behind (codes "store/00manifest.d") (codes "x")) (codes "store/00manifest.d") (Some 2) 17 }
 {}
 
-/// Nothing is found where one of the filelogs is inline; where the last byte of its chunk is cut, that is bytes behind no
-/// entry, and another byte in its text is a fault.
+/// Nothing is found where the changelog and one of the filelogs are inline; where the last byte of a chunk is cut, that is
+/// bytes behind no entry, and another byte in a text is a fault.
 pub fn inline_drafts()
     ensures report { IsReport inline_drafts [] 2 2 }
     ensures cut { IsFinding (drafts_with (codes "store/data/a.i") (take 66 inline_a)) (codes "store/data/a.i") (Some 0) 17 }
     ensures fault { IsFinding (drafts_with (codes "store/data/a.i") (take 65 inline_a ++ 98 ∷ 10 ∷ [])) (codes "store/data/a.i") (Some 0) 3 }
+    ensures change_cut { IsFinding (drafts_with (codes "store/00changelog.i") (take 238 inline_changelog)) (codes "store/00changelog.i") (Some 1) 17 }
+    ensures change_fault { IsFinding (drafts_with (codes "store/00changelog.i") (take 238 inline_changelog ++ 97 ∷ [])) (codes "store/00changelog.i") (Some 1) 3 }
 {
     hgs_stands::examples::two_drafts_stand();
 }

@@ -27,7 +27,7 @@ pub fn read_task<R: Reads>(alloc: Global, files: &mut R, path: Bytes) -> Result<
 {
     let index = store_name(alloc, path.as_slice(), Ext::I)?;
     let chunks = store_name(alloc, path.as_slice(), Ext::D)?;
-    let parts = read_either(alloc, files, &index, &chunks)?;
+    let parts = read_either(alloc, files, &index, &chunks, u64::MAX)?;
     Ok(Task {
         path,
         index,

@@ -15,6 +15,7 @@ ghost use Rattle.hgs_report.specs.Parts.{AreParts, IsOfCalls, IsOfPaths};
 ghost use Rattle.hgs_report.specs.Store.{IsOfStore, IsStoreOf};
 ghost use Rattle.hgs_report.specs.Texts.{IsOfBookmarks, IsOfDirstate, IsOfRoots};
 ghost use Rattle.hgs_verify.specs.Looked.{OfTree};
+ghost use Rattle.hgs_verify.specs.Parts.{HaveShortLogs};
 ghost use Rattle.hgs_verify.specs.Report.{AddsBeside, AddsPaths, AddsSmall, IsReportOf};
 
 use crate::inline::inline_filelogs;
@@ -187,6 +188,7 @@ pub fn verify<T: Threads + Sync, R: Reads>(
     requires some { 1 ≤ jobs }
     requires most { jobs ≤ 64 }
     ensures report { IfOk result (λ report. OfTree R.alone (R.seen files.new) (R.start files.new) (IsReportOf report)) }
+    ensures short { OnOk result (OfTree R.alone (R.seen files.new) (R.start files.new) HaveShortLogs) }
     ensures required { OnOk result (OfTree R.alone (R.seen files.new) (R.start files.new) (λ t. requires_answer (t requires_path) ≡ Ok tt)) }
     ensures same_start { R.start files.new ≡ R.start files.old }
     ensures still { R.alone ≡ true → R.seen files.new ≡ R.seen files.old }

@@ -1,12 +1,12 @@
 //! The bytes of a revlog, as a separate one has them.
-ghost use Rattle.std.specs.Prelude.{◌≡◌, IfOk, true, false, IfErr};
+ghost use Rattle.std.specs.Prelude.{◌≡◌, IfErr, IfOk, OnOk, true, false};
 ghost use Rattle.hgs_index.specs.Either.{chunks_either};
 ghost use Rattle.hgs_index.specs.Inline.{index_apart};
 ghost use Rattle.hgs_files.specs.Reads.{Grows};
 ghost use Rattle.hgs_files.specs.Tree.{bytes_at};
-ghost use Rattle.hgs_load.specs.Answer.{HasFaultCause, is_fault};
+ghost use Rattle.hgs_load.specs.Answer.{HasFaultCause, is_fault, is_of_outside};
 ghost use Rattle.hgs_verify.specs.Looked.{OfTree};
-ghost use Rattle.hgs_verify.specs.Parts.{AreBytes};
+ghost use Rattle.hgs_verify.specs.Parts.{AreBytes, is_long_inline};
 ghost use Rattle.hgs_verify.specs.Refusal.{is_refusal};
 
 use crate::whole::read_file;
@@ -14,6 +14,7 @@ use hgs_bytes::bytes::Bytes;
 use hgs_files::files::Reads;
 use hgs_files::path::StorePath;
 use hgs_index::inline::is_inline;
+use hgs_index::kinds::Which;
 use hgs_judge::apart::{Apart, take_apart};
 use hgs_load::answer::ReadAnswer;
 use hgs_load::ask::bytes_of;
@@ -38,33 +39,25 @@ pub(crate) fn of_refusal(fault: RevFault) -> ReadAnswer
     }
 }
 
-/// Reads an index and its data as they stand.
-pub fn read_separate<R: Reads>(
-    alloc: Global,
-    files: &mut R,
-    index: &StorePath,
-    chunks: &StorePath,
-) -> Result<Parts, ReadAnswer>
-    ensures found { IfOk result (λ parts. OfTree R.alone (R.seen files.new) (R.start files.new) (λ t. AreBytes parts (bytes_at t index.now) (bytes_at t chunks.now))) }
-    ensures seen { Grows (R.seen files.old) (R.seen files.new) }
-    ensures same_start { R.start files.new ≡ R.start files.old }
-    ensures still { R.alone ≡ true → R.seen files.new ≡ R.seen files.old }
-    ensures cause { HasFaultCause (R.faults files.old) (R.faults files.new) (R.denied files.old) (R.denied files.new) result }
-    ensures refused { IfErr result (λ e. is_refusal e ≡ true) }
+// Whether an index is inline and has more than so many bytes.
+fn is_long(index: &[u8], most: u64) -> bool
+    ensures { result ≡ is_long_inline most index.now }
 {
-    let index = read_file(alloc, files, index)?;
-    let chunks = read_file(alloc, files, chunks)?;
-    Ok(Parts { index, chunks })
+    is_inline(index) && index.len() as u64 > most
 }
 
-/// Reads a revlog in the form that its index says. Beside an inline index no data is read.
+/// Reads a revlog in the form that its index says. Beside an inline index no data is read, and one of more than `most` bytes
+/// is refused.
 pub fn read_either<R: Reads>(
     alloc: Global,
     files: &mut R,
     index: &StorePath,
     chunks: &StorePath,
+    most: u64,
 ) -> Result<Parts, ReadAnswer>
     ensures found { IfOk result (λ parts. OfTree R.alone (R.seen files.new) (R.start files.new) (λ t. AreBytes parts (index_apart (bytes_at t index.now)) (chunks_either (bytes_at t index.now) (bytes_at t chunks.now)))) }
+    ensures short { OnOk result (OfTree R.alone (R.seen files.new) (R.start files.new) (λ t. is_long_inline most (bytes_at t index.now) ≡ false)) }
+    ensures long { IfErr result (λ e. is_of_outside e ≡ false → OfTree R.alone (R.seen files.new) (R.start files.new) (λ t. is_long_inline most (bytes_at t index.now) ≡ true)) }
     ensures seen { Grows (R.seen files.old) (R.seen files.new) }
     ensures same_start { R.start files.new ≡ R.start files.old }
     ensures still { R.alone ≡ true → R.seen files.new ≡ R.seen files.old }
@@ -72,6 +65,9 @@ pub fn read_either<R: Reads>(
     ensures refused { IfErr result (λ e. is_refusal e ≡ true) }
 {
     let index = read_file(alloc, files, index)?;
+    if is_long(bytes_of(&index), most) {
+        return Err(ReadAnswer::Limit(Which::Part));
+    }
     if is_inline(bytes_of(&index)) {
         let Apart { index, chunks } = take_apart(alloc, bytes_of(&index))?;
         return Ok(Parts {

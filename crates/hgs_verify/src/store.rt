@@ -1,26 +1,30 @@
 //! What is read of a store before its filelogs: the changelog, the manifest, and what their texts say.
-ghost use Rattle.std.specs.Prelude.{◌≡◌, [], unwrap_or, IfOk, true, false, IfErr};
+ghost use Rattle.std.specs.Prelude.{◌≡◌, [], unwrap_or, IfErr, IfOk, OnOk, true, false};
 ghost use Rattle.hgs_verify.specs.Refusal.{is_refusal};
 ghost use Rattle.hgs_files.specs.Reads.{Grows};
 ghost use Rattle.hgs_load.specs.Answer.{HasFaultCause, is_fault};
-ghost use Rattle.hgs_files.specs.Tree.{Tree};
+ghost use Rattle.hgs_files.specs.Tree.{Tree, bytes_at};
+ghost use Rattle.hgs_load.specs.Form.{most_inline_index};
 ghost use Rattle.hgs_judge.specs.Read.{AreRead};
-ghost use Rattle.hgs_findings.specs.Reading.{Log, data_in, index_in, the_changelog, the_manifest};
+ghost use Rattle.hgs_findings.specs.Reading.{Log, data_in, data_path, index_in, index_path, the_changelog, the_manifest};
 ghost use Rattle.hgs_verify.specs.Looked.{OfTree};
-ghost use Rattle.hgs_verify.specs.Parts.{AreBytes};
+ghost use Rattle.hgs_verify.specs.Parts.{AreBytes, HaveShortLogs, is_long_inline};
 ghost use Rattle.hgs_report.specs.Store.{IsLogOf, IsStoreOf};
 
-use crate::revlog::{Parts, of_refusal, read_either, read_separate};
+use crate::revlog::{Parts, of_refusal, read_either};
 use hgs_files::files::Reads;
-use hgs_files::path::path_of;
+use hgs_files::path::StorePath;
 use hgs_judge::changesets::read_changesets;
 use hgs_judge::reading::read;
 use hgs_judge::trees::read_trees;
 use hgs_load::answer::ReadAnswer;
 use hgs_load::ask::bytes_of;
-use hgs_report::store::{ReadLog, Store};
+use hgs_report::store::{LogPaths, ReadLog, Store};
 use hgs_revlog::fault::RevFault;
 use std::alloc::Global;
+
+/// The bytes above which an inline changelog or manifest is refused.
+const MOST_INLINE: u64 = 16_777_216;
 
 // Reads a revlog of its bytes up to its first fault.
 fn log_of(alloc: Global, parts: Parts) -> Result<ReadLog, ReadAnswer>
@@ -41,9 +45,15 @@ fn log_of(alloc: Global, parts: Parts) -> Result<ReadLog, ReadAnswer>
     }
 }
 
-// Reads the changelog up to its first fault. One that is inline is read as a separate one, so that its header is the fault.
-fn read_changelog<R: Reads>(alloc: Global, files: &mut R) -> Result<ReadLog, ReadAnswer>
-    ensures found { IfOk result (λ log. OfTree R.alone (R.seen files.new) (R.start files.new) (IsLogOf the_changelog log)) }
+// Reads the changelog or the manifest, in either form, up to its first fault.
+fn read_log<R: Reads>(
+    alloc: Global,
+    files: &mut R,
+    index: &StorePath,
+    chunks: &StorePath,
+) -> Result<ReadLog, ReadAnswer>
+    ensures found { IfOk result (λ log. OfTree R.alone (R.seen files.new) (R.start files.new) (λ t. (which : Log) → index.now ≡ index_path which → chunks.now ≡ data_path which → IsLogOf which log t)) }
+    ensures short { OnOk result (OfTree R.alone (R.seen files.new) (R.start files.new) (λ t. is_long_inline most_inline_index (bytes_at t index.now) ≡ false)) }
     ensures read { IfOk result (λ log. AreRead log.reading.log.entries (unwrap_or log.chunks [])) }
     ensures seen { Grows (R.seen files.old) (R.seen files.new) }
     ensures same_start { R.start files.new ≡ R.start files.old }
@@ -51,26 +61,7 @@ fn read_changelog<R: Reads>(alloc: Global, files: &mut R) -> Result<ReadLog, Rea
     ensures cause { HasFaultCause (R.faults files.old) (R.faults files.new) (R.denied files.old) (R.denied files.new) result }
     ensures refused { IfErr result (λ e. is_refusal e ≡ true) }
 {
-    let index = path_of(alloc, b"store/00changelog.i")?;
-    let chunks = path_of(alloc, b"store/00changelog.d")?;
-    let parts = read_separate(alloc, files, &index, &chunks)?;
-    let log = log_of(alloc, parts)?;
-    Ok(log)
-}
-
-// Reads the manifest, in either form, up to its first fault.
-fn read_manifest<R: Reads>(alloc: Global, files: &mut R) -> Result<ReadLog, ReadAnswer>
-    ensures found { IfOk result (λ log. OfTree R.alone (R.seen files.new) (R.start files.new) (IsLogOf the_manifest log)) }
-    ensures read { IfOk result (λ log. AreRead log.reading.log.entries (unwrap_or log.chunks [])) }
-    ensures seen { Grows (R.seen files.old) (R.seen files.new) }
-    ensures same_start { R.start files.new ≡ R.start files.old }
-    ensures still { R.alone ≡ true → R.seen files.new ≡ R.seen files.old }
-    ensures cause { HasFaultCause (R.faults files.old) (R.faults files.new) (R.denied files.old) (R.denied files.new) result }
-    ensures refused { IfErr result (λ e. is_refusal e ≡ true) }
-{
-    let index = path_of(alloc, b"store/00manifest.i")?;
-    let chunks = path_of(alloc, b"store/00manifest.d")?;
-    let parts = read_either(alloc, files, &index, &chunks)?;
+    let parts = read_either(alloc, files, index, chunks, MOST_INLINE)?;
     let log = log_of(alloc, parts)?;
     Ok(log)
 }
@@ -101,14 +92,16 @@ fn store_from(alloc: Global, changelog: ReadLog, manifest: ReadLog) -> Result<St
 /// It is refused for a fault of the files, for want of memory, and where an index passes a limit.
 pub fn read_store<R: Reads>(alloc: Global, files: &mut R) -> Result<Store, ReadAnswer>
     ensures found { IfOk result (λ s. OfTree R.alone (R.seen files.new) (R.start files.new) (IsStoreOf s)) }
+    ensures short { OnOk result (OfTree R.alone (R.seen files.new) (R.start files.new) HaveShortLogs) }
     ensures seen { Grows (R.seen files.old) (R.seen files.new) }
     ensures same_start { R.start files.new ≡ R.start files.old }
     ensures still { R.alone ≡ true → R.seen files.new ≡ R.seen files.old }
     ensures cause { HasFaultCause (R.faults files.old) (R.faults files.new) (R.denied files.old) (R.denied files.new) result }
     ensures refused { IfErr result (λ e. is_refusal e ≡ true) }
 {
-    let changelog = read_changelog(alloc, files)?;
-    let manifest = read_manifest(alloc, files)?;
+    let paths = LogPaths::new(alloc)?;
+    let changelog = read_log(alloc, files, &paths.changelog, &paths.changelog_chunks)?;
+    let manifest = read_log(alloc, files, &paths.manifest, &paths.manifest_chunks)?;
     match store_from(alloc, changelog, manifest) {
         Ok(store) => Ok(store),
         Err(_) => Err(ReadAnswer::Memory),

@@ -3,7 +3,7 @@ ghost use Rattle.std.specs.Prelude.{◌≡◌, ◌<◌, ◌^◌, IfOk, IfSome, t
 ghost use Rattle.hgs_verify.specs.Refusal.{is_refusal};
 ghost use Rattle.hgs_files.specs.Reads.{Grows, IsSizeOf};
 ghost use Rattle.hgs_files.specs.Tree.{after_all};
-ghost use Rattle.hgs_load.specs.Answer.{HasFaultCause};
+ghost use Rattle.hgs_load.specs.Answer.{HasFaultCause, is_of_outside};
 
 use hgs_bytes::bytes::Bytes;
 use hgs_files::files::Reads;
@@ -27,6 +27,7 @@ pub fn read_file<R: Reads>(
     ensures same_start { R.start files.new ≡ R.start files.old }
     ensures still { R.alone ≡ true → R.seen files.new ≡ R.seen files.old }
     ensures cause { HasFaultCause (R.faults files.old) (R.faults files.new) (R.denied files.old) (R.denied files.new) result }
+    ensures outside { IfErr result (λ e. is_of_outside e ≡ true) }
     ensures refused { IfErr result (λ e. is_refusal e ≡ true) }
 {
     let part = read_part(alloc, files, path, 0, MOST)?;

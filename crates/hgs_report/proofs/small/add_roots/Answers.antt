@@ -1,9 +1,8 @@
 use Rattle.std.proofs.Common.{◌++◌, ◌∙◌, ap}
 use Rattle.std.specs.Prelude.{option_map}
-use Rattle.hgs_files.specs.Tree.{bytes_at}
 use Rattle.hgs_phases.specs.Roots.{read_roots}
-use Rattle.hgs_stands.specs.Places.{changelog_data, roots_path}
-use Rattle.hgs_findings.specs.Reading.{sight_of}
+use Rattle.hgs_stands.specs.Places.{roots_path}
+use Rattle.hgs_findings.specs.Reading.{data_in, sight_of, the_changelog}
 use Rattle.hgs_findings.specs.Sight.{value}
 use Rattle.hgs_judge.specs.Read.{revisions_in}
 use Rattle.hgs_judge.specs.Report.{findings_in}
@@ -15,8 +14,8 @@ pub returns : goal.returns
 returns c = λ t is text.
     let old = findings_in c.args.into.now.items in
     roots-added t old (findings_in c.add_lines.new.into.items)
-    (c.in_ok-add_lines.ensures (bytes_at t changelog_data) is.changelog.read.are
-    ∙ ap (λ o. old ++ of_lines (revisions_in c.args.store.now.changelog.reading.log.entries (bytes_at t changelog_data)) c.args.path.now 13 o) c.in_ok-nodes.ensures
+    (c.in_ok-add_lines.ensures (data_in t the_changelog) is.changelog.read.are
+    ∙ ap (λ o. old ++ of_lines (revisions_in c.args.store.now.changelog.reading.log.entries (data_in t the_changelog)) c.args.path.now 13 o) c.in_ok-nodes.ensures
     ∙ ap (λ l. old ++ of_lines l c.args.path.now 13 (option_map root_values (value (read_roots c.args.text.now)))) is.changelog.read.revisions
     ∙ ap (λ p. old ++ of_lines (sight_of t).changelog p 13 (option_map root_values (value (read_roots c.args.text.now)))) c.requires
     ∙ ap (λ x. old ++ of_lines (sight_of t).changelog roots_path 13 (option_map root_values (value (read_roots x)))) text)

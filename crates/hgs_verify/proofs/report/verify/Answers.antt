@@ -3,6 +3,7 @@ use Rattle.std.specs.Prelude.{Ok}
 use Rattle.hgs_load.specs.Open.{requires_path}
 use Rattle.hgs_load.specs.Requirements.{requires_answer}
 use Rattle.hgs_report.specs.Store.{IsStoreOf}
+use Rattle.hgs_verify.specs.Parts.{HaveShortLogs}
 use Rattle.hgs_verify.specs.Report.{IsReportOf}
 use Rattle.hgs_verify.proofs.FileLemmas.{two-looks}
 use Rattle.hgs_verify.proofs.report.verify.Goals as goal
@@ -22,3 +23,11 @@ returns-clause-required g c = λ alone.
     two-looks (g.R.Reads.seen c.test_requires.new.files) (g.R.Reads.seen c.report_of.new.files) (g.R.Reads.start c.test_requires.new.files) (g.R.Reads.start c.report_of.new.files)
     (λ t. requires_answer (t requires_path) ≡ Ok tt) (λ t. IsStoreOf store t → IsReportOf report t) (λ t. requires_answer (t requires_path) ≡ Ok tt)
     (c.in_ok-report.ensures.still alone ∙ c.in_ok-store.ensures.still alone) (c.in_ok-report.ensures.same_start ∙ c.in_ok-store.ensures.same_start) (λ t p q. p) (c.in_ok-test_requires.ensures.required alone) (c.in_ok-report.ensures.report alone)
+
+pub returns-clause-short : goal.returns-clause-short
+returns-clause-short g c = λ alone.
+    let store = c.in_ok-store.store in
+    let report = c.in_ok-report.report in
+    two-looks (g.R.Reads.seen c.read_store.new.files) (g.R.Reads.seen c.report_of.new.files) (g.R.Reads.start c.read_store.new.files) (g.R.Reads.start c.report_of.new.files)
+    HaveShortLogs (λ t. IsStoreOf store t → IsReportOf report t) HaveShortLogs
+    (c.in_ok-report.ensures.still alone) c.in_ok-report.ensures.same_start (λ t p q. p) (c.in_ok-store.ensures.short alone) (c.in_ok-report.ensures.report alone)
