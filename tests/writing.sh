@@ -10,9 +10,8 @@ with_hg || { echo "0 passed, 0 failed, 1 skipped"; exit 0; }
 skipped=0
 . "$here/check.sh"
 
-cat >"$work/hgrc" <<END
-[extensions]
-hg_whole = $here/hg_whole.py
+# the profile, for both of the configurations below
+cat >"$work/formats" <<END
 [format]
 usegeneraldelta = no
 sparse-revlog = no
@@ -20,6 +19,11 @@ revlog-compression = zlib
 use-share-safe = no
 use-persistent-nodemap = no
 use-dirstate-v2 = no
+END
+cat >"$work/hgrc" <<END
+%include $work/formats
+[extensions]
+hg_whole = $here/hg_whole.py
 [ui]
 interactive = no
 timeout = 1
@@ -208,13 +212,8 @@ cd ..
 # ---- in turn with Mercurial as it is, which keeps small filelogs inline and splits them as they grow
 
 cat >"$work/plainrc" <<END
+%include $work/formats
 [format]
-usegeneraldelta = no
-sparse-revlog = no
-revlog-compression = zlib
-use-share-safe = no
-use-persistent-nodemap = no
-use-dirstate-v2 = no
 maxchainlen = -1
 [storage]
 revlog.zlib.level = 0
