@@ -1,5 +1,5 @@
 //! Threads that judge the filelogs of some paths, side by side.
-ghost use Rattle.std.specs.Prelude.{◌≡◌, ◌<◌, ◌^◌, IfOk, length};
+ghost use Rattle.std.specs.Prelude.{◌≡◌, ◌<◌, ◌≤◌, ◌^◌, IfOk, length};
 ghost use Rattle.hgs_files.specs.Tree.{Tree};
 ghost use Rattle.hgs_findings.specs.OnePath as findings;
 ghost use Rattle.hgs_findings.specs.Reading.{sight_of};
@@ -73,11 +73,12 @@ pub struct Workers<'a, T> {
 }
 
 impl<'a, T: Threads + Sync> Workers<'a, T> {
-    /// At most so many threads. None is started yet.
-    pub fn new(rt: &'a T, most: u32) -> Workers<'a, T>
-        requires { 0 < most }
-        ensures { result.most ≡ most }
+    /// At most so many threads. None is started yet. Of four or more one is left to the caller, who reads meanwhile.
+    pub fn new(rt: &'a T, jobs: u32) -> Workers<'a, T>
+        requires { 0 < jobs }
+        ensures { result.most ≤ jobs }
     {
+        let most = if jobs < 4 { jobs } else { jobs - 1 };
         Workers {
             rt,
             most: most as usize,
