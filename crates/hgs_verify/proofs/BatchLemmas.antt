@@ -1,5 +1,5 @@
 -- Paths that are judged batch by batch.
-use Rattle.std.proofs.Common.{◌≡◌, ℕ, suc, ◌<◌, List, [], ◌∷◌, ◌++◌, Bool, true, false, length, refl, sym, ◌∙◌, ap, subst, arith}
+use Rattle.std.proofs.Common.{◌≡◌, ℕ, suc, List, [], ◌∷◌, ◌++◌, Bool, length, refl, sym, ◌∙◌, ap, subst, arith}
 use Rattle.std.specs.Prelude.{Result, Ok, Err, OnOk}
 use Rattle.hgs_files.specs.Tree.{Tree}
 use Rattle.hgs_findings.specs.Findings.{Finding}
@@ -39,10 +39,13 @@ same-paths s [] (y ∷ ys) j = absurd (let c = j.count in omega (arith, c))
 same-paths s (x ∷ xs) [] j = absurd (let c = j.count in omega (arith, c))
 same-paths s (x ∷ xs) (y ∷ ys) j = ap (λ p. p ∷ paths_of ys) (first s x y xs ys j).path ∙ ap (λ l. x.path ∷ l) (same-paths s xs ys (rest s x y xs ys j))
 
+with-one : (t : Tree) (tasks : List Task) (task : Task) → AreReadOf tasks t → IsReadOf task t → AreReadOf (tasks ++ task ∷ []) t
+with-one t [] task read one = (one, tt)
+with-one t (x ∷ xs) task read one = (read.0, with-one t xs task read.1 one)
+
 -- one more that was read
-pub one-more : (t : Tree) (tasks : List Task) (task : Task) → AreReadOf tasks t → IsReadOf task t → AreReadOf (tasks ++ task ∷ []) t
-one-more t [] task read one = (one, tt)
-one-more t (x ∷ xs) task read one = (read.0, one-more t xs task read.1 one)
+pub one-more : (t : Tree) (tasks more : List Task) (task : Task) → more ≡ tasks ++ task ∷ [] → AreReadOf tasks t → IsReadOf task t → AreReadOf more t
+one-more t tasks more task e read one = subst (λ l. AreReadOf l t) (sym e) (with-one t tasks task read one)
 
 -- the path of the next one is the first of those that are left
 pub next-path : (tasks : List Task) (task : Task) (paths : List (List ℕ)) → paths_of (tasks ++ task ∷ []) ++ paths ≡ paths_of tasks ++ task.path ∷ paths
@@ -53,9 +56,6 @@ pub on-ok : {A E : Type 0} (r : Result A E) (P Q : Type 0) → OnOk r P → (P �
 on-ok (Ok x) P Q p f = f p
 on-ok (Err e) P Q p f = tt
 
-pub none-left : (paths : List (List ℕ)) → (0 < length paths → false ≡ true) → paths ≡ []
-none-left [] h = refl
-none-left (path ∷ paths) h = absurd (no_case (h (omega arith)))
-  where
-    no_case : false ≡ true → ⊥
-    no_case e = cc
+pub no-tasks : (tasks : List Task) → length tasks ≡ 0 → tasks ≡ []
+no-tasks [] e = refl
+no-tasks (x ∷ xs) e = absurd (omega (arith, e))

@@ -1,5 +1,5 @@
 -- A path whose filelog was read, and what is found of it.
-use Rattle.std.specs.Prelude.{◌≡◌, ◌<◌, ℕ, List, [], IfOk, length, map, slice_index_or, unwrap_or}
+use Rattle.std.specs.Prelude.{◌≡◌, ◌<◌, ◌++◌, ℕ, List, [], IfOk, length, map, slice_index_or, unwrap_or}
 use Rattle.std.specs.List.{AllByRecursion}
 use Rattle.hgs_files.specs.Tree.{Tree}
 use Rattle.hgs_findings.specs.OnePath.{words}
@@ -38,3 +38,8 @@ AreReadOf tasks t = AllByRecursion (λ task. IsReadOf task t) tasks
 -- they were read of a tree, and what is found is right for it
 abbrev pub AreRightIn : Store → Tree → List Task → Type 0
 AreRightIn s t tasks = AllByRecursion (λ task. IsReadOf task t × IsRight s task) tasks
+
+-- they are of the first of these paths, and the others are left; where there is none of them, no path is left
+pub record AreNext (tasks : List Task) (paths left : List (List ℕ)) : Type 0 where
+  pub order : paths_of tasks ++ left ≡ paths
+  pub some : tasks ≡ [] → left ≡ []

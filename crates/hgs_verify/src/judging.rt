@@ -1,5 +1,5 @@
 //! Threads that judge the filelogs of some paths, side by side.
-ghost use Rattle.std.specs.Prelude.{◌≡◌, ◌<◌, ◌^◌, IfOk, length};
+ghost use Rattle.std.specs.Prelude.{◌≡◌, ◌<◌, ◌≤◌, ◌^◌, IfOk, length};
 ghost use Rattle.hgs_files.specs.Tree.{Tree};
 ghost use Rattle.hgs_findings.specs.OnePath as findings;
 ghost use Rattle.hgs_findings.specs.Reading.{sight_of};
@@ -17,7 +17,7 @@ use hgs_report::store::Store;
 use hgs_revlog::fault::RevFault;
 use std::alloc::{AllocError, Global};
 use std::thread;
-use std::thread::Threads;
+use std::thread::{Threads, join_mut};
 
 /// Changesets have numbers below this.
 const MOST: usize = 0x1_0000_0000;
@@ -73,11 +73,12 @@ pub struct Workers<'a, T> {
 }
 
 impl<'a, T: Threads + Sync> Workers<'a, T> {
-    /// At most so many threads. None is started yet.
-    pub fn new(rt: &'a T, most: u32) -> Workers<'a, T>
-        requires { 0 < most }
-        ensures { result.most ≡ most }
+    /// At most so many threads. None is started yet. Of four or more one is left to the caller, who reads meanwhile.
+    pub fn new(rt: &'a T, jobs: u32) -> Workers<'a, T>
+        requires { 0 < jobs }
+        ensures { result.most ≤ jobs }
     {
+        let most = if jobs < 4 { jobs } else { jobs - 1 };
         Workers {
             rt,
             most: most as usize,
@@ -96,5 +97,28 @@ impl<'a, T: Threads + Sync> Workers<'a, T> {
                 ensures { IsJudgedAs store.entry.now task.old task.new }
             { judge(alloc, store, task) },
         );
+    }
+
+    /// Judges them while the caller does something else, and before that where one thread is to do all.
+    pub fn judge_beside<A, F: FnMut() -> A>(
+        &self,
+        alloc: Global,
+        store: &Store,
+        tasks: &mut [Task],
+        other: &mut F,
+    ) -> A
+        requires { F.pre other.old }
+        ensures judged { AreJudged store.now tasks.old tasks.new }
+        ensures other { F.step other.old result other.new }
+    {
+        if self.most == 1 {
+            self.judge_all(alloc, store, tasks);
+            return other();
+        }
+        let mut judge = ||
+            ensures { AreJudged store.entry.now tasks.entry.now tasks.exit.now }
+        { self.judge_all(alloc, store, tasks) };
+        let ((), answer) = join_mut(self.rt, &mut judge, other);
+        answer
     }
 }

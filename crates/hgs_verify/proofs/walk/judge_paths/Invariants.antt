@@ -1,4 +1,4 @@
-use Rattle.std.proofs.Common.{◌≡◌, ◌≤◌, ◌++◌, true, List, length}
+use Rattle.std.proofs.Common.{◌≡◌, ◌≤◌, ◌++◌, [], true, List, length}
 use Rattle.std.specs.Prelude.{Bool}
 use Rattle.hgs_files.specs.Reads.{Grows}
 use Rattle.hgs_findings.specs.Findings.{Finding}
@@ -9,11 +9,12 @@ use Rattle.hgs_verify.specs.Task.{AreReadOf, paths_of}
 use Rattle.hgs_verify.specs.Walk.{AddPaths}
 use Rattle.hgs_verify.proofs.walk.judge_paths.Given as goal
 
-abbrev pub invariant-loop-path : goal.invariant-loop-path
-invariant-loop-path g l = record {
+abbrev pub invariant-loop-alloc : goal.invariant-loop-alloc
+invariant-loop-alloc g l = record {
   added : OfTree g.R.Reads.alone (g.R.Reads.seen l.files) (g.R.Reads.start l.files) (λ t. IsStoreOf l.store t → (new : List Finding) (marked : List Bool)
-      → AddPaths (paths_of l.batch.tasks.items ++ l.paths.keys) (findings_in l.into.items) new l.marks marked t → AddPaths l.initial.paths.keys (findings_in l.initial.into.items) new l.initial.marks marked t);
-  read : OfTree g.R.Reads.alone (g.R.Reads.seen l.files) (g.R.Reads.start l.files) (AreReadOf l.batch.tasks.items);
+      → AddPaths (paths_of l.tasks.items ++ l.paths.keys) (findings_in l.into.items) new l.marks marked t → AddPaths l.fn.paths.keys (findings_in l.initial.into.items) new l.initial.marks marked t);
+  read : OfTree g.R.Reads.alone (g.R.Reads.seen l.files) (g.R.Reads.start l.files) (AreReadOf l.tasks.items);
+  some : l.tasks.items ≡ [] → l.paths.keys ≡ [];
   grown : Grows (g.R.Reads.seen l.fn.files) (g.R.Reads.seen l.files);
   same_start : g.R.Reads.start l.files ≡ g.R.Reads.start l.fn.files;
   still : g.R.Reads.alone ≡ true → g.R.Reads.seen l.files ≡ g.R.Reads.seen l.fn.files;
@@ -21,5 +22,5 @@ invariant-loop-path g l = record {
   refused : g.R.Reads.denied l.fn.files ≤ g.R.Reads.denied l.files;
 }
 
-abbrev pub decreases-loop-path : goal.decreases-loop-path
-decreases-loop-path g l = length l.paths.keys
+abbrev pub decreases-loop-alloc : goal.decreases-loop-alloc
+decreases-loop-alloc g l = length (paths_of l.tasks.items ++ l.paths.keys)
