@@ -1,7 +1,7 @@
 #!/usr/bin/env python3
 """`verify` over small stores that are laid out byte by byte, with each kind of finding that such stores can have, and over the stores of
-real Mercurial: what is written, the status, and that no file is changed; and that the same is written for each number of jobs, also where
-no thread can be had.
+real Mercurial: what is written, the status, and that no file is changed; that the same is written for each number of jobs, also where
+no thread can be had; and that a terminal alone is told how far it is, once it takes longer than a second.
 
 The findings of the small stores are written by hand from the table of kinds in docs/ANSWERS.md. Kind 11 needs two paths with one SHA-1,
 so it has no row. The last line is 'N passed, M failed'.
@@ -9,12 +9,16 @@ so it has no row. The last line is 'N passed, M failed'.
 
 import hashlib
 import os
+import pty
+import re
 import resource
 import shutil
+import signal
 import struct
 import subprocess
 import sys
 import tempfile
+import time
 
 sys.dont_write_bytecode = True
 from checks import HERE, Checks, built_program, bytes_of, lay
@@ -284,6 +288,64 @@ def jobs(program, checks):
         checks.check(f"no threads: {ended}", (ended.stdout, ended.returncode) == wanted)
 
 
+def all_of(terminal):
+    """What a terminal was sent until nobody had it open any more."""
+    sent = b""
+    while True:
+        try:
+            more = os.read(terminal, 65_536)
+        except OSError:
+            return sent
+        if not more:
+            return sent
+        sent += more
+
+
+def halted(program, folder, pause, is_terminal):
+    """What a run writes and says on standard error, where it is halted after this pause for more than a second."""
+    near, far = pty.openpty() if is_terminal else os.pipe()
+    running = subprocess.Popen([program, "verify"], stdin=subprocess.DEVNULL, stdout=subprocess.PIPE, stderr=far, cwd=folder)
+    os.close(far)
+    time.sleep(pause)
+    running.send_signal(signal.SIGSTOP)
+    time.sleep(1.2)
+    running.send_signal(signal.SIGCONT)
+    written, _ = running.communicate()
+    said = all_of(near)
+    os.close(near)
+    return written, said
+
+
+def progress(program, checks):
+    count = 1_000
+    files, findings = wide(count)
+    line = re.compile(rb"((\rchecked \d+ of %d files)+)\r {60}\r" % count)
+    wanted, _ = report(findings, 1, count)
+    with tempfile.TemporaryDirectory() as folder:
+        lay(folder, files)
+        # when the run is halted on its way and when before or behind it is the system's affair
+        pauses = [0.005 * 1.5**number for number in range(12)]
+        told = []
+        for pause in pauses:
+            written, said = halted(program, folder, pause, True)
+            checks.check(f"a terminal, {pause}: the same is written", written == wanted)
+            if line.match(said):
+                told.append(pause)
+                break
+        checks.check(f"a terminal is told how far it is: {said}", told != [])
+        for pause in told:
+            written, said = halted(program, folder, pause, False)
+            checks.check(f"a pipe is told nothing of it: {said}", written == wanted and b"checked" not in said)
+    with tempfile.TemporaryDirectory() as folder:
+        lay(folder, DRAFTS)
+        near, far = pty.openpty()
+        subprocess.run([program, "verify"], stdin=subprocess.DEVNULL, stdout=subprocess.DEVNULL, stderr=far, cwd=folder, check=True)
+        os.close(far)
+        said = all_of(near)
+        checks.check(f"a terminal is told nothing of short work: {said}", said == b"")
+        os.close(near)
+
+
 # What is found in stores that Mercurial made. One has a merge under way, which tracks other paths than its first working parent. Another, in
 # which all filelogs are inline, has two merges that keep a file's node of their first parent though the second parent has another one that is no
 # ancestor of it: the rules make a revision there, and list the file.
@@ -310,6 +372,7 @@ def main():
     program, checks = built_program(), Checks()
     rows(program, checks)
     jobs(program, checks)
+    progress(program, checks)
     stores_of_mercurial(program, checks)
     print(f"{checks.passed} passed, {checks.failed} failed")
     sys.exit(checks.failed > 0 or checks.passed == 0)

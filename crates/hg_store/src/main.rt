@@ -8,6 +8,7 @@ mod command_line;
 mod files;
 mod folder;
 mod hints;
+mod progress;
 mod streams;
 #[cfg(test)]
 mod tests;
@@ -16,6 +17,7 @@ mod yard;
 use crate::command_line::{Words, read_words};
 use crate::files::OsFiles;
 use crate::hints::hint;
+use crate::progress::OsProgress;
 use crate::streams::{OsSink, OsSource};
 use crate::yard::OsYard;
 use hgs_files::streams::Sink;
@@ -82,7 +84,16 @@ fn answer<T: Threads + Sync, K: Sink>(
             make_store(rt, &words);
             let yard = OsYard::new(OsFiles::new(*rt, ".hg")?);
             let mut input = OsSource::new(rt.stdin());
-            let ran = run(threads, rt.alloc(), &words, yard, &mut input, out);
+            let mut progress = OsProgress::new(*rt);
+            let ran = run(
+                threads,
+                rt.alloc(),
+                &words,
+                yard,
+                &mut input,
+                out,
+                &mut progress,
+            );
             if ran.status == 28 {
                 say_word(rt, &words);
             }

@@ -7,6 +7,7 @@ use hgs_mem::mem::MemFiles;
 use hgs_mem::streams::{MemSink, MemSource};
 use hgs_mem::yard::MemYard;
 use hgs_top::run::run;
+use hgs_verify::progress::Unseen;
 use std::alloc::Global;
 use std::test::Fail;
 use std::thread::Threads;
@@ -55,6 +56,7 @@ pub(crate) fn asked<R: Alloc<A = Global> + Threads + Sync>(
         MemYard::new(files),
         &mut source,
         &mut sink,
+        &mut Unseen,
     );
     Ok((ran.status, Vec::from_slice(alloc, sink.bytes())?))
 }
@@ -100,6 +102,7 @@ fn calls_of<R: Alloc<A = Global> + Threads + Sync>(
         MemYard::new(files),
         &mut source,
         &mut sink,
+        &mut Unseen,
     );
     match ran.left {
         Left::Whole(yard) => Ok(yard.alone().0.calls().saturating_sub(before)),

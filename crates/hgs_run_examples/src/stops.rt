@@ -5,6 +5,7 @@ use hgs_mem::mem::MemFiles;
 use hgs_mem::streams::{MemSink, MemSource};
 use hgs_mem::yard::MemYard;
 use hgs_top::run::{Ran, run};
+use hgs_verify::progress::Unseen;
 use std::alloc::Global;
 use std::test::Fail;
 use std::thread::Threads;
@@ -49,6 +50,7 @@ fn run_word<R: Alloc<A = Global> + Threads + Sync>(
         MemYard::new(files),
         &mut input,
         &mut sink,
+        &mut Unseen,
     );
     let Left::Whole(yard) = left;
     let (files, _) = yard.alone();

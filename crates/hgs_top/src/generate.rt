@@ -20,6 +20,7 @@ use hgs_grown::commits::{Stop, commit_all};
 use hgs_index::node::Node;
 use hgs_index::texts::hex_of;
 use hgs_plan::print::push_number;
+use hgs_verify::progress::Unseen;
 use hgs_verify::report::{Report, verify};
 use std::alloc::{AllocError, Global};
 use std::thread::Threads;
@@ -67,7 +68,7 @@ fn summarize<T: Threads + Sync, F: Files, K: Sink>(
     ensures same_start { F.start files.new ≡ F.start files.old }
     ensures statuses { IsOneOf (0 ∷ 15 ∷ 16 ∷ 19 ∷ 20 ∷ 23 ∷ 24 ∷ 27 ∷ 29 ∷ 30 ∷ []) result }
 {
-    match verify(rt, alloc, files, 1) {
+    match verify(rt, alloc, files, 1, &mut Unseen) {
         Ok(report) => tell(alloc, &report, tip, out),
         Err(refusal) => refuse(alloc, &refusal, out),
     }

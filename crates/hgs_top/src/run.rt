@@ -22,6 +22,7 @@ use crate::words::{Asked, asked_by};
 use hgs_files::files::Files;
 use hgs_files::streams::{Sink, Source};
 use hgs_files::yard::{Left, Yard};
+use hgs_verify::progress::Progress;
 use std::alloc::Global;
 use std::thread::Threads;
 
@@ -33,13 +34,14 @@ pub struct Ran<Y> {
 }
 
 // Does what the words ask for, over files at rest, and gives the status.
-fn run_words<T: Threads + Sync, F: Files, S: Source, K: Sink>(
+fn run_words<T: Threads + Sync, F: Files, S: Source, K: Sink, P: Progress>(
     rt: &T,
     alloc: Global,
     words: &[String],
     files: &mut F,
     input: &mut S,
     out: &mut K,
+    progress: &mut P,
 ) -> u8
     requires { (log : List Op) → F.allows (F.start files.old) log }
     ensures repository { SaysOfRepository (Rose (F.faults files.old) (F.faults files.new)) (request_of_words (map string_bytes words.now)) (F.log files.old) (F.start files.old) result (K.written out.old) (K.written out.new) }
@@ -61,7 +63,7 @@ fn run_words<T: Threads + Sync, F: Files, S: Source, K: Sink>(
         Ok(Asked::Question(command)) => run_command(alloc, command, files, out),
         Ok(Asked::Order(order)) => run_order(alloc, order, files, input, out),
         Ok(Asked::Play) => run_play(alloc, input, out),
-        Ok(Asked::Verify { jobs }) => run_verify(rt, alloc, files, jobs, out),
+        Ok(Asked::Verify { jobs }) => run_verify(rt, alloc, files, jobs, out, progress),
         Ok(Asked::Generate { seed, count }) => run_generate(rt, alloc, files, seed, count, out),
         Err(place) => refuse_words(alloc, place, out),
     }
@@ -69,14 +71,15 @@ fn run_words<T: Threads + Sync, F: Files, S: Source, K: Sink>(
 
 /// Does what the words ask for, over the files of the yard, and writes what it says to `out`.
 ///
-/// `rt` is the runtime's handle, by which `verify` starts threads and nothing else is done. The status is 0, or that of the refusal whose line was written last; 29 says that the report has findings.
-pub fn run<T: Threads + Sync, Y: Yard, S: Source, K: Sink>(
+/// `rt` is the runtime's handle, by which `verify` starts threads and nothing else is done, and `progress` is told how far it is. The status is 0, or that of the refusal whose line was written last; 29 says that the report has findings.
+pub fn run<T: Threads + Sync, Y: Yard, S: Source, K: Sink, P: Progress>(
     rt: &T,
     alloc: Global,
     words: &[String],
     yard: Y,
     input: &mut S,
     out: &mut K,
+    progress: &mut P,
 ) -> Ran<Y>
     ensures repository { SaysOfRepository (IfWhole result.left (λ y. Rose (Y.A.faults (Y.files yard)) (Y.A.faults (Y.files y)))) (request_of_words (map string_bytes words.now)) (Y.A.log (Y.files yard)) (Y.A.start (Y.files yard)) result.status (K.written out.old) (K.written out.new) }
     ensures says { Says (IfWhole result.left (λ y. Rose (Y.A.faults (Y.files yard)) (Y.A.faults (Y.files y)))) (request_of_words (map string_bytes words.now)) (Y.A.log (Y.files yard)) (Y.A.start (Y.files yard)) result.status (K.written out.old) (K.written out.new) }
@@ -95,7 +98,7 @@ pub fn run<T: Threads + Sync, Y: Yard, S: Source, K: Sink>(
 {
     runs_make_histories();
     let (mut files, rest) = yard.alone();
-    let status = run_words(rt, alloc, words, &mut files, input, out);
+    let status = run_words(rt, alloc, words, &mut files, input, out, progress);
     Ran {
         status,
         left: Left::Whole(Y::again(files, rest)),

@@ -10,6 +10,7 @@ use hgs_files::files::Files;
 use hgs_files::streams::Sink;
 use hgs_judge::report::Finding;
 use hgs_plan::print::push_number;
+use hgs_verify::progress::Progress;
 use hgs_verify::report::{Report, verify};
 use std::alloc::{AllocError, Global};
 use std::thread::Threads;
@@ -92,12 +93,13 @@ fn tell<K: Sink>(alloc: Global, report: &Report, out: &mut K) -> u8
 
 /// Writes what is wrong with the repository, and gives the status: 0 where nothing is, 29 where something is. At most so many
 /// threads judge the files, and what is written is the same for each number of them.
-pub fn run_verify<T: Threads + Sync, F: Files, K: Sink>(
+pub fn run_verify<T: Threads + Sync, F: Files, K: Sink, P: Progress>(
     rt: &T,
     alloc: Global,
     files: &mut F,
     jobs: u32,
     out: &mut K,
+    progress: &mut P,
 ) -> u8
     requires some { 1 ≤ jobs }
     requires most { jobs ≤ 64 }
@@ -108,7 +110,9 @@ pub fn run_verify<T: Threads + Sync, F: Files, K: Sink>(
     ensures same_start { F.start files.new ≡ F.start files.old }
     ensures statuses { IsOneOf (0 ∷ 15 ∷ 16 ∷ 19 ∷ 20 ∷ 23 ∷ 24 ∷ 27 ∷ 29 ∷ 30 ∷ []) result }
 {
-    match verify(rt, alloc, files, jobs) {
+    let verified = verify(rt, alloc, files, jobs, progress);
+    progress.end();
+    match verified {
         Ok(report) => tell(alloc, &report, out),
         Err(refusal) => refuse(alloc, &refusal, out),
     }

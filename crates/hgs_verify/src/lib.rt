@@ -7,6 +7,7 @@ pub mod filelog;
 pub mod inline;
 pub mod judging;
 pub mod laws;
+pub mod progress;
 pub mod report;
 pub mod revlog;
 pub mod store;

@@ -20,6 +20,7 @@ ghost use Rattle.hgs_verify.specs.Report.{AddsBeside, AddsPaths, AddsSmall, IsRe
 
 use crate::inline::inline_filelogs;
 use crate::judging::Workers;
+use crate::progress::Progress;
 use crate::store::read_store;
 use crate::texts::{
     add_bookmarks_file, add_calls, add_dirstate_file, add_names_file, add_roots_file, add_unused,
@@ -92,8 +93,9 @@ fn add_listed<R: Reads>(
 }
 
 // Adds what is found of the used paths, and of the lists of changed files.
-fn add_paths<T: Threads + Sync, R: Reads>(
+fn add_paths<T: Threads + Sync, R: Reads, P: Progress>(
     workers: &Workers<'_, T>,
+    progress: &mut P,
     alloc: Global,
     files: &mut R,
     store: &Store,
@@ -110,14 +112,17 @@ fn add_paths<T: Threads + Sync, R: Reads>(
     one_path();
     path_findings();
     let mut marks = wrong_lists(alloc, store, &used)?;
-    judge_paths(workers, alloc, files, store, used, into, &mut marks)?;
+    judge_paths(
+        workers, progress, alloc, files, store, used, into, &mut marks,
+    )?;
     add_marked(alloc, &paths.changelog, &marks, into)?;
     Ok(())
 }
 
 // Everything that is found of a store with these used paths.
-fn gather<T: Threads + Sync, R: Reads>(
+fn gather<T: Threads + Sync, R: Reads, P: Progress>(
     workers: &Workers<'_, T>,
+    progress: &mut P,
     alloc: Global,
     files: &mut R,
     store: &Store,
@@ -135,7 +140,9 @@ fn gather<T: Threads + Sync, R: Reads>(
     add_store(alloc, &paths, store, &mut found)?;
     add_small(alloc, files, store, &mut found)?;
     add_listed(alloc, files, &used, &mut found)?;
-    add_paths(workers, alloc, files, store, &paths, used, &mut found)?;
+    add_paths(
+        workers, progress, alloc, files, store, &paths, used, &mut found,
+    )?;
     Ok(found)
 }
 
@@ -150,8 +157,9 @@ fn count_of(used: &BTreeSet<Bytes>) -> Result<u32, AllocError>
 }
 
 // The report of a store whose changelog and manifest were read.
-fn report_of<T: Threads + Sync, R: Reads>(
+fn report_of<T: Threads + Sync, R: Reads, P: Progress>(
     workers: &Workers<'_, T>,
+    progress: &mut P,
     alloc: Global,
     files: &mut R,
     store: &Store,
@@ -165,7 +173,7 @@ fn report_of<T: Threads + Sync, R: Reads>(
     parts_make_report();
     let used = used_paths(alloc, &store.trees, &store.changesets)?;
     let filelogs = count_of(&used)?;
-    let found = gather(workers, alloc, files, store, used)?;
+    let found = gather(workers, progress, alloc, files, store, used)?;
     let findings = in_order(found)?;
     Ok(Report {
         changesets: store.changelog.reading.log.len(),
@@ -179,11 +187,12 @@ fn report_of<T: Threads + Sync, R: Reads>(
 ///
 /// It is refused as any question is where there is no repository or one of another profile, for a fault of the files, where a
 /// file passes a limit, and for want of memory; damage is a finding.
-pub fn verify<T: Threads + Sync, R: Reads>(
+pub fn verify<T: Threads + Sync, R: Reads, P: Progress>(
     rt: &T,
     alloc: Global,
     files: &mut R,
     jobs: u32,
+    progress: &mut P,
 ) -> Result<Report, ReadAnswer>
     requires some { 1 ≤ jobs }
     requires most { jobs ≤ 64 }
@@ -197,6 +206,6 @@ pub fn verify<T: Threads + Sync, R: Reads>(
 {
     test_requires(alloc, files)?;
     let store = read_store(alloc, files)?;
-    let report = report_of(&Workers::new(rt, jobs), alloc, files, &store)?;
+    let report = report_of(&Workers::new(rt, jobs), progress, alloc, files, &store)?;
     Ok(report)
 }

@@ -13,6 +13,7 @@ ghost use Rattle.hgs_verify.specs.Walk.{AddPaths};
 use crate::adding::add_all;
 use crate::batch::{Batch, read_batch};
 use crate::judging::Workers;
+use crate::progress::Progress;
 use crate::task::Task;
 use hgs_bytes::bytes::Bytes;
 use hgs_files::files::Reads;
@@ -48,8 +49,9 @@ fn judge_and_read<T: Threads + Sync, R: Reads>(
 /// them.
 ///
 /// The caller reads the filelogs of one batch after another, and the workers judge each while the next one is read.
-pub fn judge_paths<T: Threads + Sync, R: Reads>(
+pub fn judge_paths<T: Threads + Sync, R: Reads, P: Progress>(
     workers: &Workers<'_, T>,
+    progress: &mut P,
     alloc: Global,
     files: &mut R,
     store: &Store,
@@ -64,8 +66,11 @@ pub fn judge_paths<T: Threads + Sync, R: Reads>(
     ensures cause { HasFaultCause (R.faults files.old) (R.faults files.new) (R.denied files.old) (R.denied files.new) result }
     ensures refused { IfErr result (λ e. is_refusal e ≡ true) }
 {
+    let all = paths.len();
     let mut tasks = read_batch(alloc, files, &mut paths)?.tasks;
     while !tasks.is_empty() {
+        let left = paths.len().saturating_add(tasks.len());
+        progress.tell(all.saturating_sub(left), all);
         let next = judge_and_read(workers, alloc, files, store, &mut tasks, &mut paths);
         add_all(alloc, tasks, into, marks)?;
         tasks = next?.tasks;

@@ -9,13 +9,13 @@ pub returns-in-Ok-clause-verifies : goal.returns-in-Ok-clause-verifies
 returns-in-Ok-clause-verifies g c =
     let e = c.in-Ok.ensures in
     let alone = g.met.F.Files.only_writer in
-    let seen = g.F.Reads.seen c.verify.new.files in
+    let seen = g.F.Reads.seen c.verify-verified.new.files in
     let old = g.K.Sink.written c.args.out.now in
     let new = g.K.Sink.written c.tell.new.out in
     let T : Tree → Type 0 = TellsReport c.tell.result old new in
     let L : Option (List Op) → Type 0 = λ log. OfTree log (g.F.Reads.start c.args.files.now) T in
     let S : Tree → Type 0 = λ start. OfTree seen start T in
-    inl (subst L (e.still alone ∙ g.met.F.Files.latest c.args.files.now) (subst S e.same_start (tells seen (g.F.Reads.start c.verify.new.files) c.in-Ok.report c.tell.result old new (e.required alone) (e.report alone) c.tell.ensures.line)))
+    inl (subst L (e.still alone ∙ g.met.F.Files.latest c.args.files.now) (subst S e.same_start (tells seen (g.F.Reads.start c.verify-verified.new.files) c.in-Ok.report c.tell.result old new (e.required alone) (e.report alone) c.tell.ensures.line)))
 
 pub returns-in-Err-clause-verifies : goal.returns-in-Err-clause-verifies
 returns-in-Err-clause-verifies g c = inr (c.in-Err.refusal, c.in-Err.ensures.refused, (λ e. c.in-Err.ensures.cause.fault (ap (λ refusal. Err refusal) e)), c.refuse.ensures.line)
