@@ -1,6 +1,6 @@
 -- What a tree shows while a transaction is open: the repository before it.
-use Rattle.std.proofs.Common.{◌≡◌, ◌⊎◌, ℕ, ◌<◌, ◌+◌, List, [], ◌∷◌, ◌++◌, Bool, true, false, ◌||◌, length, drop, map, refl, sym, ◌∙◌, ap, subst, inl, inr, append-nil, arith, length-append}
-use Rattle.std.specs.Prelude.{◌/◌, ◌*◌, Option, Ok, unwrap_or}
+use Rattle.std.proofs.Common.{◌≡◌, ◌⊎◌, ℕ, List, [], ◌∷◌, ◌++◌, Bool, true, false, ◌||◌, length, drop, map, refl, sym, ◌∙◌, ap, subst, inl, inr, append-nil}
+use Rattle.std.specs.Prelude.{◌/◌, Option, Ok, unwrap_or}
 use Rattle.std.specs.List.{AllByRecursion, list_all}
 use Rattle.std.proofs.lemmas.List.{take-append-drop}
 use Rattle.hgs_bytes.specs.Bytes.{same, among}

@@ -1,5 +1,5 @@
 -- A transaction shows the repository before it until its publishing operation is whole, and while it is undone.
-use Rattle.std.proofs.Common.{◌≡◌, ◌⊎◌, ℕ, ◌<◌, ◌+◌, List, [], ◌∷◌, ◌++◌, Bool, true, false, length, drop, take, refl, sym, ◌∙◌, ap, subst, inl, inr, append-nil, arith, length-append, take_at}
+use Rattle.std.proofs.Common.{◌≡◌, ◌⊎◌, ℕ, ◌<◌, List, [], ◌∷◌, ◌++◌, Bool, true, false, length, drop, take, refl, sym, ◌∙◌, ap, subst, inl, inr, append-nil, arith, take_at}
 use Rattle.std.specs.Prelude.{◌/◌, Ok, Option, Some, None, is_some}
 use Rattle.hgs_bytes.specs.Bytes.{same}
 use Rattle.hgs_files.specs.declared.op.Op.{Op}
@@ -47,7 +47,7 @@ use Rattle.hgs_ops.proofs.Parts.{append-less, done-split, part-other}
 use Rattle.hgs_ops.specs.Theorems.GrowLemmas.{drop-front}
 use Rattle.hgs_ops.specs.Theorems.RootsLemmas.{written-phases}
 use Rattle.hgs_ops.proofs.ShowPlan.{begun-same, begun-shows, begun-still, early-shows, undoing-shows, working-shows}
-use Rattle.hgs_ops.specs.Theorems.Touch.{appended, appended-none, apply-other, bytes-same, touched, touched-append}
+use Rattle.hgs_ops.specs.Theorems.Touch.{apply-other, bytes-same, touched, touched-append}
 use Rattle.hgs_ops.proofs.TransactionLemmas.{commit-quiet, plan-of, text-of}
 
 -- ---- an operation that is never done in part

@@ -1,21 +1,14 @@
 -- A revlog in either form, by the separate one that it is taken apart into.
-use Rattle.std.proofs.Common.{◌≡◌, ◌<◌, ◌≤◌, ℕ, ◌+◌, ◌*◌, ◌/◌, List, [], ◌∷◌, ◌++◌, Bool, true, false, cond, ◌&&◌, length, map, take, drop, Option, Some, None, Result, Ok, Err, refl, sym, ◌∙◌, ap, subst, arith, length-append}
-use Rattle.std.specs.Prelude.{nat_le}
+use Rattle.std.proofs.Common.{◌≡◌, ℕ, ◌+◌, ◌*◌, List, [], ◌∷◌, ◌++◌, true, length, Option, Some, None, refl, sym, ◌∙◌, ap, arith, length-append}
 use Rattle.std.specs.List.{AllByRecursion}
-use Rattle.std.proofs.lemmas.Bool.Decides.{nat_tests}
-use Rattle.std.proofs.lemmas.List.{length-map, length-take, take-append-drop, take_all}
-use Rattle.hgs_files.specs.Tree.{Tree, bytes_at}
+use Rattle.std.proofs.lemmas.List.{length-map}
 use Rattle.hgs_index.specs.declared.entry.Header.{Header}
-use Rattle.hgs_index.specs.Either.{HoldsEither, chunk_bytes, chunks_either}
-use Rattle.hgs_index.specs.Entry.{Fits, entry_bytes, header_at}
-use Rattle.hgs_index.specs.Inline.{chunks_apart, entries_in, index_apart, is_inline, says_inline, without_inline}
+use Rattle.hgs_index.specs.Entry.{Fits, entry_bytes}
+use Rattle.hgs_index.specs.Inline.{chunks_apart}
 use Rattle.hgs_index.specs.Revision.{Revision, node_after}
-use Rattle.hgs_index.specs.Revlog.{Holds, HoldsRevisions, Item, Stored, index_bytes, items, items_from}
-use Rattle.hgs_index.specs.Theorems.EitherLemmas.{form-more}
+use Rattle.hgs_index.specs.Revlog.{Holds, Item, Stored, index_bytes, items, items_from}
 use Rattle.hgs_index.specs.Theorems.EntryPartLemmas.{length-entry_bytes}
-use Rattle.hgs_index.specs.Theorems.InlineLemmas.{apart-chunks, chunks_of_items, fronts-separate, header-is, held-apart, index-inline, inline_header, inlined, item-chunks}
-use Rattle.hgs_loading.specs.Logs.{either_index_in, has_more, index_in, most_index}
-use Rattle.hgs_planned.proofs.Basics.{never}
+use Rattle.hgs_index.specs.Theorems.InlineLemmas.{apart-chunks, chunks_of_items, header-is, index-inline, inline_header, inlined, item-chunks}
 
 -- ---- how long an index is
 

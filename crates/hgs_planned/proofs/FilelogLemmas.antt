@@ -1,6 +1,6 @@
 -- The filelog that is loaded of a path is the list of its revisions.
 use Rattle.std.proofs.Common.{◌≡◌, ℕ, List, [], Bool, true, false, cond, inl, inr, refl, sym, ◌∙◌, ap, subst}
-use Rattle.std.specs.Prelude.{Result, Ok, Some, None}
+use Rattle.std.specs.Prelude.{Result, Ok}
 use Rattle.hgs_files.specs.Tree.{Tree, bytes_at}
 use Rattle.hgs_index.specs.Revision.{Revision}
 use Rattle.hgs_loading.specs.Found.{and_then}

@@ -1,12 +1,11 @@
 -- A filelog without revisions, in the form in which it begins.
-use Rattle.std.proofs.Common.{◌≡◌, ◌⊎◌, ◌<◌, ℕ, ◌+◌, ◌*◌, Bool, true, false, cond, ◌==◌, nat_le, inl, inr, List, [], ◌∷◌, ◌++◌, length, refl, sym, ◌∙◌, ap, subst, arith}
-use Rattle.std.specs.Prelude.{Option, Some, None, Result, Ok, Err, slice_get}
+use Rattle.std.proofs.Common.{◌≡◌, ◌⊎◌, ◌<◌, ℕ, ◌*◌, Bool, true, false, cond, ◌==◌, nat_le, inl, inr, List, [], ◌∷◌, ◌++◌, length, refl, sym, ◌∙◌, ap, subst, arith}
+use Rattle.std.specs.Prelude.{Result, Ok, slice_get}
 use Rattle.std.proofs.lemmas.Bool.Decides.{nat_tests}
 use Rattle.std.proofs.lemmas.List.{length-map}
 use Rattle.hgs_files.specs.Tree.{Tree, bytes_at}
 use Rattle.hgs_index.specs.declared.entry.Entry.{Entry}
 use Rattle.hgs_index.specs.Either.{chunk_bytes, chunks_either}
-use Rattle.hgs_index.specs.Inline.{is_inline}
 use Rattle.hgs_index.specs.Revision.{Revision, with_revision}
 use Rattle.hgs_loading.specs.Found.{and_then}
 use Rattle.hgs_loading.specs.Logs.{data_in}
@@ -15,7 +14,7 @@ use Rattle.hgs_model.specs.Theorems.ListedLemmas.{length-nodes}
 use Rattle.hgs_model.specs.Theorems.ListLemmas.{none-some}
 use Rattle.hgs_ops.specs.Growth.{grows_inline}
 use Rattle.hgs_revlog.specs.Held.{read_all}
-use Rattle.hgs_revlog.specs.Log.{Log, nodes_of, stored_sum}
+use Rattle.hgs_revlog.specs.Log.{stored_sum}
 use Rattle.hgs_commit.specs.Files.{formed, place_in, standing_at}
 use Rattle.hgs_commit.specs.Obstacles.{Obstacle}
 use Rattle.hgs_commit.specs.Texts.{OfLog}

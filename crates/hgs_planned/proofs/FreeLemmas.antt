@@ -27,7 +27,6 @@ use Rattle.hgs_model.specs.declared.command.NewChange.{NewChange}
 use Rattle.hgs_model.specs.declared.files.NewFile.{NewFile}
 use Rattle.hgs_model.specs.Theorems.ListLemmas.{bool}
 use Rattle.hgs_ops.specs.Growth.{new_paths}
-use Rattle.hgs_path.specs.declared.name.Ext.{Ext}
 use Rattle.hgs_path.specs.declared.name.Ext.TheVariants.{I, D}
 use Rattle.hgs_path.specs.Fncache.{listing}
 use Rattle.hgs_path.specs.StoreName.{store_name}

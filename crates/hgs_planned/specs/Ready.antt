@@ -1,5 +1,5 @@
 -- What a commit needs of a tree that nothing tests.
-use Rattle.std.specs.Prelude.{◌≡◌, ◌<◌, ◌^◌, ℕ, List, [], true, false, length, Ok}
+use Rattle.std.specs.Prelude.{◌≡◌, ◌<◌, ◌^◌, ℕ, List, [], true, length, Ok}
 use Rattle.hex.specs.Hex.{IsBytes}
 use Rattle.sha1.specs.Sha1.{sha1}
 use Rattle.hgs_bytes.specs.Bytes.{among}

@@ -1,6 +1,6 @@
 -- The step that sets a bookmark, of what replaces the bookmarks.
 use Rattle.std.proofs.Common.{◌≡◌, ◌<◌, ℕ, List, Bool, true, false, length, sym, ◌∙◌, ap}
-use Rattle.std.specs.Prelude.{◌||◌, Result, Ok, Err, Option, Some, ⊤, slice_index_or, if◌then◌else◌}
+use Rattle.std.specs.Prelude.{◌||◌, Result, Ok, Err, Some, ⊤, slice_index_or, if◌then◌else◌}
 use Rattle.std.specs.Bool.{MatchBool}
 use Rattle.std.specs.List.{slice_get}
 use Rattle.std.proofs.lemmas.List.{get_or-map}

@@ -1,5 +1,5 @@
 -- What a command comes to over files that stand for a repository, within the limits.
-use Rattle.std.proofs.Common.{◌≡◌, ◌≤◌, ℕ, List, [], Bool, true, false, inl, inr, refl, sym, ap, subst}
+use Rattle.std.proofs.Common.{◌≡◌, ◌≤◌, ℕ, List, [], Bool, false, inl, inr, refl, sym, ap, subst}
 use Rattle.std.specs.Prelude.{Option, Result, Ok, Err, ⊤, length, unwrap_or}
 use Rattle.std.specs.Bool.{MatchBool}
 use Rattle.hgs_answers.specs.declared.answer.Answer.{Answer}
@@ -8,7 +8,7 @@ use Rattle.hgs_commit.specs.Commit.{Steps}
 use Rattle.hgs_commit.specs.declared.fault.CommitFault.{CommitFault}
 use Rattle.hgs_commit.specs.declared.fault.CommitFault.TheVariants as commits
 use Rattle.hgs_files.specs.declared.op.Op.{Op}
-use Rattle.hgs_files.specs.Tree.{Tree, after_all, bytes_at}
+use Rattle.hgs_files.specs.Tree.{Tree, after_all}
 use Rattle.hgs_index.specs.declared.kinds.Which.{Which}
 use Rattle.hgs_index.specs.declared.kinds.Which.TheVariants.{Bookmarks, Inline}
 use Rattle.hgs_index.specs.declared.node.Node.{Node}

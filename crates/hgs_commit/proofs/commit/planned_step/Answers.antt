@@ -1,4 +1,4 @@
-use Rattle.std.proofs.Common.{◌≡◌, Option, sym, subst}
+use Rattle.std.proofs.Common.{Option, sym, subst}
 use Rattle.hgs_reader.specs.Contents.{manifest_index}
 use Rattle.hgs_commit.specs.Hindered.{is_met}
 use Rattle.hgs_commit.specs.Pushed.{AppendsTo}

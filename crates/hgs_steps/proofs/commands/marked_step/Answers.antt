@@ -1,5 +1,4 @@
-use Rattle.std.proofs.Common.{◌≡◌, sym, ◌∙◌}
-use Rattle.hgs_steps.specs.Loaded.{node_at}
+use Rattle.std.proofs.Common.{◌≡◌, ◌∙◌}
 use Rattle.hgs_steps.specs.Steps.{marked_at, step_of}
 use Rattle.std.specs.Prelude.{Err}
 use Rattle.hgs_steps.proofs.MarkedLemmas.{marked-refused, marked-step, node-found, refused-too}
