@@ -248,7 +248,7 @@ def wide(count):
         files[NAMES] += b"data/%s.i\n" % path + (b"data/%s.d\n" % path if number % 3 else b"")
     findings = []
     # the first and the last file, some between them, and one that the list of names lacks
-    for number in {0, 1, 63, 64, 65, 100, count - 1}:
+    for number in {0, 1, 64, 95, 96, 97, count - 1}:
         name = f"store/data/{paths[number].decode()}"
         if number % 3 == 0:
             files[name + ".i"] = files[name + ".i"][:66] + b"?" + files[name + ".i"][67:]

@@ -10,9 +10,6 @@ use std::io::{self, Read, Write};
 /// One read asks for no more than this.
 const PIECE: usize = 65_536;
 
-/// A read of no more than this is given a small piece, since a piece is zeroed first.
-const SMALL_PIECE: usize = 512;
-
 /// A call that a signal interrupted is made so often before that is an error.
 const TRIES: u32 = 1_000;
 
@@ -43,27 +40,23 @@ fn write_piece<W: Write>(writer: &mut W, bytes: &[u8]) -> io::Result<usize>
     writer.write(bytes)
 }
 
-// Reads once into this piece, and adds what came.
-fn read_by<R: Read>(reader: &mut R, piece: &mut [u8], into: &mut Vec<u8>) -> io::Result<u64>
-    ensures { AddsAnswered (length piece.old) into.old.items into.new.items result }
-{
-    into.reserve(piece.len())?;
-    let count = read_piece(reader, piece)?;
-    into.extend_from_slice(&piece[..count])?;
-    Ok(count as u64)
-}
-
 /// Reads once, adds at most `most` bytes at the end of `into`, and answers how many. An error adds none.
 pub fn read_once<R: Read>(reader: &mut R, most: u64, into: &mut Vec<u8>) -> io::Result<u64>
     ensures { AddsAnswered most into.old.items into.new.items result }
 {
-    if most <= SMALL_PIECE as u64 {
-        let mut piece = [0; SMALL_PIECE];
-        return read_by(reader, &mut piece[..most as usize], into);
-    }
-    let mut piece = [0; PIECE];
+    let start = into.len();
     let room = PIECE.min(most as usize);
-    read_by(reader, &mut piece[..room], into)
+    into.resize(start + room, 0)?;
+    match read_piece(reader, &mut into[start..]) {
+        Ok(count) => {
+            into.truncate(start + count);
+            Ok(count as u64)
+        }
+        Err(error) => {
+            into.truncate(start);
+            Err(error)
+        }
+    }
 }
 
 /// What a reader of std gives.

@@ -16,11 +16,11 @@ use std::alloc::{AllocError, Global};
 use std::collections::BTreeSet;
 
 /// The most paths of a batch, and the bytes from which on it gets no further path.
-const MOST_PATHS: usize = 64;
+const MOST_PATHS: usize = 96;
 
 const MOST_BYTES: u64 = 0x200_0000;
 
-/// Filelogs that are held at a time: those of at most 64 paths, and of no further path once they have 32 MiB.
+/// Filelogs that are held at a time: those of at most 96 paths, and of no further path once they have 32 MiB.
 #[derive(Drop)]
 pub struct Batch {
     pub tasks: Vec<Task>,
@@ -49,7 +49,7 @@ impl Batch {
 
     /// Whether it gets no further filelog.
     pub fn is_full(&self) -> bool
-        ensures { result ≡ (nat_le 64 (length self.now.tasks.items) || nat_le 33554432 self.now.bytes) }
+        ensures { result ≡ (nat_le 96 (length self.now.tasks.items) || nat_le 33554432 self.now.bytes) }
     {
         self.tasks.len() >= MOST_PATHS || self.bytes >= MOST_BYTES
     }
