@@ -1,7 +1,7 @@
 #!/usr/bin/env python3
 """What a gate costs: watches the checker's processes while a command runs, and prints a table in minutes of one core.
 
-    tools/gate_cost.py rt ci --anew
+    tools/gate_cost.py rt ci
 
 A row a crate: its proofs, the proofs of its tests, its must-fail edits. Processes that live less than a quarter of a second
 may be missed; the last line has the whole of the command as the system counts it.
