@@ -233,6 +233,10 @@ DRAFTS = {
     "bookmarks": f"{ZERO} main\n".encode(),
     "dirstate": bytes.fromhex(ONE) + NULL,
 }
+# The same with an inline changelog.
+INLINE_DRAFTS = {**{name: data for name, data in DRAFTS.items() if name != DATA}, INDEX: inline(FIRST, SECOND)}
+NO_INLINE = "abort: limit 8\n"
+RECORD = b"commit\nparent tip\nuser test\ndate 60 0\ndesc 1\nb\nfile - 2 a\nb\n\nend\n"
 ROOTS_PATH = "store/phaseroots"
 
 # A transaction that was left open, and what it began from.
@@ -283,6 +287,21 @@ COMMANDS = [
             ({**DRAFTS, "dirstate": DRAFTS["dirstate"] + b"n"}, "dirstate 3 0", "dirstate"),
         )
     ),
+    # an inline changelog or manifest, to which no writer appends: told behind the repository's own refusals
+    *(
+        (files, words, text, status, files)
+        for files, words, text, status in (
+            (INLINE_DRAFTS, "phase 0 public", NO_INLINE, 20),
+            (INLINE_DRAFTS, "phase tip secret", "abort: phase of 1 needs --force\n", 26),
+            (INLINE_DRAFTS, "phase 12 public", UNKNOWN, 12),
+            (INLINE_DRAFTS, "bookmark here .", NO_INLINE, 20),
+            (INLINE_DRAFTS, "bookmark main 0", "abort: nothing changed (0)\n", 13),
+            (INLINE_DRAFTS, "bookmark --delete main", NO_INLINE, 20),
+            (history_inline(inline(FIRST), **{"store/fncache": b"data/a.i\ndata/a.d\n"}), "commit", NO_INLINE, 20),
+            ({**INLINE, "store/fncache": b"data/a.i\n"}, "commit", NO_INLINE, 20),
+            (INLINE, "bookmark new 0", NO_INLINE, 20),
+        )
+    ),
     (DRAFTS, "recover", "no interrupted transaction available\n", 1, DRAFTS),
     (OPEN, "recover", "transaction undone\n", 0, BEFORE),
     (OPEN, "phase 0 public", "abort: lock held by me\n", 10, OPEN),
@@ -305,7 +324,8 @@ def main():
         with tempfile.TemporaryDirectory() as folder:
             lay(folder, files)
             words = words.split() if isinstance(words, str) else words
-            ended = subprocess.run([program, *words], stdin=subprocess.DEVNULL, capture_output=True, cwd=folder, check=False)
+            given = RECORD if words == ["commit"] else b""
+            ended = subprocess.run([program, *words], input=given, capture_output=True, cwd=folder, check=False)
             said = (ended.returncode, ended.stdout) == (status, text.encode())
             checks.check(f"{words}: status {ended.returncode} ({status}), {ended.stdout} ({text.encode()})", said)
             checks.check(f"{words}: other files stand", bytes_of(folder) == {name: data for name, data in after.items() if data})
