@@ -61,6 +61,17 @@ check "a folder that stands" refused "tree: File exists" checkout tip tree
 check "a name that names nothing" refused "abort: unknown revision" checkout nothing new
 check "which makes no folder" [ ! -e new ]
 
+# A commit of ordinary size, into a repository of its own.
+mkdir -p usual/files/src && cd usual && hg_store init || exit 1
+for number in {1..300}; do echo "$number" >"files/src/f$number"; done
+chmod +x files/src/f7
+usual() { record -m $'one\ntwo' -u 'Ada Lovelace <ada@example.org>' -d '1700000000 -3600' --bookmark main files | hg_store commit; }
+check "a commit of ordinary size" usual
+check "nothing is wrong with it" [ "$(hg_store verify --jobs 4)" = "checked 1 changesets, 300 filelogs, 0 findings" ]
+check "it is the one head" [ "$(hg_store heads | wc -l)" = 1 ]
+check "and the one parent" [ "$(hg_store parents | wc -l)" = 1 ]
+cd ..
+
 # The example of README.md: the commands behind '$ ', and what they write.
 sed -n '/^By hand:/,/^[A-Z#`]/p' "$here/../README.md" | sed -n 's/^    //p' >"$work/example"
 sed -n 's/^\$ //p' "$work/example" >"$work/commands"

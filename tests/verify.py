@@ -150,6 +150,7 @@ ROWS = [
     ({**DRAFTS, "dirstate": GONE + NULL}, ["dirstate - 15"], 2, 1),
     ({**DRAFTS, "dirstate": ONE + NULL}, ["dirstate - 16"], 2, 1),
     # bytes behind the last revision
+    (behind(CHANGELOG, bytes(63)), [f"{CHANGELOG} 2 17"], 2, 1),
     (behind(MANIFEST_DATA, b"x"), [f"{MANIFEST_DATA} 2 17"], 2, 1),
     (behind(FILE, b"x"), [f"{FILE} 2 17"], 2, 1),
     # inline revlogs: whole, with files beside that are no part of them, and with a listed name of one that is not there
