@@ -1,0 +1,13 @@
+pub mod Ties
+pub mod Ends
+pub mod Files
+pub mod Book
+pub mod Home
+pub mod Told
+pub mod Rule
+pub mod Looks
+pub mod Reader
+pub mod Writer
+pub mod Pieces
+pub mod New
+pub mod Hub
