@@ -3,6 +3,7 @@ ghost use Rattle.std.specs.Prelude.{◌≡◌, ◌==◌, ◌≤◌, ◌<◌, ℕ
 ghost use Rattle.hgs_files.specs.declared.op.Op.{Op};
 ghost use Rattle.hgs_files.specs.Tree.{after_all};
 ghost use Rattle.hgs_files.specs.Log.{append_of_rest};
+ghost use Rattle.hgs_files.specs.Ties.{untied};
 ghost use Rattle.hgs_files.specs.Reads.{Counts, ReadsFrom, HasSize, LooksAt, AddsBytes, ReadsPart, greatest};
 ghost use Rattle.hgs_files.specs.Files.{GoesOn, LeavesPieces, LeavesWhole, CreatesNew};
 ghost use Rattle.hgs_mem.specs.Mem.{start_tree};
@@ -143,6 +144,10 @@ impl Reads for MemFiles {
     ghost start = { λ m. start_of m };
 
     ghost alone = { true };
+
+    ghost shows = { λ start log. Unit {0} };
+
+    ghost ties = { λ m. untied };
 
     fn read(
         &mut self,

@@ -2,6 +2,7 @@
 ghost use Rattle.std.specs.Prelude.{◌≡◌, ℕ, List, [], ◌∷◌, ◌++◌, IfOk, OnOk, None, Some, true, refl};
 ghost use Rattle.hgs_files.specs.declared.op.Op.{Op};
 ghost use Rattle.hgs_files.specs.Files.{CreatesNew, GoesOn, LeavesPieces, LeavesWhole};
+ghost use Rattle.hgs_files.specs.Ties.{untied};
 ghost use Rattle.hgs_files.specs.Reads.{AddsBytes, Counts, HasSize, LooksAt, ReadsFrom};
 ghost use Rattle.hgs_mem.specs.Steady.{steady_log, steady_start, steady_tree};
 
@@ -56,6 +57,10 @@ impl Reads for SteadyFiles {
     ghost start = { λ m. steady_start m };
 
     ghost alone = { true };
+
+    ghost shows = { λ start log. Unit {0} };
+
+    ghost ties = { λ m. untied };
 
     fn read(
         &mut self,

@@ -28,7 +28,7 @@ use std::thread::Threads;
 
 /// The exit status of a run, and what it leaves of the yard.
 #[derive(Drop)]
-pub struct Ran<Y> {
+pub struct Ran<Y: Yard> {
     pub status: u8,
     pub left: Left<Y>,
 }
