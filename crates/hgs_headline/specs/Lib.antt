@@ -1,2 +1,3 @@
 pub mod WritersLog
 pub mod AddsCommitted
+pub mod Again

@@ -3,6 +3,7 @@
 ghost use Rattle.std.specs.Prelude.{◌≡◌, ◌<◌, ◌≤◌, ◌++◌, ℕ, List, [], length, map, Result, Ok, Some, slice_get};
 ghost use Rattle.hgs_bytes.specs.Bytes.{IsPrefixOf};
 ghost use Rattle.hgs_files.specs.declared.op.Op.{Op};
+ghost use Rattle.hgs_files.specs.Reads.{Covers};
 ghost use Rattle.hgs_files.specs.Tree.{Tree, after_all, bytes_at};
 ghost use Rattle.hgs_index.specs.Inline.{is_inline};
 ghost use Rattle.hgs_model.specs.History.{changeset_nodes};
@@ -17,6 +18,7 @@ ghost use Rattle.hgs_legal.specs.LegalLog.{IsLegal, IsRun, Run, start_of};
 ghost use Rattle.hgs_legal.specs.Numbers.{b_of, n_of, repo_at, w_of};
 ghost use Rattle.hgs_load.specs.declared.answer.ReadAnswer.{ReadAnswer};
 ghost use Rattle.hgs_load.specs.Asks.{Answers, MayAnswer};
+ghost use Rattle.hgs_load.specs.Beyond.{AnswersBeyond, RefreshesBeyond};
 ghost use Rattle.hgs_reader.specs.Heads.{heads_text};
 ghost use Rattle.hgs_load.specs.Load.{Refreshes};
 ghost use Rattle.hgs_reader.specs.Names.{named};
@@ -29,6 +31,7 @@ ghost use Rattle.hgs_views.specs.Answered.{IsAnswered};
 ghost use Rattle.hgs_views.specs.Course.{IsCourse, OpensAlong, ReadsAlong};
 ghost use Rattle.hgs_views.specs.Seen.{Given, IsLoadedBetween, NoneFell, Numbers, Refreshed, seen};
 ghost use Rattle.hgs_headline.specs.AddsCommitted.{AddsCommitted};
+ghost use Rattle.hgs_headline.specs.Again.{GivenAgain};
 ghost use Rattle.hgs_headline.specs.WritersLog.{WritersLog, course_of, state_after};
 
 use hgs_legal::laws::{logs_show, numbers_rise, published_files_stay, repositories_go_on};
@@ -125,4 +128,19 @@ pub fn calls_beside_writers()
     sessions_do_not_fall_back();
     views_beside_writers();
     calls_that_add_a_text();
+}
+
+/// And so it is of ends that were told of others' work: the first look of a load that they answer goes on from each log that
+/// they were told, so that none of its numbers is below those of what was seen or told before.
+pub fn ends_beside_writers()
+    ensures opened { (h : WritersLog) (told : List (List Op)) (first last : List Op) (r : Result View ReadAnswer) → IsPrefixOf last h.log → OpensAlong (course_of h) first last → AnswersBeyond (λ session. session) told (Some first) h.start (Some last) open_asks r →
+        Given (λ view. (from : List Op) × IsPrefixOf first from × Covers told from × (v : Numbers) × IsLoadedBetween (course_of h) from last v view) r }
+    ensures session { (h : WritersLog) (told : List (List Op)) (began ended first last : List Op) (v : Numbers) (old new : View) (r : Result Unit ReadAnswer) → IsPrefixOf last h.log → OpensAlong (course_of h) first last → IsLoadedBetween (course_of h) began ended v old → IsPrefixOf ended first →
+        RefreshesBeyond told (Some first) h.start (Some last) (refresh_asks old) new r → GivenAgain (λ view. (from : List Op) × IsPrefixOf first from × Covers told from × (w : Numbers) × IsLoadedBetween (course_of h) from last w view × NoneFell v w) new r }
+    ensures numbers { (h : WritersLog) (front from last : List Op) (v : Numbers) (view : View) → IsPrefixOf last h.log → IsPrefixOf front from → IsLoadedBetween (course_of h) from last v view →
+        (b_of (state_after h front) ≤ v.marked) × (w_of (state_after h front) ≤ v.worked) × (n_of (state_after h front) ≤ v.read) × (n_of (state_after h front) ≤ v.rooted) }
+{
+    writers_logs_are_courses();
+    loads_beside_writers();
+    numbers_of_loads();
 }

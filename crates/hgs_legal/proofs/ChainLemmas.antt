@@ -14,7 +14,7 @@ use Rattle.hgs_legal.specs.LegalLog.{Acts, Doing, Goes, IsRun, State, Turn, begi
 use Rattle.hgs_legal.specs.Numbers.{repo_at}
 use Rattle.hgs_legal.proofs.Below.{Below}
 use Rattle.hgs_legal.proofs.Invariant.{Inv, Invariant}
-use Rattle.hgs_legal.proofs.Runs.{run-keeps}
+use Rattle.hgs_legal.specs.Theorems.Runs.{run-keeps}
 use Rattle.hgs_legal.proofs.Step.{goes-keeps, leaves-keeps}
 
 -- each transaction was accepted by the repository before it

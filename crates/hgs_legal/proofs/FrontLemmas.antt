@@ -10,7 +10,7 @@ use Rattle.hgs_model.specs.Repo.{Repo}
 use Rattle.hgs_ops.specs.Operations.{lock_path, removals, strays, wlock_path}
 use Rattle.hgs_legal.specs.LegalLog.{IsTurn, Turn, lock_removals, through_publishing, through_removal, to_publishing}
 use Rattle.hgs_legal.specs.Pieces.{AreSome, HasBegun, LeavesJournal, Piece, Refusal, before, behind, dropped, dropped_before, given_up, once, refused, twice, was_undone, whole_list, within}
-use Rattle.hgs_legal.proofs.StopLemmas.{does-piece, piece-piece}
+use Rattle.hgs_legal.specs.Theorems.StopLemmas.{does-piece, piece-piece}
 
 -- ---- stops in lists
 

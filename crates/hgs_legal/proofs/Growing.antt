@@ -27,7 +27,7 @@ use Rattle.hgs_legal.proofs.Below.{Below}
 use Rattle.hgs_legal.proofs.Invariant.{AreAside, AreLocks, Inv, Invariant, IsPreparing, IsPublished, IsWorking, is_aside, is_lock, last-more, less-none}
 use Rattle.hgs_legal.proofs.LegalLemmas.{run-files}
 use Rattle.hgs_legal.proofs.LockLemmas.{behind, lock-aside, locks-aside}
-use Rattle.hgs_legal.proofs.Runs.{run-keeps}
+use Rattle.hgs_legal.specs.Theorems.Runs.{run-keeps}
 use Rattle.hgs_legal.proofs.Step.{goes-keeps, leaves-keeps}
 use Rattle.hgs_legal.proofs.Touched.{and-both, and-left, and-right, does-within, done-split, or-both, or-left, touched-within, untouched, within}
 use Rattle.hgs_legal.specs.Theorems.TreeFacts.{away, bool, bytes-same, never, same-sym}

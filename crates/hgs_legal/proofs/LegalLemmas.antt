@@ -1,4 +1,4 @@
--- Legal logs: their prefixes, and their numbers.
+-- The numbers of legal logs.
 use Rattle.std.proofs.Common.{◌≡◌, ◌⊎◌, ℕ, ◌<◌, ◌≤◌, List, [], ◌∷◌, ◌++◌, Bool, true, false, ◌||◌, length, refl, sym, ◌∙◌, ap, inl, inr, arith, length-append}
 use Rattle.std.specs.Prelude.{Option, Some, None}
 use Rattle.std.specs.List.{list_any}
@@ -8,21 +8,10 @@ use Rattle.hgs_files.specs.Tree.{Tree, after_all}
 use Rattle.hgs_files.specs.Log.{append_of_rest, IsPiece, Does}
 use Rattle.hgs_model.specs.Repo.{Repo}
 use Rattle.hgs_stands.specs.Places.{bookmarks_path, dirstate_path}
-use Rattle.hgs_legal.specs.LegalLog.{Turn, Doing, Idle, Refused, Working, Published, worked, newly, finished, undone, Leaves, stays, gives_up, breaks, breaks_after, breaks_undo, is_refused, Acts, begins, prepares, journals, works, finishes, undoes, goes_on_undoing, drops_journal, drops_none, removes, knocks, knocks_again, goes_on_knocking, State, current, start_of, Goes, Run, IsLegal}
+use Rattle.hgs_legal.specs.LegalLog.{Turn, Doing, Idle, Refused, Working, Published, worked, newly, finished, undone, Leaves, stays, gives_up, breaks, breaks_after, breaks_undo, is_refused, Acts, begins, prepares, journals, works, finishes, undoes, goes_on_undoing, drops_journal, drops_none, removes, knocks, knocks_again, goes_on_knocking, State, current, Goes, Run}
 use Rattle.hgs_ops.specs.Shown.{is_rename_to, lacks_dirstate, lacks_bookmarks}
 use Rattle.hgs_legal.specs.Numbers.{left_of, less_one, n_of, w_of, b_of}
-use Rattle.hgs_legal.proofs.Runs.{run-split, run-keeps}
-
--- a prefix of a legal log is legal
-pub prefix-legal : (t : Tree) (log more : List Op) → IsLegal t (log ++ more) → IsLegal t log
-prefix-legal t log more legal r clean =
-    let run = legal r clean in
-    let parts = run-split Goes (start_of t r) log more run.0 run.1 in
-    (parts.0, parts.1)
-
--- nothing is legal
-pub empty-legal : (t : Tree) → IsLegal t []
-empty-legal t r clean = (start_of t r, refl)
+use Rattle.hgs_legal.specs.Theorems.Runs.{run-keeps}
 
 -- the files of a run are those after its log
 pub run-files : (s : State) (log : List Op) (s' : State) → Run s log s' → s'.files ≡ after_all log s.files

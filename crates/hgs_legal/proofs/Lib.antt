@@ -1,9 +1,7 @@
 pub mod Touched
 pub mod Below
-pub mod Runs
 pub mod LegalLemmas
 pub mod StayLemmas
-pub mod StopLemmas
 pub mod Drops
 pub mod TurnLemmas
 pub mod Invariant

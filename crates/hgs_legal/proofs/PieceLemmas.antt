@@ -13,7 +13,7 @@ use Rattle.hgs_stands.specs.Stands.{IsClean}
 use Rattle.hgs_legal.specs.LegalLog.{Acts, Doing, Goes, Idle, IsLegal, IsTurn, Leaves, Preparing, Published, Refused, Run, State, Turn, Undoing, Working, begins, breaks, breaks_after, breaks_undo, drops_journal, drops_none, finished, finishes, gives_up, goes_on_knocking, goes_on_undoing, is_refused, journals, knocks, knocks_again, last_repo, lock_removals, prepares, removes, start_of, stays, through_publishing, through_removal, to_publishing, undoes, undone, works}
 use Rattle.hgs_legal.specs.Pieces.{AreSome, HasBegun, LeavesJournal, Piece, Pieces, Refusal, Refusals, and_then, at_last, before, behind, dropped, dropped_before, given_up, no_more, no_pieces, once, one_more, refused, twice, was_undone, whole_list, within}
 use Rattle.hgs_legal.proofs.Invariant.{kept_at, less-none}
-use Rattle.hgs_legal.proofs.Runs.{run-join, run-split}
+use Rattle.hgs_legal.specs.Theorems.Runs.{run-join, run-split}
 
 -- a state, field by field
 abbrev at : Tree → Repo → List Turn → Doing → State

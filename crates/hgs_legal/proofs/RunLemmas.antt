@@ -15,10 +15,10 @@ use Rattle.hgs_legal.specs.Numbers.{StopsAt, acknowledged_of, b_of, w_of, is_som
 use Rattle.hgs_legal.proofs.Below.{Below}
 use Rattle.hgs_legal.proofs.Invariant.{Inv, Invariant, IsShown, kept_at, less-last, less-none}
 use Rattle.hgs_legal.proofs.LegalLemmas.{leaves-left, less_one-mono, run-files}
-use Rattle.hgs_legal.proofs.Runs.{run-keeps}
+use Rattle.hgs_legal.specs.Theorems.Runs.{run-keeps}
 use Rattle.hgs_legal.proofs.StayLemmas.{run-repo_at}
 use Rattle.hgs_legal.proofs.Step.{at-work-open, at-work-shown, goes-keeps, preparing-stands, published-shown, settling-open, undone-open, undone-shown}
-use Rattle.hgs_legal.proofs.StopLemmas.{run-stopped}
+use Rattle.hgs_legal.specs.Theorems.StopLemmas.{run-stopped}
 use Rattle.hgs_legal.specs.Theorems.TreeFacts.{never}
 
 module _ (b : Below) where

@@ -1,3 +1,4 @@
+pub mod BeyondLemmas
 pub mod BoundLemmas
 pub mod FeedLemmas
 pub mod HistoryLemmas

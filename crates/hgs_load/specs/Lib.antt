@@ -1,5 +1,6 @@
 pub mod Answer
 pub mod Asks
+pub mod Beyond
 pub mod Form
 pub mod Given
 pub mod Load

@@ -3,6 +3,7 @@ ghost use Rattle.std.specs.Prelude.{◌≡◌, ◌≤◌, [], Bool, true, length
 ghost use Rattle.hgs_files.specs.Reads.{Grows};
 ghost use Rattle.hgs_load.specs.Answer.{HasFaultCause};
 ghost use Rattle.hgs_load.specs.Asks.{IsPart};
+ghost use Rattle.hgs_load.specs.Beyond.{IsShown, LooksThere};
 ghost use Rattle.hgs_load.specs.Given.{CountsPart};
 
 use crate::answer::{ReadAnswer, of_files};
@@ -25,6 +26,9 @@ pub fn read_part<R: Reads>(
     ensures seen { Grows (R.seen files.old) (R.seen files.new) }
     ensures same_start { R.start files.new ≡ R.start files.old }
     ensures still { R.alone ≡ true → R.seen files.new ≡ R.seen files.old }
+    ensures same_ties { R.ties files.new ≡ R.ties files.old }
+    ensures shown { IsShown R.shows (R.start files.old) (R.seen files.old) → IsShown R.shows (R.start files.new) (R.seen files.new) }
+    ensures beyond { LooksThere (R.ties files.old).told (R.seen files.new) result }
     ensures cause { HasFaultCause (R.faults files.old) (R.faults files.new) (R.denied files.old) (R.denied files.new) result }
 {
     let mut part = Vec::new(alloc);

@@ -1,12 +1,13 @@
 //! One step of a load: a read, and what the machine makes of it.
-ghost use Rattle.std.specs.Prelude.{◌≡◌, ◌<◌, true, IfOk};
+ghost use Rattle.std.specs.Prelude.{◌≡◌, ◌<◌, ◌⊎◌, true, IfOk};
 ghost use Rattle.std.specs.Option.{option_map};
 ghost use Rattle.hgs_bytes.specs.Bytes.{IsPrefixOf};
 ghost use Rattle.hgs_files.specs.Reads.{Grows};
 ghost use Rattle.hgs_load.specs.Answer.{HasFaultCause};
 ghost use Rattle.hgs_load.specs.Asks.{Answers};
+ghost use Rattle.hgs_load.specs.Beyond.{IsShown, StepsBeyond, AnswersBeyond};
 ghost use Rattle.hgs_load.specs.Given.{Takes, TakesStep};
-ghost use Rattle.hgs_load.specs.Load.{asks_of, reads_left, Advances};
+ghost use Rattle.hgs_load.specs.Load.{asks_of, reads_left, Advances, HasEnded};
 ghost use Rattle.hgs_load.specs.Open.{open_asks};
 ghost use Rattle.hgs_load.specs.Refresh.{refresh_asks, GivenFew};
 
@@ -40,6 +41,9 @@ pub fn feed_next<R: Reads>(
     ensures seen { Grows (R.seen files.old) (R.seen files.new) }
     ensures same_start { R.start files.new ≡ R.start files.old }
     ensures still { R.alone ≡ true → R.seen files.new ≡ R.seen files.old }
+    ensures same_ties { R.ties files.new ≡ R.ties files.old }
+    ensures shown { IsShown R.shows (R.start files.old) (R.seen files.old) → IsShown R.shows (R.start files.new) (R.seen files.new) }
+    ensures beyond { StepsBeyond (R.ties files.old).told (R.start files.old) (R.seen files.new) (asks_of machine.old) (asks_of machine.new) result }
     ensures cause { HasFaultCause (R.faults files.old) (R.faults files.new) (R.denied files.old) (R.denied files.new) result }
 {
     let LoadNext::Read { path, from, most } = machine.next() else {
@@ -63,6 +67,9 @@ pub fn load_with<R: Reads>(
     ensures seen { Grows (R.seen files.old) (R.seen files.new) }
     ensures same_start { R.start files.new ≡ R.start files.old }
     ensures still { R.alone ≡ true → R.seen files.new ≡ R.seen files.old }
+    ensures same_ties { R.ties files.new ≡ R.ties files.old }
+    ensures shown { IsShown R.shows (R.start files.old) (R.seen files.old) → IsShown R.shows (R.start files.new) (R.seen files.new) }
+    ensures beyond { HasEnded (asks_of load) ⊎ AnswersBeyond (λ loaded. loaded) (R.ties files.old).told (R.seen files.old) (R.start files.old) (R.seen files.new) (asks_of load) result }
     ensures cause { HasFaultCause (R.faults files.old) (R.faults files.new) (R.denied files.old) (R.denied files.new) result }
 {
     let mut machine = load;
@@ -82,6 +89,9 @@ pub fn load<R: Reads>(alloc: Global, files: &mut R) -> Result<Loaded, ReadAnswer
     ensures seen { Grows (R.seen files.old) (R.seen files.new) }
     ensures same_start { R.start files.new ≡ R.start files.old }
     ensures still { R.alone ≡ true → R.seen files.new ≡ R.seen files.old }
+    ensures same_ties { R.ties files.new ≡ R.ties files.old }
+    ensures shown { IsShown R.shows (R.start files.old) (R.seen files.old) → IsShown R.shows (R.start files.new) (R.seen files.new) }
+    ensures beyond { AnswersBeyond (λ loaded. loaded) (R.ties files.old).told (R.seen files.old) (R.start files.old) (R.seen files.new) open_asks result }
     ensures cause { HasFaultCause (R.faults files.old) (R.faults files.new) (R.denied files.old) (R.denied files.new) result }
 {
     let machine = LoadMachine::open(alloc)?;
@@ -103,6 +113,9 @@ pub fn load_again<R: Reads>(
     ensures seen { Grows (R.seen files.old) (R.seen files.new) }
     ensures same_start { R.start files.new ≡ R.start files.old }
     ensures still { R.alone ≡ true → R.seen files.new ≡ R.seen files.old }
+    ensures same_ties { R.ties files.new ≡ R.ties files.old }
+    ensures shown { IsShown R.shows (R.start files.old) (R.seen files.old) → IsShown R.shows (R.start files.new) (R.seen files.new) }
+    ensures beyond { AnswersBeyond (λ loaded. loaded) (R.ties files.old).told (R.seen files.old) (R.start files.old) (R.seen files.new) (refresh_asks old.now) result }
     ensures cause { HasFaultCause (R.faults files.old) (R.faults files.new) (R.denied files.old) (R.denied files.new) result }
 {
     let machine = LoadMachine::refresh(alloc, old)?;

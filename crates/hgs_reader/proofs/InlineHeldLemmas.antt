@@ -19,7 +19,7 @@ use Rattle.hgs_index.specs.declared.entry.Entry as index_entry
 use Rattle.hgs_index.specs.declared.node.Node.{Node}
 use Rattle.hgs_index.specs.Inline.{chunks_apart, index_apart, is_inline}
 use Rattle.hgs_index.specs.Revision.{Revision, node_after, nodes, nodes_from}
-use Rattle.hgs_index.specs.Revlog.{Begins, BeginsWithRevisions, Holds, Stored, index_bytes, items, items_from}
+use Rattle.hgs_index.specs.Revlog.{BeginsWithRevisions, Holds, Stored, index_bytes, items, items_from}
 use Rattle.hgs_index.specs.Theorems.EitherLemmas.{form-more, held-form}
 use Rattle.hgs_index.specs.Theorems.InlineLemmas.{apart-chunks, apart-front, cells, chunks_of_items, header-is, held-apart, index-inline, inline_header, item-chunks, items-stored}
 use Rattle.hgs_revlog.specs.declared.fault.Tail.{Tail}
@@ -37,7 +37,7 @@ use Rattle.hgs_load.specs.Theorems.PartLemmas.{part_is}
 use Rattle.hgs_load.specs.View.{piece_length}
 use Rattle.hgs_reader.specs.Find.{chunk_placed, has_item, inline_behind, inline_text, is_far, item_or, more_pieces, pieces_until, placed_text, separate_behind, text_answer, text_asks}
 use Rattle.hgs_reader.proofs.TreeLemmas.{AreHeld, FrontsAre, SaysSeparate, may-front, text-held}
-use Rattle.hgs_reader.specs.Held.{EndsInline, HasInlineText, HasText}
+use Rattle.hgs_reader.specs.Held.{EndsInline, HasInlineText}
 use Rattle.hgs_reader.specs.Theorems.HeldLemmas.{read_length, read_there}
 
 -- ---- items before the one with the node

@@ -10,6 +10,7 @@ ghost use Rattle.hgs_path.specs.declared.name.Ext.TheVariants.{I, D};
 ghost use Rattle.hgs_revlog.specs.Load.{most_text};
 ghost use Rattle.hgs_load.specs.Answer.{is_of_outside, HasFaultCause, NeverFaults};
 ghost use Rattle.hgs_load.specs.Asks.{answer, then_asks, Answers, AddsAnswer, AddsGiven};
+ghost use Rattle.hgs_load.specs.Beyond.{IsShown};
 ghost use Rattle.hgs_load.specs.Given.{Takes, TakesText};
 ghost use Rattle.hgs_reader.specs.Contents.{manifest_index, manifest_data, rows_answer, rows_asks, flag_word, file_line, files_text, file_node, body_answer, body_asks};
 
@@ -84,6 +85,8 @@ pub fn manifest_of<R: Reads>(
     ensures seen { Grows (R.seen files.old) (R.seen files.new) }
     ensures same_start { R.start files.new ≡ R.start files.old }
     ensures still { R.alone ≡ true → R.seen files.new ≡ R.seen files.old }
+    ensures same_ties { R.ties files.new ≡ R.ties files.old }
+    ensures shown { IsShown R.shows (R.start files.old) (R.seen files.old) → IsShown R.shows (R.start files.new) (R.seen files.new) }
     ensures cause { HasFaultCause (R.faults files.old) (R.faults files.new) (R.denied files.old) (R.denied files.new) result }
 {
     if is_null(node) {
@@ -192,6 +195,8 @@ fn add_body<R: Reads>(
     ensures seen { Grows (R.seen files.old) (R.seen files.new) }
     ensures same_start { R.start files.new ≡ R.start files.old }
     ensures still { R.alone ≡ true → R.seen files.new ≡ R.seen files.old }
+    ensures same_ties { R.ties files.new ≡ R.ties files.old }
+    ensures shown { IsShown R.shows (R.start files.old) (R.seen files.old) → IsShown R.shows (R.start files.new) (R.seen files.new) }
     ensures cause { HasFaultCause (R.faults files.old) (R.faults files.new) (R.denied files.old) (R.denied files.new) result }
 {
     let paths = filelog_paths(alloc, path)?;
@@ -214,6 +219,8 @@ pub fn add_file<R: Reads>(
     ensures seen { Grows (R.seen files.old) (R.seen files.new) }
     ensures same_start { R.start files.new ≡ R.start files.old }
     ensures still { R.alone ≡ true → R.seen files.new ≡ R.seen files.old }
+    ensures same_ties { R.ties files.new ≡ R.ties files.old }
+    ensures shown { IsShown R.shows (R.start files.old) (R.seen files.old) → IsShown R.shows (R.start files.new) (R.seen files.new) }
     ensures cause { HasFaultCause (R.faults files.old) (R.faults files.new) (R.denied files.old) (R.denied files.new) result }
 {
     match node_at(manifest, path) {

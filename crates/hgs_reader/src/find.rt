@@ -9,6 +9,7 @@ ghost use Rattle.hgs_revlog.specs.Log.{place_of};
 ghost use Rattle.hgs_revlog.specs.Text.{text_of};
 ghost use Rattle.hgs_load.specs.Answer.{is_of_outside, HasFaultCause, NeverFaults};
 ghost use Rattle.hgs_load.specs.Asks.{Answers, answer, then_asks};
+ghost use Rattle.hgs_load.specs.Beyond.{IsShown};
 ghost use Rattle.hgs_load.specs.Given.{Takes};
 ghost use Rattle.hgs_reader.specs.Find.{has_node, has_item, is_far, more_pieces, bytes_behind, text_answer, text_at_asks, placed_text, inline_text, inline_behind, separate_behind, text_asks};
 ghost use Rattle.hgs_load.specs.View.{log_answer};
@@ -131,6 +132,8 @@ fn read_behind<R: Reads>(
     ensures seen { Grows (R.seen files.old) (R.seen files.new) }
     ensures same_start { R.start files.new ≡ R.start files.old }
     ensures still { R.alone ≡ true → R.seen files.new ≡ R.seen files.old }
+    ensures same_ties { R.ties files.new ≡ R.ties files.old }
+    ensures shown { IsShown R.shows (R.start files.old) (R.seen files.old) → IsShown R.shows (R.start files.new) (R.seen files.new) }
     ensures cause { HasFaultCause (R.faults files.old) (R.faults files.new) (R.denied files.old) (R.denied files.new) result }
 {
     let mut bytes = Vec::from_slice(alloc, first)?;
@@ -182,6 +185,8 @@ fn load_behind<R: Reads>(
     ensures seen { Grows (R.seen files.old) (R.seen files.new) }
     ensures same_start { R.start files.new ≡ R.start files.old }
     ensures still { R.alone ≡ true → R.seen files.new ≡ R.seen files.old }
+    ensures same_ties { R.ties files.new ≡ R.ties files.old }
+    ensures shown { IsShown R.shows (R.start files.old) (R.seen files.old) → IsShown R.shows (R.start files.new) (R.seen files.new) }
     ensures cause { HasFaultCause (R.faults files.old) (R.faults files.new) (R.denied files.old) (R.denied files.new) result }
 {
     match read_behind(alloc, files, index, node, first, false) {
@@ -227,6 +232,8 @@ pub fn read_text<R: Reads>(
     ensures seen { Grows (R.seen files.old) (R.seen files.new) }
     ensures same_start { R.start files.new ≡ R.start files.old }
     ensures still { R.alone ≡ true → R.seen files.new ≡ R.seen files.old }
+    ensures same_ties { R.ties files.new ≡ R.ties files.old }
+    ensures shown { IsShown R.shows (R.start files.old) (R.seen files.old) → IsShown R.shows (R.start files.new) (R.seen files.new) }
     ensures cause { HasFaultCause (R.faults files.old) (R.faults files.new) (R.denied files.old) (R.denied files.new) result }
 {
     let span = log.text_span(rev);
@@ -251,6 +258,8 @@ fn text_in_log<R: Reads>(
     ensures seen { Grows (R.seen files.old) (R.seen files.new) }
     ensures same_start { R.start files.new ≡ R.start files.old }
     ensures still { R.alone ≡ true → R.seen files.new ≡ R.seen files.old }
+    ensures same_ties { R.ties files.new ≡ R.ties files.old }
+    ensures shown { IsShown R.shows (R.start files.old) (R.seen files.old) → IsShown R.shows (R.start files.new) (R.seen files.new) }
     ensures cause { HasFaultCause (R.faults files.old) (R.faults files.new) (R.denied files.old) (R.denied files.new) result }
 {
     match log.rev_of(node) {
@@ -273,6 +282,8 @@ fn separate_text<R: Reads>(
     ensures seen { Grows (R.seen files.old) (R.seen files.new) }
     ensures same_start { R.start files.new ≡ R.start files.old }
     ensures still { R.alone ≡ true → R.seen files.new ≡ R.seen files.old }
+    ensures same_ties { R.ties files.new ≡ R.ties files.old }
+    ensures shown { IsShown R.shows (R.start files.old) (R.seen files.old) → IsShown R.shows (R.start files.new) (R.seen files.new) }
     ensures cause { HasFaultCause (R.faults files.old) (R.faults files.new) (R.denied files.old) (R.denied files.new) result }
 {
     match load_behind(alloc, files, &paths.index, node, first) {
@@ -342,6 +353,8 @@ fn inline_text_of<R: Reads>(
     ensures seen { Grows (R.seen files.old) (R.seen files.new) }
     ensures same_start { R.start files.new ≡ R.start files.old }
     ensures still { R.alone ≡ true → R.seen files.new ≡ R.seen files.old }
+    ensures same_ties { R.ties files.new ≡ R.ties files.old }
+    ensures shown { IsShown R.shows (R.start files.old) (R.seen files.old) → IsShown R.shows (R.start files.new) (R.seen files.new) }
     ensures cause { HasFaultCause (R.faults files.old) (R.faults files.new) (R.denied files.old) (R.denied files.new) result }
 {
     match read_behind(alloc, files, index, node, first, true) {
@@ -363,6 +376,8 @@ pub fn text_of_node<R: Reads>(
     ensures seen { Grows (R.seen files.old) (R.seen files.new) }
     ensures same_start { R.start files.new ≡ R.start files.old }
     ensures still { R.alone ≡ true → R.seen files.new ≡ R.seen files.old }
+    ensures same_ties { R.ties files.new ≡ R.ties files.old }
+    ensures shown { IsShown R.shows (R.start files.old) (R.seen files.old) → IsShown R.shows (R.start files.new) (R.seen files.new) }
     ensures cause { HasFaultCause (R.faults files.old) (R.faults files.new) (R.denied files.old) (R.denied files.new) result }
 {
     let part = read_part(alloc, files, &paths.index, 0, PIECE)?;

@@ -44,6 +44,7 @@ impl Session {
     ghost use Rattle.hgs_changelog.specs.View.{view_change};
     ghost use Rattle.hgs_load.specs.Answer.{is_of_outside, HasFaultCause, NeverFaults};
     ghost use Rattle.hgs_load.specs.Asks.{Answers, AddsAnswer};
+    ghost use Rattle.hgs_load.specs.Beyond.{AnswersBeyond, IsShown, RefreshesBeyond};
     ghost use Rattle.hgs_load.specs.Given.{Takes, TakesText, TakesView};
     ghost use Rattle.hgs_reader.specs.Contents.{tree_asks, files_asks, cat_asks};
     ghost use Rattle.hgs_reader.specs.Heads.{heads_text};
@@ -80,6 +81,9 @@ impl Session {
         ensures seen { Grows (R.seen files.old) (R.seen files.new) }
         ensures same_start { R.start files.new ≡ R.start files.old }
         ensures still { R.alone ≡ true → R.seen files.new ≡ R.seen files.old }
+        ensures same_ties { R.ties files.new ≡ R.ties files.old }
+        ensures shown { IsShown R.shows (R.start files.old) (R.seen files.old) → IsShown R.shows (R.start files.new) (R.seen files.new) }
+        ensures beyond { AnswersBeyond (λ session. session) (R.ties files.old).told (R.seen files.old) (R.start files.old) (R.seen files.new) open_asks result }
         ensures cause { HasFaultCause (R.faults files.old) (R.faults files.new) (R.denied files.old) (R.denied files.new) result }
     {
         let paths = ChangelogPaths::new(alloc)?;
@@ -104,6 +108,9 @@ impl Session {
         ensures seen { Grows (R.seen files.old) (R.seen files.new) }
         ensures same_start { R.start files.new ≡ R.start files.old }
         ensures still { R.alone ≡ true → R.seen files.new ≡ R.seen files.old }
+        ensures same_ties { R.ties files.new ≡ R.ties files.old }
+        ensures shown { IsShown R.shows (R.start files.old) (R.seen files.old) → IsShown R.shows (R.start files.new) (R.seen files.new) }
+        ensures beyond { RefreshesBeyond (R.ties files.old).told (R.seen files.old) (R.start files.old) (R.seen files.new) (refresh_asks self.old) self.new result }
         ensures cause { HasFaultCause (R.faults files.old) (R.faults files.new) (R.denied files.old) (R.denied files.new) result }
     {
         match load_again(self.alloc, files, &self.loaded) {
@@ -196,6 +203,8 @@ impl Session {
         ensures seen { Grows (R.seen files.old) (R.seen files.new) }
         ensures same_start { R.start files.new ≡ R.start files.old }
         ensures still { R.alone ≡ true → R.seen files.new ≡ R.seen files.old }
+        ensures same_ties { R.ties files.new ≡ R.ties files.old }
+        ensures shown { IsShown R.shows (R.start files.old) (R.seen files.old) → IsShown R.shows (R.start files.new) (R.seen files.new) }
         ensures cause { HasFaultCause (R.faults files.old) (R.faults files.new) (R.denied files.old) (R.denied files.new) result }
     {
         let span = self.loaded.changelog().span_in_file(rev);
@@ -216,6 +225,8 @@ impl Session {
         ensures seen { Grows (R.seen files.old) (R.seen files.new) }
         ensures same_start { R.start files.new ≡ R.start files.old }
         ensures still { R.alone ≡ true → R.seen files.new ≡ R.seen files.old }
+        ensures same_ties { R.ties files.new ≡ R.ties files.old }
+        ensures shown { IsShown R.shows (R.start files.old) (R.seen files.old) → IsShown R.shows (R.start files.new) (R.seen files.new) }
         ensures cause { HasFaultCause (R.faults files.old) (R.faults files.new) (R.denied files.old) (R.denied files.new) result }
     {
         let span = self.loaded.changelog().span_in_file(rev);
@@ -231,6 +242,8 @@ impl Session {
         ensures seen { Grows (R.seen files.old) (R.seen files.new) }
         ensures same_start { R.start files.new ≡ R.start files.old }
         ensures still { R.alone ≡ true → R.seen files.new ≡ R.seen files.old }
+        ensures same_ties { R.ties files.new ≡ R.ties files.old }
+        ensures shown { IsShown R.shows (R.start files.old) (R.seen files.old) → IsShown R.shows (R.start files.new) (R.seen files.new) }
         ensures cause { HasFaultCause (R.faults files.old) (R.faults files.new) (R.denied files.old) (R.denied files.new) result }
     {
         match self.change(files, rev) {
@@ -256,6 +269,8 @@ impl Session {
         ensures seen { Grows (R.seen files.old) (R.seen files.new) }
         ensures same_start { R.start files.new ≡ R.start files.old }
         ensures still { R.alone ≡ true → R.seen files.new ≡ R.seen files.old }
+        ensures same_ties { R.ties files.new ≡ R.ties files.old }
+        ensures shown { IsShown R.shows (R.start files.old) (R.seen files.old) → IsShown R.shows (R.start files.new) (R.seen files.new) }
         ensures cause { HasFaultCause (R.faults files.old) (R.faults files.new) (R.denied files.old) (R.denied files.new) result }
     {
         match self.manifest(files, rev) {
@@ -285,6 +300,8 @@ impl Session {
         ensures seen { Grows (R.seen files.old) (R.seen files.new) }
         ensures same_start { R.start files.new ≡ R.start files.old }
         ensures still { R.alone ≡ true → R.seen files.new ≡ R.seen files.old }
+        ensures same_ties { R.ties files.new ≡ R.ties files.old }
+        ensures shown { IsShown R.shows (R.start files.old) (R.seen files.old) → IsShown R.shows (R.start files.new) (R.seen files.new) }
         ensures cause { HasFaultCause (R.faults files.old) (R.faults files.new) (R.denied files.old) (R.denied files.new) result }
     {
         let manifest = match self.manifest(files, rev) {

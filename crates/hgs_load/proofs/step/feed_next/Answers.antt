@@ -8,7 +8,7 @@ use Rattle.hgs_load.specs.Answer.{is_of_outside}
 use Rattle.hgs_load.specs.Asks.{Asks, IsPart}
 use Rattle.hgs_load.specs.Given.{RisesBy, size_of, Gave, TakesStep}
 use Rattle.hgs_load.specs.Load.{asks_of, rest_of}
-use Rattle.hgs_load.specs.Theorems.AskLemmas.{either}
+use Rattle.hgs_load.specs.Theorems.AskLemmas.{either, grows-refl}
 use Rattle.hgs_load.specs.Theorems.GivenLemmas.{refused-behind, refused-first, handed-on}
 use Rattle.hgs_load.proofs.StepLemmas.{asked_then, asked_on, asked_gave}
 use Rattle.hgs_load.proofs.step.feed_next.Goals as goal
@@ -69,3 +69,28 @@ returns-in_err-part-clause-given g c =
     let q = asks_of c.args.machine.now in
     let P : Result Bool ReadAnswer → Type 0 = λ r. TakesStep (g.R.Reads.given c.args.files.now) (g.R.Reads.given c.read_part.new.files) (g.R.Reads.seen c.args.files.now) (g.R.Reads.start c.args.files.now) (g.R.Reads.seen c.read_part.new.files) q q r in
     handed-on P c.from_residual.result c.in_err-part.field-0.0 c.from_residual.ensures.0 c.from_residual.ensures.1 (refused-first (g.R.Reads.given c.args.files.now) (g.R.Reads.given c.read_part.new.files) (g.R.Reads.seen c.args.files.now) (g.R.Reads.seen c.read_part.new.files) (g.R.Reads.start c.args.files.now) q c.in_err-part.field-0.0 c.in_err-part.ensures.answer c.in_err-part.ensures.given c.in_err-part.ensures.seen)
+
+pub returns-in-Ok-clause-beyond : goal.returns-in-Ok-clause-beyond
+returns-in-Ok-clause-beyond g c =
+    let seen = g.R.Reads.seen c.read_part.new.files in
+    let start = g.R.Reads.start c.read_part.new.files in
+    let P : Option (List ℕ) → Type 0 = λ part. IsPart seen start c.in-Read.path.now c.in-Read.from c.in-Read.most (Ok part) in
+    let e = c.in_ok-part.ensures in (
+      e.beyond,
+      asked_on seen seen (g.R.Reads.start c.args.files.now) start (asks_of c.args.machine.now) (asks_of c.feed.new.self) c.in-Read.path c.in-Read.from c.in-Read.most (option_copied c.slice_of.result)
+          c.in-Read.ensures (grows-refl seen) e.same_start (subst P (sym c.slice_of.ensures) e.answer) c.in-Ok.ensures.fed,
+    )
+
+pub returns-clause-beyond : goal.returns-clause-beyond
+returns-clause-beyond g c =
+    let seen = g.R.Reads.seen c.read_part.new.files in
+    let start = g.R.Reads.start c.read_part.new.files in
+    let P : Option (List ℕ) → Type 0 = λ part. IsPart seen start c.in-Read.path.now c.in-Read.from c.in-Read.most (Ok part) in
+    let e = c.in_ok-part.ensures in
+    either (is_of_outside c.in-Err.refusal) _ _
+    (λ h. (
+      e.beyond,
+      asked_then seen seen (g.R.Reads.start c.args.files.now) start (asks_of c.args.machine.now) c.in-Read.path c.in-Read.from c.in-Read.most (option_copied c.slice_of.result) (Err c.in-Err.refusal)
+          c.in-Read.ensures (grows-refl seen) e.same_start (subst P (sym c.slice_of.ensures) e.answer) h,
+    ))
+    c.in-Err.ensures.fed

@@ -1,4 +1,4 @@
-use Rattle.std.proofs.Common.{◌≡◌, sym, ◌∙◌}
+use Rattle.std.proofs.Common.{sym, ◌∙◌}
 use Rattle.hgs_reader.proofs.ItemLemmas.{item-behind, item-here, item-shorter, no-item}
 use Rattle.hgs_reader.proofs.find.has_item.Goals as goal
 

@@ -42,6 +42,8 @@ loop-left-preserved-else-is_far-2 g c =
       grown = grows-trans (g.R.Reads.seen c.args.files.now) (g.R.Reads.seen c.loop-left.files) (g.R.Reads.seen c.read_part.new.files) i.grown e.seen;
       same_start = e.same_start ∙ i.same_start;
       still = λ h. e.still h ∙ i.still h;
+      tied = e.same_ties ∙ i.tied;
+      shown = λ h. e.shown (i.shown h);
       later = (let l = e.cause.later in omega (arith, l, i.later));
       refused = (let l = e.cause.refused in omega (arith, l, i.refused));
     }
@@ -65,6 +67,8 @@ loop-left-init g c =
       grown = grows-refl seen;
       same_start = refl;
       still = λ h. refl;
+      tied = refl;
+      shown = λ h. h;
       later = omega arith;
       refused = omega arith;
     }
@@ -132,3 +136,27 @@ returns-clause-answer g c =
     let past = c.loop-left-test.false in
     none_left (g.R.Reads.seen c.args.files.now) (g.R.Reads.seen c.loop-left.files) (g.R.Reads.start c.args.files.now) (bytes_behind c.args.inline c.args.index.now c.args.node.now.0 c.args.first.now)
     c.args.inline c.args.index.now c.args.node.now.0 c.loop-left.bytes.items c.loop-left.left (omega (arith, past)) c.loop-left.invariant.asked
+
+pub returns-in_err-part-clause-same_ties : goal.returns-in_err-part-clause-same_ties
+returns-in_err-part-clause-same_ties g c = c.in_err-part.ensures.same_ties ∙ c.loop-left.invariant.tied
+
+pub returns-in_err-part-clause-shown : goal.returns-in_err-part-clause-shown
+returns-in_err-part-clause-shown g c h = c.in_err-part.ensures.shown (c.loop-left.invariant.shown h)
+
+pub returns-in_err-extend_from_slice-clause-same_ties : goal.returns-in_err-extend_from_slice-clause-same_ties
+returns-in_err-extend_from_slice-clause-same_ties g c = c.in_ok-part.ensures.same_ties ∙ c.loop-left.invariant.tied
+
+pub returns-in_err-extend_from_slice-clause-shown : goal.returns-in_err-extend_from_slice-clause-shown
+returns-in_err-extend_from_slice-clause-shown g c h = c.in_ok-part.ensures.shown (c.loop-left.invariant.shown h)
+
+pub returns-then-is_far-2-clause-same_ties : goal.returns-then-is_far-2-clause-same_ties
+returns-then-is_far-2-clause-same_ties g c = c.in_ok-part.ensures.same_ties ∙ c.loop-left.invariant.tied
+
+pub returns-then-is_far-2-clause-shown : goal.returns-then-is_far-2-clause-shown
+returns-then-is_far-2-clause-shown g c h = c.in_ok-part.ensures.shown (c.loop-left.invariant.shown h)
+
+pub returns-clause-same_ties : goal.returns-clause-same_ties
+returns-clause-same_ties g c = c.loop-left.invariant.tied
+
+pub returns-clause-shown : goal.returns-clause-shown
+returns-clause-shown g c = c.loop-left.invariant.shown

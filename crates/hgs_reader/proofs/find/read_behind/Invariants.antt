@@ -1,6 +1,7 @@
-use Rattle.std.proofs.Common.{◌≡◌, ◌≤◌, [], true}
+use Rattle.std.proofs.Common.{◌≡◌, ◌≤◌, true}
 use Rattle.hgs_files.specs.Reads.{Grows}
 use Rattle.hgs_load.specs.Asks.{Continues}
+use Rattle.hgs_load.specs.Beyond.{IsShown}
 use Rattle.hgs_load.specs.Given.{Gave}
 use Rattle.hgs_reader.specs.Find.{bytes_behind, pieces_until}
 use Rattle.hgs_reader.proofs.find.read_behind.Given as goal
@@ -12,6 +13,8 @@ invariant-loop-left g l = record {
   grown : Grows (g.R.Reads.seen l.fn.files) (g.R.Reads.seen l.files);
   same_start : g.R.Reads.start l.files ≡ g.R.Reads.start l.fn.files;
   still : g.R.Reads.alone ≡ true → g.R.Reads.seen l.files ≡ g.R.Reads.seen l.fn.files;
+  tied : g.R.Reads.ties l.files ≡ g.R.Reads.ties l.fn.files;
+  shown : IsShown g.R.Reads.shows (g.R.Reads.start l.fn.files) (g.R.Reads.seen l.fn.files) → IsShown g.R.Reads.shows (g.R.Reads.start l.files) (g.R.Reads.seen l.files);
   later : g.R.Reads.faults l.fn.files ≤ g.R.Reads.faults l.files;
   refused : g.R.Reads.denied l.fn.files ≤ g.R.Reads.denied l.files;
 }

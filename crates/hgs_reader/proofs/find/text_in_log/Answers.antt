@@ -1,10 +1,8 @@
-use Rattle.std.proofs.Common.{◌≡◌, List, ℕ, Option, None, Err, refl, sym, ◌∙◌, ap, subst}
-use Rattle.hgs_revlog.specs.declared.fault.RevFault.TheVariants.{Missing}
+use Rattle.std.proofs.Common.{◌≡◌, ℕ, Option, None, Err, refl, sym, ◌∙◌, ap, subst}
 use Rattle.hgs_revlog.specs.Log.{place_of}
 use Rattle.hgs_load.specs.Answer.{is_of_outside}
 use Rattle.hgs_load.specs.Asks.{answer}
 use Rattle.hgs_load.specs.Given.{GaveRefused}
-use Rattle.hgs_load.specs.View.{revlog_refusal}
 use Rattle.hgs_reader.specs.Find.{text_at_asks}
 use Rattle.hgs_load.specs.Theorems.AskLemmas.{either, grows-refl}
 use Rattle.hgs_load.specs.Theorems.GivenLemmas.{gave-none, refused-behind}

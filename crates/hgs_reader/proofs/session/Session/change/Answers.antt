@@ -6,7 +6,7 @@ use Rattle.hgs_revlog.specs.Text.{span_in}
 use Rattle.hgs_reader.specs.Line.{change_at, change_asks}
 use Rattle.hgs_load.specs.View.{View}
 use Rattle.hgs_load.specs.Theorems.GivenLemmas.{takes-refused-read}
-use Rattle.hgs_reader.proofs.ChunkLemmas.{changeset_answers, changeset_takes, changeset_short}
+use Rattle.hgs_reader.proofs.ChunkLemmas.{changeset_answers, changeset_takes}
 use Rattle.hgs_reader.proofs.session.Session.change.Goals as goal
 
 pub returns-clause-answer : goal.returns-clause-answer

@@ -2,6 +2,7 @@ use Rattle.std.proofs.Common.{refl, Ok, Err, subst}
 use Rattle.hgs_bytes.specs.Bytes.{IsPrefixOf}
 use Rattle.hgs_load.specs.Answer.{is_of_outside}
 use Rattle.hgs_load.specs.Asks.{answer, MayAnswerWhereTold}
+use Rattle.hgs_load.specs.Beyond.{MayAnswerBeyond}
 use Rattle.hgs_load.specs.Given.{Gave, GaveRefused}
 use Rattle.hgs_load.specs.Refresh.{refresh_asks, GivenFew}
 use Rattle.hgs_load.specs.View.{View}
@@ -37,3 +38,13 @@ pub returns-in-Ok-clause-few : goal.returns-in-Ok-clause-few
 returns-in-Ok-clause-few g c =
     let P : View → Type 0 = λ old. GivenFew g.R.Reads.alone (g.R.Reads.given c.args.files.now) (g.R.Reads.given c.load_again.new.files) (g.R.Reads.seen c.args.files.now) (g.R.Reads.start c.args.files.now) old c.in-Ok.loaded in
     subst P c.self.view_is c.in-Ok.ensures.few
+
+pub returns-in-Ok-clause-beyond : goal.returns-in-Ok-clause-beyond
+returns-in-Ok-clause-beyond g c =
+    let P : View → Type 0 = λ old. MayAnswerBeyond (g.R.Reads.ties c.args.files.now).told (g.R.Reads.seen c.args.files.now) (g.R.Reads.start c.args.files.now) (g.R.Reads.seen c.load_again.new.files) (refresh_asks old) (Ok c.in-Ok.loaded) in
+    subst P c.self.view_is c.in-Ok.ensures.beyond
+
+pub returns-in-Err-clause-beyond : goal.returns-in-Err-clause-beyond
+returns-in-Err-clause-beyond g c =
+    let P : View → Type 0 = λ old. MayAnswerBeyond (g.R.Reads.ties c.args.files.now).told (g.R.Reads.seen c.args.files.now) (g.R.Reads.start c.args.files.now) (g.R.Reads.seen c.load_again.new.files) (refresh_asks old) (Err c.in-Err.refusal) in
+    either (is_of_outside c.in-Err.refusal) _ _ (λ h. subst P c.self.view_is h) c.in-Err.ensures.beyond
