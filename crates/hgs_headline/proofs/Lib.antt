@@ -2,3 +2,4 @@ pub mod Below
 pub mod RunLemmas
 pub mod CourseLemmas
 pub mod CallLemmas
+pub mod EndLemmas

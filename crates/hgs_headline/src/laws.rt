@@ -134,9 +134,9 @@ pub fn calls_beside_writers()
 /// they were told, so that none of its numbers is below those of what was seen or told before.
 pub fn ends_beside_writers()
     ensures opened { (h : WritersLog) (told : List (List Op)) (first last : List Op) (r : Result View ReadAnswer) → IsPrefixOf last h.log → OpensAlong (course_of h) first last → AnswersBeyond (λ session. session) told (Some first) h.start (Some last) open_asks r →
-        Given (λ view. (from : List Op) × IsPrefixOf first from × Covers told from × (v : Numbers) × IsLoadedBetween (course_of h) from last v view) r }
+        Given (λ view. (from : List Op) × IsPrefixOf first from × Covers told from × ((v : Numbers) × IsLoadedBetween (course_of h) from last v view)) r }
     ensures session { (h : WritersLog) (told : List (List Op)) (began ended first last : List Op) (v : Numbers) (old new : View) (r : Result Unit ReadAnswer) → IsPrefixOf last h.log → OpensAlong (course_of h) first last → IsLoadedBetween (course_of h) began ended v old → IsPrefixOf ended first →
-        RefreshesBeyond told (Some first) h.start (Some last) (refresh_asks old) new r → GivenAgain (λ view. (from : List Op) × IsPrefixOf first from × Covers told from × (w : Numbers) × IsLoadedBetween (course_of h) from last w view × NoneFell v w) new r }
+        RefreshesBeyond told (Some first) h.start (Some last) (refresh_asks old) new r → GivenAgain (λ view. (from : List Op) × IsPrefixOf first from × Covers told from × ((w : Numbers) × IsLoadedBetween (course_of h) from last w view × NoneFell v w)) new r }
     ensures numbers { (h : WritersLog) (front from last : List Op) (v : Numbers) (view : View) → IsPrefixOf last h.log → IsPrefixOf front from → IsLoadedBetween (course_of h) from last v view →
         (b_of (state_after h front) ≤ v.marked) × (w_of (state_after h front) ≤ v.worked) × (n_of (state_after h front) ≤ v.read) × (n_of (state_after h front) ≤ v.rooted) }
 {
