@@ -4,6 +4,5 @@ pub mod ReadLemmas
 pub mod RunLemmas
 pub mod ScriptBack
 pub mod ScriptFound
-pub mod StayLemmas
 pub mod TaskLemmas
 pub mod TextLemmas

@@ -1,53 +1,16 @@
 -- What is left behind a job, and a loop's next job or a fault in place of it.
-use Rattle.std.proofs.Common.{◌≡◌, ℕ, zero, suc, ◌<◌, ◌≤◌, Bool, true, false, ◌&&◌, List, [], ◌∷◌, length, Option, Some, None, Result, Ok, Err, refl, sym, ◌∙◌, ap, arith, length-append}
-use Rattle.std.specs.Prelude.{⊤, nat_lt, codes, if◌then◌else◌}
-use Rattle.std.specs.Bool.{MatchBool}
+use Rattle.std.proofs.Common.{◌≡◌, ℕ, zero, suc, ◌<◌, ◌≤◌, Bool, true, false, List, length, Option, Some, None, Ok, Err, refl, sym, ◌∙◌, ap, arith}
+use Rattle.std.specs.Prelude.{nat_lt, codes, if◌then◌else◌}
 use Rattle.std.proofs.lemmas.Bool.{leb-true}
 use Rattle.hgs_bytes.specs.Bytes.{same}
 use Rattle.hgs_bytes.specs.Text.{split}
-use Rattle.hgs_bytes.specs.Theorems.TextLemmas.{split_shorter}
-use Rattle.hgs_model.specs.declared.command.NewChange.{NewChange}
 use Rattle.hgs_model.specs.declared.command.Command.TheVariants.{Commit}
 use Rattle.hgs_input.specs.declared.fault.InputFault.{InputFault}
-use Rattle.hgs_input.specs.Front.{IsRecordBefore}
-use Rattle.hgs_input.specs.Record.{record_text}
-use Rattle.hgs_input.specs.Read.{Rest, Reading, ◌>>=◌, bad_at, place, line_or_cut, next_line, required_at, and_then, where_true, number_up_to, record_from, is_memory}
+use Rattle.hgs_input.specs.Read.{Rest, Reading, ◌>>=◌, bad_at, place, next_line, required_at, and_then, where_true, number_up_to, record_from, is_memory}
 use Rattle.hgs_script.specs.declared.job.Job.{Job}
 use Rattle.hgs_script.specs.declared.job.Job.TheVariants.{Change}
 use Rattle.hgs_script.specs.Read.{Task, most_workers, most_jobs, jobs_at, has_room, with_job, worker_of, call_of, job_of, job_at, task_at, next_task, jobs_on, jobs_from}
-
--- ---- what is read first, and what is read behind it
-
-pub record Bound {A B : Type 0} (x : Result A InputFault) (f : A → Result B InputFault) (y : B) : Type 0 where
-  pub value : A
-  pub is : x ≡ Ok value
-  pub gives : f value ≡ Ok y
-
-pub bound : {A B : Type 0} (x : Result A InputFault) (f : A → Result B InputFault) (y : B) → (x >>= f) ≡ Ok y → Bound x f y
-bound (Ok a) f y e = record { value = a; is = refl; gives = e }
-bound (Err d) f y e = cc
-
-pub ok_is : {A : Type 0} (x y : A) → ◌≡◌ {A = Result A InputFault} (Ok x) (Ok y) → x ≡ y
-ok_is x y e = cc
-
-pub some_is : {A : Type 0} (x y : A) → Some x ≡ Some y → x ≡ y
-some_is x y e = cc
-
-pub then_some : {A B : Type 0} (o : Option A) (f : A → Option B) (y : B) → and_then o f ≡ Some y → (x : A) × (o ≡ Some x) × (f x ≡ Some y)
-then_some None f y e = cc
-then_some (Some x) f y e = (x, refl, e)
-
-pub where_some : {A : Type 0} (b : Bool) (x y : A) → where_true b x ≡ Some y → (b ≡ true) × (x ≡ y)
-where_some true x y e = (refl, some_is x y e)
-where_some false x y e = cc
-
-pub both : (a b : Bool) → (a && b) ≡ true → (a ≡ true) × (b ≡ true)
-both true b e = (refl, e)
-both false b e = cc
-
-pub required_is : {A : Type 0} (at : ℕ) (o : Option A) (r : Rest) (p : A × Rest) → required_at at o r ≡ Ok p → (o ≡ Some p.0) × (p.1 ≡ r)
-required_is at None r p e = cc
-required_is {A} at (Some x) r p e = let same = ok_is {A = A × Rest} (x, r) p e in (ap (λ (q : A × Rest). Some q.0) same, sym (ap (λ (q : A × Rest). q.1) same))
+use Rattle.hgs_schedule.specs.Theorems.ReadLemmas.{bound, ok_is, some_is, none_some, then_some, where_some, both, required_is, line_fewer, line_at_end, RecordsStand, record_fewer, Refused, free}
 
 -- ---- whose job a line says
 
@@ -121,26 +84,6 @@ task_is workers r mid rest line said worker job is other calls says =
 
 -- ---- fewer bytes are left
 
-line_fewer : (r : Rest) (l : List ℕ × Rest) → next_line r ≡ Ok l → length l.1.bytes < length r.bytes
-line_fewer r l e = by (split 10 r.bytes) refl e
-  where
-    by : (s : Option (List ℕ × List ℕ)) → split 10 r.bytes ≡ s → line_or_cut r s ≡ Ok l → length l.1.bytes < length r.bytes
-    by None h k = cc
-    by (Some p) h k =
-        let few = split_shorter 10 r.bytes p h in
-        let same = ap (λ q. length q.1.bytes) (ok_is {A = List ℕ × Rest} (p.0, record r { bytes = p.1 }) l k) in
-        omega (arith, few, same)
-
--- what is read as a record stands before the rest
-abbrev pub RecordsStand : Type 0
-RecordsStand = (r rest : Rest) (c : NewChange) → record_from r ≡ Ok (c, rest) → IsRecordBefore r c rest
-
-record_fewer : RecordsStand → (r : Rest) (p : NewChange × Rest) → record_from r ≡ Ok p → length p.1.bytes ≤ length r.bytes
-record_fewer stand r p e =
-    let h = stand r p.1 p.0 e in
-    let size = ap length h.text ∙ length-append (record_text h.says_draft p.0) p.1.bytes in
-    omega (arith, size)
-
 job_fewer : RecordsStand → (at : ℕ) (said : List ℕ) (r : Rest) (p : Job × Rest) → job_at at said r ≡ Ok p → length p.1.bytes ≤ length r.bytes
 job_fewer stand at said r p e = by (same said (codes "commit")) e
   where
@@ -172,12 +115,9 @@ task_there workers r task rest e =
     let b = bound (next_line r) (λ l. task_at (place r) workers l.0 l.1) (Some task, rest) e in
     by b.value.0 b.value.1 (same b.value.0 (codes "end session")) b.gives
   where
-    none_some : ◌≡◌ {A = Option Task} None (Some task) → ⊥
-    none_some k = cc
-
     by : (line : List ℕ) (mid : Rest) (t : Bool) →
         ◌≡◌ {A = Reading (Option Task)} (if t then Ok (None, mid) else (required_at (place r) (call_of workers line) mid >>= λ call. job_at (place r) call.0.1 call.1 >>= λ job. Ok (Some (call.0.0, job.0), job.1))) (Ok (Some task, rest)) → task.0 < length workers
-    by line mid true k = absurd (none_some (ap (λ (q : Option Task × Rest). q.0) (ok_is {A = Option Task × Rest} (None, mid) (Some task, rest) k)))
+    by line mid true k = absurd (none_some task (ap (λ (q : Option Task × Rest). q.0) (ok_is {A = Option Task × Rest} (None, mid) (Some task, rest) k)))
     by line mid false k =
         let found = task_found (place r) workers line mid (Some task, rest) k in
         let there = (room_is workers found.0.0 found.2.call.room).there in
@@ -186,21 +126,9 @@ task_there workers r task rest e =
 
 -- ---- the loop
 
--- the fault that the definition gives, where want of memory is free
-abbrev pub Refused : {A : Type 0} → InputFault → Result A InputFault → Type 0
-Refused e answer = MatchBool (is_memory e) ⊤ (answer ≡ Err e)
-
-free : (b : Bool) (P Q : Type 0) → (P → Q) → MatchBool b ⊤ P → MatchBool b ⊤ Q
-free true P Q f h = tt
-free false P Q f h = f h
-
 -- where the bytes are at an end, the next line is cut
 pub at_end : (workers : List (List Job)) (r : Rest) → length r.bytes ≤ 0 → next_task workers r ≡ Err (bad_at r.whole)
-at_end workers r h = ap (λ s. line_or_cut r s >>= λ l. task_at (place r) workers l.0 l.1) (ap (split 10) (none r.bytes h))
-  where
-    none : (xs : List ℕ) → length xs ≤ 0 → xs ≡ []
-    none [] h = refl
-    none (x ∷ xs) h = absurd (omega (arith, h))
+at_end workers r h = ap (λ x. x >>= λ l. task_at (place r) workers l.0 l.1) (line_at_end r h)
 
 abbrev pub onward : ℕ → List (List Job) → Option Task × Rest → Reading (List (List Job))
 onward n workers t = jobs_on workers t.0 t.1 (λ all rest. jobs_from n all rest)

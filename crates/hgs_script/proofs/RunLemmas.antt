@@ -1,5 +1,5 @@
 -- The jobs of a script that is read can be run.
-use Rattle.std.proofs.Common.{◌≡◌, ◌⊎◌, inl, inr, ℕ, zero, suc, Bool, true, false, ◌&&◌, List, [], ◌∷◌, length, Option, Some, None, refl, sym, ap, subst, arith, codes}
+use Rattle.std.proofs.Common.{◌≡◌, ◌⊎◌, inl, inr, ℕ, zero, suc, Bool, true, false, ◌&&◌, List, [], ◌∷◌, length, Some, sym, ap, subst, arith, codes}
 use Rattle.std.specs.Prelude.{nat_le, ◌==◌, if◌then◌else◌}
 use Rattle.std.specs.List.{AllByRecursion}
 use Rattle.std.specs.Option.{option_map, option_or}
@@ -15,17 +15,9 @@ use Rattle.hgs_script.specs.declared.job.Job.{Job}
 use Rattle.hgs_script.specs.declared.job.Job.TheVariants.{Change, Ask}
 use Rattle.hgs_script.specs.declared.script.Script.{Script}
 use Rattle.hgs_script.specs.Read.{Task, most_workers, question_of, move_of, mark_of, unmark_of, change_of, job_of}
-use Rattle.hgs_script.specs.Script.{IsTaskText, AreTaskTexts, IsScript, HaveRoom, IsLoad, CanBeDone, CanBeRun, jobs_of, jobs_of_each}
-use Rattle.hgs_script.proofs.ReadLemmas.{some_is, then_some, where_some, both}
+use Rattle.hgs_script.specs.Script.{IsTaskText, AreTaskTexts, IsScript, HaveRoom, IsShare, CanBeDone, CanBeRun, jobs_of, jobs_of_each}
 use Rattle.hgs_script.proofs.TaskLemmas.{each_length}
-
-or_some : {A : Type 0} (a b : Option A) (x : A) → option_or a b ≡ Some x → (a ≡ Some x) ⊎ (b ≡ Some x)
-or_some None b x e = inr e
-or_some (Some y) b x e = inl e
-
-map_some : {A B : Type 0} (f : A → B) (o : Option A) (y : B) → option_map f o ≡ Some y → (x : A) × (o ≡ Some x) × (f x ≡ y)
-map_some f None y e = cc
-map_some f (Some x) y e = (x, refl, some_is (f x) y e)
+use Rattle.hgs_schedule.specs.Theorems.ReadLemmas.{some_is, or_some, map_some, then_some, where_some, both}
 
 -- ---- one job
 
@@ -74,9 +66,9 @@ jobs_can n worker (text ∷ texts) (task ∷ tasks) h = by (task.0 == worker) (t
     by true first rest = (first, rest)
     by false first rest = rest
 
-loads_can : (first k n : ℕ) (texts : List (List ℕ)) (tasks : List Task) → HaveRoom tasks → AreTaskTexts n texts tasks → AllByRecursion IsLoad (jobs_of_each first k tasks)
-loads_can first zero n texts tasks room are = tt
-loads_can first (suc k) n texts tasks room are = (record { most = room first; each = jobs_can n first texts tasks are }, loads_can (suc first) k n texts tasks room are)
+shares_can : (first k n : ℕ) (texts : List (List ℕ)) (tasks : List Task) → HaveRoom tasks → AreTaskTexts n texts tasks → AllByRecursion IsShare (jobs_of_each first k tasks)
+shares_can first zero n texts tasks room are = tt
+shares_can first (suc k) n texts tasks room are = (record { most = room first; each = jobs_can n first texts tasks are }, shares_can (suc first) k n texts tasks room are)
 
 pub script_can : (bytes : List ℕ) (s : Script) → IsScript bytes s → CanBeRun s
 script_can bytes s h =
@@ -92,5 +84,5 @@ script_can bytes s h =
     record {
       least = omega (arith, least, is, size, each);
       most = omega (arith, most, is, size, each);
-      loads = subst (AllByRecursion IsLoad) (sym h.workers) (loads_can 0 h.count h.count h.texts h.tasks h.room h.are);
+      shares = subst (AllByRecursion IsShare) (sym h.workers) (shares_can 0 h.count h.count h.texts h.tasks h.room h.are);
     }

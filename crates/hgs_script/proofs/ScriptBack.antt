@@ -20,13 +20,11 @@ use Rattle.hgs_script.specs.declared.script.Script.{Script}
 use Rattle.hgs_script.specs.Read.{Task, workers_of, has_room, worker_of, call_of, job_of, job_at, task_at, next_task, jobs_from, script_from, read_script}
 use Rattle.hgs_script.specs.Script.{IsWorker, IsTaskText, AreTaskTexts, IsScript, HaveRoom, jobs_of_each}
 use Rattle.hgs_script.proofs.ReadLemmas.{onward}
-use Rattle.hgs_script.proofs.LineLemmas.{lacks_lf, line_back, then_ok, no_commit, no_end}
 use Rattle.hgs_script.proofs.TaskLemmas.{each_none, with_next, has_room_back, room_before}
-use Rattle.hgs_script.proofs.FrontLemmas.{alone, looked-whole, read_left}
-
--- a record is read where other bytes stand behind it
-abbrev pub RecordsRead : Type 0
-RecordsRead = (says_draft : Bool) (c : NewChange) (whole : ℕ) (behind : List ℕ) → IsNewChange c → record_from (left whole (record_text says_draft c ++ behind)) ≡ Ok (c, left whole behind)
+use Rattle.hgs_script.proofs.LineLemmas.{no_commit, no_end}
+use Rattle.hgs_schedule.specs.Theorems.LineLemmas.{lacks_lf, line_back, form_back}
+use Rattle.hgs_schedule.specs.Theorems.ReadLemmas.{then_ok, RecordsRead}
+use Rattle.hgs_schedule.specs.Theorems.WholeLemmas.{alone, looked-whole, read_left}
 
 -- ---- one job
 
@@ -117,11 +115,6 @@ tasks_back read n (suc k) w done (text ∷ texts) (task ∷ new) rest size are r
 
 -- ---- the whole
 
-count_back : (w : ℕ) (first rest : List ℕ) (n : ℕ) → Lacks 10 first → workers_of first ≡ Some n → required workers_of (left w (line first ++ rest)) ≡ Ok (n, left w rest)
-count_back w first rest n lacks says =
-    let r = left w (line first ++ rest) in
-    then_ok (next_line r) (first, left w rest) (λ l. required_at (place r) (workers_of l.0) l.1) (Ok (n, left w rest)) (line_back w first rest lacks) (ap (λ o. required_at (place r) o (left w rest)) says)
-
 pub script_back : RecordsRead → (bytes : List ℕ) (s : Script) → IsScript bytes s → read_script bytes ≡ Ok s
 script_back read bytes s h =
     let w = length bytes in
@@ -132,11 +125,11 @@ script_back read bytes s h =
     let k = length (texts ++ []) in
     let same_length = ap length (append-nil texts) in
     let made : Script = record { workers = each } in
-    ap read_left (looked-whole bytes h.size)
+    ap (read_left script_from) (looked-whole bytes h.size)
     ∙ ap (λ b. script_from (left w b) >>= alone) is
     ∙ then_ok (script_from (left w (line h.first ++ (texts ++ [])))) (made, left w []) alone (Ok made)
     (then_ok (required workers_of (left w (line h.first ++ (texts ++ [])))) (n, left w (texts ++ [])) (λ n. jobs_from (length n.1.bytes) (replicate n.0 []) n.1 >>= λ all. Ok (record { workers = all.0 }, all.1)) (Ok (made, left w []))
-    (count_back w h.first (texts ++ []) n h.lacks h.counted)
+    (form_back workers_of w h.first (texts ++ []) n h.lacks h.counted)
     (then_ok (jobs_from k (replicate n []) (left w (texts ++ []))) (each, left w []) (λ all. Ok (record { workers = all.0 }, all.1)) (Ok (made, left w []))
     (ap (λ l. jobs_from k l (left w (texts ++ []))) (each_none 0 n) ∙ tasks_back read n k w [] h.texts h.tasks [] (omega (arith, same_length)) h.are h.room) refl))
     (ap (λ t. (if t then Ok tt else Err (Limit Record)) >>= λ _. Ok made) (le-leb w most_input h.size))

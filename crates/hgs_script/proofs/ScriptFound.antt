@@ -9,16 +9,18 @@ use Rattle.hgs_bytes.specs.Theorems.ByteLemmas.{same-eq}
 use Rattle.hgs_bytes.specs.Theorems.TextLemmas.{lacks_front, split_parts}
 use Rattle.hgs_model.specs.declared.command.Command.TheVariants.{Commit}
 use Rattle.hgs_input.specs.Record.{most_input, record_text}
-use Rattle.hgs_input.specs.Read.{Rest, ◌>>=◌, place, next_line, required_at, required, record_from, nothing_behind, looked_at, start_of}
+use Rattle.hgs_input.specs.Read.{Rest, ◌>>=◌, place, next_line, required_at, required, record_from, looked_at, start_of}
 use Rattle.hgs_script.specs.declared.job.Job.{Job}
 use Rattle.hgs_script.specs.declared.job.Job.TheVariants.{Change}
 use Rattle.hgs_script.specs.declared.script.Script.{Script}
 use Rattle.hgs_script.specs.Read.{Task, workers_of, call_of, job_of, job_at, task_at, next_task, jobs_from, script_from, read_script}
 use Rattle.hgs_script.specs.Script.{IsTaskText, IsWorker, AreTaskTexts, IsScript, HaveRoom, jobs_of_each}
-use Rattle.hgs_script.proofs.ReadLemmas.{bound, ok_is, required_is, RecordsStand, TaskFound, task_found, onward}
-use Rattle.hgs_script.proofs.LineLemmas.{Before, before_both, LineFound, line_found, lacks_behind}
 use Rattle.hgs_script.proofs.TaskLemmas.{each_none, with_next, MayFollow, may_follow, room_with}
-use Rattle.hgs_script.proofs.FrontLemmas.{alone, none_behind, looked-whole, looked-length}
+use Rattle.hgs_script.proofs.ReadLemmas.{TaskFound, task_found, onward}
+use Rattle.hgs_script.proofs.LineLemmas.{lacks_behind}
+use Rattle.hgs_schedule.specs.Theorems.LineLemmas.{Before, before_both, LineFound, line_found, form_found}
+use Rattle.hgs_schedule.specs.Theorems.ReadLemmas.{bound, ok_is, required_is, RecordsStand}
+use Rattle.hgs_schedule.specs.Theorems.WholeLemmas.{alone, none_behind, alone_is, nil_is, looked-whole, looked-length}
 
 -- ---- one job
 
@@ -136,24 +138,6 @@ tasks_found stand n (suc k) done r p room e =
 
 -- ---- the whole
 
-record CountFound (r : Rest) (n : ℕ) (rest : Rest) : Type 0 where
-  said : List ℕ
-  found : LineFound r said rest
-  says : workers_of said ≡ Some n
-
-count_found : (r : Rest) (n : ℕ × Rest) → required workers_of r ≡ Ok n → CountFound r n.0 n.1
-count_found r n e =
-    let l = bound (next_line r) (λ l. required_at (place r) (workers_of l.0) l.1) n e in
-    let h = required_is (place r) (workers_of l.value.0) l.value.1 n l.gives in
-    record { said = l.value.0; found = subst (LineFound r l.value.0) (sym h.1) (line_found r l.value l.is); says = h.0 }
-
-nil_is : (xs : List ℕ) → length xs ≡ 0 → xs ≡ []
-nil_is [] h = refl
-nil_is (x ∷ xs) h = absurd (omega (arith, h))
-
-alone_is : (s : Script) (r : Rest) (t : Script) → alone (s, r) ≡ Ok t → s ≡ t
-alone_is s r t e = let b = bound (nothing_behind r) (λ _. Ok s) t e in ok_is s t b.gives
-
 pub script_found : RecordsStand → (bytes : List ℕ) (s : Script) → read_script bytes ≡ Ok s → IsScript bytes s
 script_found stand bytes s e =
     let r = start_of bytes in
@@ -164,7 +148,7 @@ script_found stand bytes s e =
     let all = c.value in
     let made : Script = record { workers = all.0 } in
     let same = ok_is {A = Script × Rest} (made, all.1) a.value c.gives in
-    let first = count_found r n b.is in
+    let first = form_found workers_of r n b.is in
     let rest = tasks_found stand n.0 (length n.1.bytes) [] n.1 all (λ worker. omega arith) (ap (λ w. jobs_from (length n.1.bytes) w n.1) (sym (each_none 0 n.0)) ∙ c.is) in
     let given : alone (made, all.1) ≡ Ok s = ap alone same ∙ a.gives in
     let none = none_behind all.1 made s given in

@@ -1,7 +1,7 @@
 -- The text of a script is one of it.
-use Rattle.std.proofs.Common.{◌≡◌, inl, inr, ℕ, ◌+◌, ◌<◌, ◌≤◌, ◌^◌, Bool, true, false, ◌&&◌, List, [], ◌∷◌, ◌++◌, length, Option, Some, None, refl, ◌∙◌, ap, arith, codes}
-use Rattle.std.specs.Prelude.{◌==◌, ◌||◌, nat_le, not, decimal, map, if◌then◌else◌}
-use Rattle.std.specs.List.{AllByRecursion, list_any}
+use Rattle.std.proofs.Common.{◌≡◌, inl, inr, ℕ, ◌<◌, ◌≤◌, Bool, true, ◌&&◌, List, [], ◌∷◌, ◌++◌, length, Option, Some, None, refl, ◌∙◌, ap, arith, codes}
+use Rattle.std.specs.Prelude.{nat_le, not, decimal, map, if◌then◌else◌}
+use Rattle.std.specs.List.{AllByRecursion}
 use Rattle.std.specs.Option.{option_map, option_or}
 use Rattle.std.proofs.lemmas.Bool.{le-leb}
 use Rattle.std.proofs.lemmas.List.{append-nil}
@@ -11,58 +11,23 @@ use Rattle.hgs_index.specs.MarkName.{is_mark_name}
 use Rattle.hgs_model.specs.declared.command.Command.{Command}
 use Rattle.hgs_model.specs.declared.command.Command.TheVariants.{Commit, Move, Mark, Unmark}
 use Rattle.hgs_model.specs.declared.phase.Phase.{Phase}
-use Rattle.hgs_model.specs.declared.phase.Phase.TheVariants.{Public, Draft, Secret}
 use Rattle.hgs_model.specs.Phase.{phase_name}
 use Rattle.hgs_input.specs.Record.{most_input}
 use Rattle.hgs_input.specs.Read.{and_then, where_true, number_up_to}
-use Rattle.hgs_schedule.specs.Read.{has_space, target_of}
+use Rattle.hgs_schedule.specs.Read.{target_of}
 use Rattle.hgs_schedule.specs.Schedule.{IsWord, force_text}
 use Rattle.hgs_script.specs.declared.job.Job.{Job}
 use Rattle.hgs_script.specs.declared.job.Job.TheVariants.{Change, Ask}
 use Rattle.hgs_script.specs.declared.job.Question.TheVariants as questions
 use Rattle.hgs_script.specs.Read.{Task, most_workers, workers_of, cat_of, files_of, question_of, move_of, mark_of, unmark_of, change_of, job_of}
 use Rattle.hgs_script.specs.Script.{IsWorker, IsTaskText, AreTaskTexts, IsScript, HaveRoom, CanBeTold, CanBeWritten, CanBeDone, jobs_of_each, job_line, task_text, script_text}
-use Rattle.hgs_script.proofs.LineLemmas.{lacks_lf}
-
--- what is said below of numbers and names
-pub record Words : Type 0 where
-  pub numbers : (most n : ℕ) → n ≤ most + 1 → most + 1 < 2 ^ 64 → number_up_to most (decimal n) ≡ Some n
-  pub digits : (byte n : ℕ) → byte < 45 → n < 2 ^ 64 → Lacks byte (decimal n)
-  pub names : (name : List ℕ) → is_mark_name name ≡ true → Lacks 10 name
-
--- ---- parts of lines
-
--- two words with a space between are a line
-spaced : (xs ys : List ℕ) → Lacks 10 xs → Lacks 10 ys → Lacks 10 (xs ++ 32 ∷ ys)
-spaced xs ys h k = lacks-append 10 xs (32 ∷ ys) h (refl, k)
-
-no_space : (xs : List ℕ) → Lacks 32 xs → has_space xs ≡ false
-no_space [] h = refl
-no_space (x ∷ xs) h = ap (λ t. t || list_any (λ b. b == 32) xs) h.0 ∙ no_space xs h.1
-
-and_then_back : {A B : Type 0} (o : Option A) (x : A) (f : A → Option B) (y : Option B) → o ≡ Some x → f x ≡ y → and_then o f ≡ y
-and_then_back o x f y e h = ap (λ p. and_then p f) e ∙ h
+use Rattle.hgs_schedule.specs.Theorems.LineLemmas.{lacks_lf, spaced, no_space, Words, target_back, target_line}
+use Rattle.hgs_schedule.specs.Theorems.ReadLemmas.{and_then_back}
 
 number_back : Words → (n : ℕ) → n ≤ most_workers → number_up_to most_workers (decimal n) ≡ Some n
 number_back words n few = words.numbers most_workers n (omega (arith, few)) (omega arith)
 
 -- ---- commands
-
-target_back : (phase : Phase) (force : Bool) → target_of (phase_name phase ++ force_text force) ≡ Some (phase, force)
-target_back Public true = refl
-target_back Public false = refl
-target_back Draft true = refl
-target_back Draft false = refl
-target_back Secret true = refl
-target_back Secret false = refl
-
-target_line : (phase : Phase) (force : Bool) → Lacks 10 (phase_name phase ++ force_text force)
-target_line Public true = lacks_lf (phase_name Public ++ force_text true) refl
-target_line Public false = lacks_lf (phase_name Public ++ force_text false) refl
-target_line Draft true = lacks_lf (phase_name Draft ++ force_text true) refl
-target_line Draft false = lacks_lf (phase_name Draft ++ force_text false) refl
-target_line Secret true = lacks_lf (phase_name Secret ++ force_text true) refl
-target_line Secret false = lacks_lf (phase_name Secret ++ force_text false) refl
 
 -- a line says each job but a commit, and no LF stands in it
 record Said (job : Job) : Type 0 where

@@ -29,7 +29,7 @@ abbrev pub jobs_of_each : ℕ → ℕ → List Task → List (List Job)
 jobs_of_each first zero tasks = []
 jobs_of_each first (suc n) tasks = jobs_of first tasks ∷ jobs_of_each (suc first) n tasks
 
--- no worker has more jobs than he may have
+-- no worker has more jobs than one may have
 abbrev pub HaveRoom : List Task → Type 0
 HaveRoom tasks = (worker : ℕ) → length (jobs_of worker tasks) ≤ most_jobs
 
@@ -91,15 +91,15 @@ abbrev pub CanBeDone : Job → Type 0
 CanBeDone (Change command) = IsValid command
 CanBeDone (Ask question) = ⊤
 
-pub record IsLoad (jobs : List Job) : Type 0 where
+pub record IsShare (jobs : List Job) : Type 0 where
   pub most : length jobs ≤ most_jobs
   pub each : AllByRecursion CanBeDone jobs
 
--- 1 to 64 workers, each with no more jobs than he may have, all of which can be done
+-- 1 to 64 workers, each with no more jobs than one may have, all of which can be done
 pub record CanBeRun (s : Script) : Type 0 where
   pub least : 1 ≤ length s.workers
   pub most : length s.workers ≤ most_workers
-  pub loads : AllByRecursion IsLoad s.workers
+  pub shares : AllByRecursion IsShare s.workers
 
 -- ---- how a script is written
 

@@ -1,5 +1,6 @@
 use Rattle.hgs_script.specs.Script.{jobs_of_each, script_text}
-use Rattle.hgs_script.proofs.TextLemmas.{Words, text_is}
+use Rattle.hgs_schedule.specs.Theorems.LineLemmas.{Words}
+use Rattle.hgs_script.proofs.TextLemmas.{text_is}
 use Rattle.hgs_script.proofs.laws.script_written_then_read.Goals as goal
 
 pub returns : goal.returns
