@@ -1,5 +1,5 @@
 -- The events of a schedule that is read can come.
-use Rattle.std.proofs.Common.{◌≡◌, ◌⊎◌, inl, inr, ℕ, ◌<◌, suc, Bool, true, false, ◌&&◌, List, [], ◌∷◌, Option, Some, None, refl, subst, arith, codes}
+use Rattle.std.proofs.Common.{◌≡◌, ◌⊎◌, inl, inr, ℕ, ◌<◌, suc, Bool, true, false, ◌&&◌, List, [], ◌∷◌, Option, Some, None, subst, arith, codes}
 use Rattle.std.specs.Prelude.{nat_le, nat_lt, not, if◌then◌else◌}
 use Rattle.std.specs.List.{AllByRecursion}
 use Rattle.std.specs.Option.{option_map, option_or}
@@ -16,31 +16,7 @@ use Rattle.hgs_schedule.specs.declared.event.Event.TheVariants as events
 use Rattle.hgs_schedule.specs.declared.event.Schedule.{Schedule}
 use Rattle.hgs_schedule.specs.Read.{most_readers, number_of, reader_of, word_event, count_behind, written_of, bytes_event, reader_behind, reader_event, cat_of, has_space, phase_question_of, target_of, move_of, mark_of, unmark_of, begin_of, asked_of, event_of}
 use Rattle.hgs_schedule.specs.Schedule.{IsEventText, AreEventTexts, IsSchedule, CanCome, CanBePlayed}
-
--- ---- what is there
-
-some_is : {A : Type 0} (x y : A) → Some x ≡ Some y → x ≡ y
-some_is x y e = cc
-
-or_some : {A : Type 0} (a b : Option A) (x : A) → option_or a b ≡ Some x → (a ≡ Some x) ⊎ (b ≡ Some x)
-or_some None b x e = inr e
-or_some (Some y) b x e = inl e
-
-map_some : {A B : Type 0} (f : A → B) (o : Option A) (y : B) → option_map f o ≡ Some y → (x : A) × (o ≡ Some x) × (f x ≡ y)
-map_some f None y e = cc
-map_some f (Some x) y e = (x, refl, some_is (f x) y e)
-
-then_some : {A B : Type 0} (o : Option A) (f : A → Option B) (y : B) → and_then o f ≡ Some y → (x : A) × (o ≡ Some x) × (f x ≡ Some y)
-then_some None f y e = cc
-then_some (Some x) f y e = (x, refl, e)
-
-where_some : {A : Type 0} (b : Bool) (x y : A) → where_true b x ≡ Some y → (b ≡ true) × (x ≡ y)
-where_some true x y e = (refl, some_is x y e)
-where_some false x y e = cc
-
-both : (a b : Bool) → (a && b) ≡ true → (a ≡ true) × (b ≡ true)
-both true b e = (refl, e)
-both false b e = cc
+use Rattle.hgs_schedule.specs.Theorems.ReadLemmas.{some_is, or_some, map_some, then_some, where_some, both}
 
 -- ---- readers
 

@@ -1,5 +1,5 @@
 -- The bytes that are a schedule are read as it.
-use Rattle.std.proofs.Common.{◌≡◌, inl, inr, ℕ, zero, suc, ◌<◌, ◌≤◌, Bool, List, [], ◌∷◌, ◌++◌, length, Option, Some, None, Ok, Err, refl, sym, ◌∙◌, ap, arith, append_assoc, length-append, codes}
+use Rattle.std.proofs.Common.{◌≡◌, inl, inr, ℕ, zero, suc, ◌<◌, ◌≤◌, Bool, false, List, [], ◌∷◌, ◌++◌, length, Option, Some, None, Ok, Err, refl, sym, ◌∙◌, ap, arith, append_assoc, length-append, codes}
 use Rattle.std.specs.Prelude.{if◌then◌else◌}
 use Rattle.std.specs.List.{concat}
 use Rattle.std.specs.Option.{option_map}
@@ -20,12 +20,13 @@ use Rattle.hgs_schedule.specs.declared.event.Event.TheVariants as events
 use Rattle.hgs_schedule.specs.declared.event.Schedule.{Schedule}
 use Rattle.hgs_schedule.specs.Read.{readers_of, event_of, event_at, next_event, events_from, schedule_from, read_schedule}
 use Rattle.hgs_schedule.specs.Schedule.{IsEventText, AreEventTexts, IsSchedule}
-use Rattle.hgs_schedule.proofs.LineLemmas.{no_word, lacks_lf, line_back, then_ok}
-use Rattle.hgs_schedule.proofs.FrontLemmas.{alone, looked-whole, read_left}
+use Rattle.hgs_schedule.specs.Theorems.LineLemmas.{lacks_lf, line_back, form_back, unlike}
+use Rattle.hgs_schedule.specs.Theorems.ReadLemmas.{then_ok, none_some, RecordsRead}
+use Rattle.hgs_schedule.specs.Theorems.WholeLemmas.{alone, looked-whole, read_left}
 
--- a record is read where other bytes stand behind it
-abbrev pub RecordsRead : Type 0
-RecordsRead = (says_draft : Bool) (c : NewChange) (whole : ℕ) (behind : List ℕ) → IsNewChange c → record_from (left whole (record_text says_draft c ++ behind)) ≡ Ok (c, left whole behind)
+-- a line that says an event is no other word
+no_word : (readers : ℕ) (said word : List ℕ) (event : Event) → event_of readers word ≡ None → event_of readers said ≡ Some event → same said word ≡ false
+no_word readers said word event none says = unlike said word (λ is. none_some event (sym none ∙ ap (event_of readers) (sym is) ∙ says))
 
 -- ---- one event
 
@@ -88,11 +89,6 @@ events_back read readers (suc n) w done (text ∷ texts) (event ∷ new) rest ro
 
 -- ---- the whole
 
-readers_back : (w : ℕ) (first rest : List ℕ) (n : ℕ) → Lacks 10 first → readers_of first ≡ Some n → required readers_of (left w (line first ++ rest)) ≡ Ok (n, left w rest)
-readers_back w first rest n lacks says =
-    let r = left w (line first ++ rest) in
-    then_ok (next_line r) (first, left w rest) (λ l. required_at (place r) (readers_of l.0) l.1) (Ok (n, left w rest)) (line_back w first rest lacks) (ap (λ o. required_at (place r) o (left w rest)) says)
-
 pub schedule_back : RecordsRead → (bytes : List ℕ) (s : Schedule) → IsSchedule bytes s → read_schedule bytes ≡ Ok s
 schedule_back read bytes s h =
     let w = length bytes in
@@ -100,11 +96,11 @@ schedule_back read bytes s h =
     let is : bytes ≡ line h.first ++ (texts ++ []) = h.is ∙ ap (λ t. line h.first ++ t) (sym (append-nil texts)) in
     let n = length (texts ++ []) in
     let same_length = ap length (append-nil texts) in
-    ap read_left (looked-whole bytes h.size)
+    ap (read_left schedule_from) (looked-whole bytes h.size)
     ∙ ap (λ b. schedule_from (left w b) >>= alone) is
     ∙ then_ok (schedule_from (left w (line h.first ++ (texts ++ [])))) (s, left w []) alone (Ok s)
     (then_ok (required readers_of (left w (line h.first ++ (texts ++ [])))) (s.readers, left w (texts ++ [])) (λ n. events_from n.0 (length n.1.bytes) [] n.1 >>= λ all. Ok (record { readers = n.0; events = all.0 }, all.1)) (Ok (s, left w []))
-    (readers_back w h.first (texts ++ []) s.readers h.lacks h.readers)
+    (form_back readers_of w h.first (texts ++ []) s.readers h.lacks h.readers)
     (then_ok (events_from s.readers n [] (left w (texts ++ []))) (s.events, left w []) (λ all. Ok (record { readers = s.readers; events = all.0 }, all.1)) (Ok (s, left w []))
     (events_back read s.readers n w [] h.texts s.events [] (omega (arith, same_length)) h.events) refl))
     (ap (λ t. (if t then Ok tt else Err (Limit Record)) >>= λ _. Ok s) (le-leb w most_input h.size))

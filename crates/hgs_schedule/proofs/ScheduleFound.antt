@@ -1,5 +1,5 @@
 -- What is read is a schedule, which the bytes are.
-use Rattle.std.proofs.Common.{◌≡◌, inl, inr, ℕ, zero, suc, ◌≤◌, Bool, true, false, List, [], ◌∷◌, ◌++◌, length, Option, Some, None, Ok, refl, sym, ◌∙◌, ap, subst, arith, append_assoc, codes}
+use Rattle.std.proofs.Common.{◌≡◌, inl, inr, ℕ, zero, suc, ◌≤◌, Bool, true, false, List, [], ◌∷◌, ◌++◌, length, Option, Some, None, Ok, refl, sym, ◌∙◌, ap, subst, append_assoc, codes}
 use Rattle.std.specs.Prelude.{if◌then◌else◌}
 use Rattle.std.specs.List.{concat}
 use Rattle.std.specs.Option.{option_map}
@@ -9,15 +9,16 @@ use Rattle.hgs_bytes.specs.Text.{line}
 use Rattle.hgs_model.specs.declared.command.NewChange.{NewChange}
 use Rattle.hgs_model.specs.declared.command.Command.TheVariants.{Commit}
 use Rattle.hgs_input.specs.Record.{most_input, record_text}
-use Rattle.hgs_input.specs.Read.{Rest, Reading, ◌>>=◌, place, next_line, required_at, required, more, record_from, nothing_behind, looked_at, start_of}
+use Rattle.hgs_input.specs.Read.{Rest, Reading, ◌>>=◌, place, next_line, required_at, required, more, record_from, looked_at, start_of}
 use Rattle.hgs_schedule.specs.declared.event.Event.{Event}
 use Rattle.hgs_schedule.specs.declared.event.Event.TheVariants as events
 use Rattle.hgs_schedule.specs.declared.event.Schedule.{Schedule}
 use Rattle.hgs_schedule.specs.Read.{readers_of, event_of, event_at, next_event, events_from, schedule_from, read_schedule}
 use Rattle.hgs_schedule.specs.Schedule.{IsEventText, AreEventTexts, IsSchedule}
-use Rattle.hgs_schedule.proofs.ReadLemmas.{bound, ok_is, RecordsStand}
-use Rattle.hgs_schedule.proofs.LineLemmas.{same_is, Before, before_both, LineFound, line_found}
-use Rattle.hgs_schedule.proofs.FrontLemmas.{alone, none_behind, looked-whole, looked-length}
+use Rattle.hgs_schedule.specs.Theorems.LineLemmas.{Before, before_both, LineFound, line_found, form_found}
+use Rattle.hgs_schedule.specs.Theorems.ReadLemmas.{bound, ok_is, RecordsStand}
+use Rattle.hgs_schedule.specs.Theorems.WholeLemmas.{alone, none_behind, alone_is, nil_is, looked-whole, looked-length}
+use Rattle.hgs_bytes.specs.Theorems.ByteLemmas.{same-eq}
 
 -- ---- one event
 
@@ -44,11 +45,11 @@ said_found stand readers at r mid said p found e = by (same said (codes "end")) 
     by : (s t : Bool) (o : Option Event) → same said (codes "end") ≡ s → same said (codes "begin commit") ≡ t → event_of readers said ≡ o →
         ◌≡◌ {A = Reading (Option Event)} (if s then Ok (None, mid) else if t then (record_from mid >>= λ c. Ok (Some (events.Begin (Commit c.0)), c.1)) else required_at at (option_map (λ e. Some e) o) mid) (Ok p) →
         Goal p
-    by true t o a b c k = subst Goal (ok_is {A = Option Event × Rest} (None, mid) p k) (subst (λ l. Before r (line l) mid) (same_is said (codes "end") a) found.before)
+    by true t o a b c k = subst Goal (ok_is {A = Option Event × Rest} (None, mid) p k) (subst (λ l. Before r (line l) mid) (same-eq said (codes "end") a) found.before)
     by false true o a b c k =
         let x = bound (record_from mid) (λ c. Ok (Some (events.Begin (Commit c.0)), c.1)) p k in
         subst Goal (ok_is {A = Option Event × Rest} (Some (events.Begin (Commit x.value.0)), x.value.1) p x.gives)
-        (record_text_found stand r mid x.value.0 x.value.1 readers (subst (λ l. Before r (line l) mid) (same_is said (codes "begin commit") b) found.before) x.is)
+        (record_text_found stand r mid x.value.0 x.value.1 readers (subst (λ l. Before r (line l) mid) (same-eq said (codes "begin commit") b) found.before) x.is)
     by false false None a b c k = cc
     by false false (Some event) a b c k =
         subst Goal (ok_is {A = Option Event × Rest} (Some event, mid) p k)
@@ -95,29 +96,6 @@ events_found stand readers (suc n) done r p e =
 
 -- ---- the whole
 
-record ReadersFound (r : Rest) (n : ℕ) (rest : Rest) : Type 0 where
-  said : List ℕ
-  found : LineFound r said rest
-  says : readers_of said ≡ Some n
-
-readers_found : (r : Rest) (n : ℕ × Rest) → required readers_of r ≡ Ok n → ReadersFound r n.0 n.1
-readers_found r n e =
-    let l = bound (next_line r) (λ l. required_at (place r) (readers_of l.0) l.1) n e in
-    by l.value (line_found r l.value l.is) (readers_of l.value.0) refl l.gives
-  where
-    by : (l : List ℕ × Rest) → LineFound r l.0 l.1 → (o : Option ℕ) → readers_of l.0 ≡ o → required_at (place r) o l.1 ≡ Ok n → ReadersFound r n.0 n.1
-    by l f None k e = cc
-    by l f (Some x) k e =
-        let P : ℕ × Rest → Type 0 = λ q. ReadersFound r q.0 q.1 in
-        subst P (ok_is {A = ℕ × Rest} (x, l.1) n e) (record { said = l.0; found = f; says = k })
-
-nil_is : (xs : List ℕ) → length xs ≡ 0 → xs ≡ []
-nil_is [] h = refl
-nil_is (x ∷ xs) h = absurd (omega (arith, h))
-
-alone_is : (s : Schedule) (r : Rest) (t : Schedule) → alone (s, r) ≡ Ok t → s ≡ t
-alone_is s r t e = let b = bound (nothing_behind r) (λ _. Ok s) t e in ok_is s t b.gives
-
 pub schedule_found : RecordsStand → (bytes : List ℕ) (s : Schedule) → read_schedule bytes ≡ Ok s → IsSchedule bytes s
 schedule_found stand bytes s e =
     let r = start_of bytes in
@@ -128,7 +106,7 @@ schedule_found stand bytes s e =
     let all = c.value in
     let made : Schedule = record { readers = n.0; events = all.0 } in
     let same = ok_is {A = Schedule × Rest} (made, all.1) a.value c.gives in
-    let first = readers_found r n b.is in
+    let first = form_found readers_of r n b.is in
     let rest = events_found stand n.0 (length n.1.bytes) [] n.1 all c.is in
     let given : alone (made, all.1) ≡ Ok s = ap alone same ∙ a.gives in
     let none = none_behind all.1 made s given in

@@ -1,7 +1,7 @@
 -- The text of a schedule is one of it.
-use Rattle.std.proofs.Common.{◌≡◌, inl, inr, ℕ, suc, ◌+◌, ◌<◌, ◌≤◌, ◌^◌, Bool, true, false, ◌&&◌, List, [], ◌∷◌, ◌++◌, length, Option, Some, None, refl, ◌∙◌, ap, arith, codes}
-use Rattle.std.specs.Prelude.{◌==◌, ◌||◌, nat_le, nat_lt, not, decimal, map}
-use Rattle.std.specs.List.{AllByRecursion, list_any}
+use Rattle.std.proofs.Common.{◌≡◌, inl, inr, ℕ, suc, ◌<◌, ◌≤◌, ◌^◌, Bool, true, ◌&&◌, List, [], ◌∷◌, ◌++◌, length, Option, Some, None, refl, ◌∙◌, ap, arith, codes}
+use Rattle.std.specs.Prelude.{nat_le, nat_lt, not, decimal, map}
+use Rattle.std.specs.List.{AllByRecursion}
 use Rattle.std.specs.Option.{option_map, option_or}
 use Rattle.std.proofs.lemmas.Bool.{le-leb}
 use Rattle.std.proofs.lemmas.List.{append-nil}
@@ -10,39 +10,19 @@ use Rattle.hgs_index.specs.MarkName.{is_mark_name}
 use Rattle.hgs_model.specs.declared.command.Command.{Command}
 use Rattle.hgs_model.specs.declared.command.Command.TheVariants.{Commit, Move, Mark, Unmark}
 use Rattle.hgs_model.specs.declared.phase.Phase.{Phase}
-use Rattle.hgs_model.specs.declared.phase.Phase.TheVariants.{Public, Draft, Secret}
 use Rattle.hgs_model.specs.Phase.{phase_name}
 use Rattle.hgs_input.specs.Record.{most_input}
-use Rattle.hgs_input.specs.Read.{and_then, where_true, number_up_to}
+use Rattle.hgs_input.specs.Read.{and_then, where_true}
 use Rattle.hgs_schedule.specs.declared.event.Event.{Event}
 use Rattle.hgs_schedule.specs.declared.event.Event.TheVariants as events
 use Rattle.hgs_schedule.specs.declared.event.Schedule.{Schedule}
 use Rattle.hgs_schedule.specs.Read.{most_number, most_readers, number_of, reader_of, readers_of, word_event, bytes_event, reader_event, cat_of, has_space, phase_question_of, target_of, move_of, mark_of, unmark_of, begin_of, asked_of, event_of}
 use Rattle.hgs_schedule.specs.Schedule.{IsEventText, AreEventTexts, IsSchedule, CanCome, CanBePlayed, force_text, event_line, event_text, schedule_text, IsWord, CanBeWritten}
-use Rattle.hgs_schedule.proofs.LineLemmas.{lacks_lf, split_over}
+use Rattle.hgs_bytes.specs.Theorems.TextLemmas.{lacks-append, split_over}
+use Rattle.hgs_schedule.specs.Theorems.LineLemmas.{lacks_lf, spaced, no_space, Words, target_back, target_line}
+use Rattle.hgs_schedule.specs.Theorems.ReadLemmas.{and_then_back}
 
--- what is said below of numbers and names
-pub record Words : Type 0 where
-  pub numbers : (most n : ℕ) → n ≤ most + 1 → most + 1 < 2 ^ 64 → number_up_to most (decimal n) ≡ Some n
-  pub digits : (byte n : ℕ) → byte < 45 → n < 2 ^ 64 → Lacks byte (decimal n)
-  pub names : (name : List ℕ) → is_mark_name name ≡ true → Lacks 10 name
-
--- ---- parts of lines
-
-lacks_both : (byte : ℕ) (xs ys : List ℕ) → Lacks byte xs → Lacks byte ys → Lacks byte (xs ++ ys)
-lacks_both byte [] ys h k = k
-lacks_both byte (x ∷ xs) ys h k = (h.0, lacks_both byte xs ys h.1 k)
-
--- two words with a space between are a line
-spaced : (xs ys : List ℕ) → Lacks 10 xs → Lacks 10 ys → Lacks 10 (xs ++ 32 ∷ ys)
-spaced xs ys h k = lacks_both 10 xs (32 ∷ ys) h (refl, k)
-
-no_space : (xs : List ℕ) → Lacks 32 xs → has_space xs ≡ false
-no_space [] h = refl
-no_space (x ∷ xs) h = ap (λ t. t || list_any (λ b. b == 32) xs) h.0 ∙ no_space xs h.1
-
-and_then_back : {A B : Type 0} (o : Option A) (x : A) (f : A → Option B) (y : Option B) → o ≡ Some x → f x ≡ y → and_then o f ≡ y
-and_then_back o x f y e h = ap (λ p. and_then p f) e ∙ h
+-- ---- numbers
 
 number_back : Words → (n : ℕ) → n < 2 ^ 64 → number_of (decimal n) ≡ Some n
 number_back words n small = words.numbers most_number n (omega (arith, small)) (omega arith)
@@ -85,22 +65,6 @@ phase_back words readers reader rev most below word =
     (and_then_back (reader_of readers (decimal reader)) reader (λ reader. where_true (not (has_space rev)) (events.Phase reader rev)) (Some (events.Phase reader rev)) (reader_back words readers reader most below)
     (ap (λ t. where_true (not t) (events.Phase reader rev)) (no_space rev word)))
 
-target_back : (phase : Phase) (force : Bool) → target_of (phase_name phase ++ force_text force) ≡ Some (phase, force)
-target_back Public true = refl
-target_back Public false = refl
-target_back Draft true = refl
-target_back Draft false = refl
-target_back Secret true = refl
-target_back Secret false = refl
-
-target_line : (phase : Phase) (force : Bool) → Lacks 10 (phase_name phase ++ force_text force)
-target_line Public true = lacks_lf (phase_name Public ++ force_text true) refl
-target_line Public false = lacks_lf (phase_name Public ++ force_text false) refl
-target_line Draft true = lacks_lf (phase_name Draft ++ force_text true) refl
-target_line Draft false = lacks_lf (phase_name Draft ++ force_text false) refl
-target_line Secret true = lacks_lf (phase_name Secret ++ force_text true) refl
-target_line Secret false = lacks_lf (phase_name Secret ++ force_text false) refl
-
 move_back : (rev : List ℕ) (phase : Phase) (force : Bool) → Lacks 32 rev → move_of (event_line (events.Begin (Move rev phase force))) ≡ Some (Move rev phase force)
 move_back rev phase force word =
     let target = phase_name phase ++ force_text force in
@@ -137,7 +101,7 @@ said_move : (readers : ℕ) (rev : List ℕ) (phase : Phase) (force : Bool) → 
 said_move readers rev phase force word =
     let event = events.Begin (Move rev phase force) in
     record {
-      lacks = lacks_both 10 (codes "begin phase ") (rev ++ 32 ∷ (phase_name phase ++ force_text force)) (lacks_lf (codes "begin phase ") refl) (spaced rev (phase_name phase ++ force_text force) word.1 (target_line phase force));
+      lacks = lacks-append 10 (codes "begin phase ") (rev ++ 32 ∷ (phase_name phase ++ force_text force)) (lacks_lf (codes "begin phase ") refl) (spaced rev (phase_name phase ++ force_text force) word.1 (target_line phase force));
       says = of_asked readers (event_line event) event refl refl refl (begun readers (event_line event) (Move rev phase force) (move_begins rev phase force word.0));
     }
 
@@ -145,7 +109,7 @@ said_mark : Words → (readers : ℕ) (name rev : List ℕ) → IsWord rev → i
 said_mark words readers name rev word valid =
     let event = events.Begin (Mark name rev) in
     record {
-      lacks = lacks_both 10 (codes "begin bookmark ") (rev ++ 32 ∷ name) (lacks_lf (codes "begin bookmark ") refl) (spaced rev name word.1 (words.names name valid));
+      lacks = lacks-append 10 (codes "begin bookmark ") (rev ++ 32 ∷ name) (lacks_lf (codes "begin bookmark ") refl) (spaced rev name word.1 (words.names name valid));
       says = of_asked readers (event_line event) event refl refl refl (begun readers (event_line event) (Mark name rev) (mark_begins name rev word.0 valid));
     }
 
@@ -153,13 +117,13 @@ said_unmark : Words → (readers : ℕ) (name : List ℕ) → is_mark_name name 
 said_unmark words readers name valid =
     let event = events.Begin (Unmark name) in
     record {
-      lacks = lacks_both 10 (codes "begin unbookmark ") name (lacks_lf (codes "begin unbookmark ") refl) (words.names name valid);
+      lacks = lacks-append 10 (codes "begin unbookmark ") name (lacks_lf (codes "begin unbookmark ") refl) (words.names name valid);
       says = of_asked readers (event_line event) event refl refl refl (begun readers (event_line event) (Unmark name) (ap (λ t. where_true t (Unmark name)) valid));
     }
 
 -- a word, and behind it a number
 counted_line : Words → (word : List ℕ) (n : ℕ) → Lacks 10 word → n < 2 ^ 64 → Lacks 10 (word ++ decimal n)
-counted_line words word n lacks small = lacks_both 10 word (decimal n) lacks (words.digits 10 n (omega arith) small)
+counted_line words word n lacks small = lacks-append 10 word (decimal n) lacks (words.digits 10 n (omega arith) small)
 
 said_write : Words → (readers n : ℕ) → 1 ≤ n → n < 2 ^ 64 → Said readers (events.Write (Some n))
 said_write words readers n least small =
@@ -236,7 +200,7 @@ said_cat : Words → (readers reader : ℕ) (rev path : List ℕ) → readers �
 said_cat words readers reader rev path most below word lacks =
     let event = events.Cat reader rev path in
     record {
-      lacks = lacks_both 10 (codes "cat ") (decimal reader ++ 32 ∷ (rev ++ 32 ∷ path)) (lacks_lf (codes "cat ") refl)
+      lacks = lacks-append 10 (codes "cat ") (decimal reader ++ 32 ∷ (rev ++ 32 ∷ path)) (lacks_lf (codes "cat ") refl)
           (spaced (decimal reader) (rev ++ 32 ∷ path) (reader_digits words 10 readers reader (omega arith) most below) (spaced rev path word.1 lacks));
       says = of_asked readers (event_line event) event refl refl refl (ap (λ o. option_or o (phase_question_of readers (event_line event))) (cat_back words readers reader rev path most below word.0));
     }
@@ -245,7 +209,7 @@ said_phase : Words → (readers reader : ℕ) (rev : List ℕ) → readers ≤ 6
 said_phase words readers reader rev most below word =
     let event = events.Phase reader rev in
     record {
-      lacks = lacks_both 10 (codes "phase ") (decimal reader ++ 32 ∷ rev) (lacks_lf (codes "phase ") refl) (spaced (decimal reader) rev (reader_digits words 10 readers reader (omega arith) most below) word.1);
+      lacks = lacks-append 10 (codes "phase ") (decimal reader ++ 32 ∷ rev) (lacks_lf (codes "phase ") refl) (spaced (decimal reader) rev (reader_digits words 10 readers reader (omega arith) most below) word.1);
       says = of_asked readers (event_line event) event refl refl refl (phase_back words readers reader rev most below word.0);
     }
 

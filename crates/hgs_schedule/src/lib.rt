@@ -3,6 +3,6 @@
 
 pub mod event;
 pub mod laws;
-mod line;
+pub mod line;
 mod number;
 pub mod schedule;

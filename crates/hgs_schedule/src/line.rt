@@ -1,4 +1,4 @@
-// What the lines of a schedule say, each without its LF.
+//! What the lines of a schedule say, each without its LF.
 ghost use Rattle.std.specs.Prelude.{◌≡◌, ◌==◌, IfOk};
 ghost use Rattle.std.specs.List.{list_any};
 ghost use Rattle.hgs_schedule.specs.Read.{readers_of, word_event, count_behind, written_of, bytes_event, reader_behind, reader_event, cat_of, phase_question_of, target_of, move_of, mark_of, unmark_of, has_space, begin_of, asked_of, event_of};
@@ -125,7 +125,8 @@ fn cat_from(alloc: Global, readers: u32, line: &[u8]) -> Result<Option<Event>, A
     }))
 }
 
-fn has_space(text: &[u8]) -> bool
+/// Whether a space stands in a text.
+pub fn has_space(text: &[u8]) -> bool
     ensures { result ≡ has_space text.now }
 {
     text.iter().any(|byte| *byte == b' ')
@@ -154,8 +155,8 @@ fn phase_question_from(
     Ok(Some(Event::Phase { reader, rev }))
 }
 
-// A phase, and whether it is forced.
-fn target_from(text: &[u8]) -> Option<(Phase, bool)>
+/// A phase, and whether it is forced.
+pub fn target_from(text: &[u8]) -> Option<(Phase, bool)>
     ensures { result ≡ target_of text.now }
 {
     let Some((name, force)) = split_at_byte(text, b' ') else {

@@ -17,3 +17,5 @@ mod phases;
 mod plan;
 #[cfg(test)]
 mod schedules;
+#[cfg(test)]
+mod scripts;

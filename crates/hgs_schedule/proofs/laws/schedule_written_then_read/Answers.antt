@@ -1,5 +1,6 @@
 use Rattle.hgs_schedule.specs.Schedule.{schedule_text}
-use Rattle.hgs_schedule.proofs.TextLemmas.{Words, text_is}
+use Rattle.hgs_schedule.specs.Theorems.LineLemmas.{Words}
+use Rattle.hgs_schedule.proofs.TextLemmas.{text_is}
 use Rattle.hgs_schedule.proofs.laws.schedule_written_then_read.Goals as goal
 
 pub returns : goal.returns

@@ -1,0 +1,13 @@
+use Rattle.hgs_script.specs.Read.{script_from}
+use Rattle.hgs_schedule.specs.Theorems.WholeLemmas.{body_stays, fault_stays, files_stay}
+use Rattle.hgs_script.proofs.FrontLemmas.{script_alike}
+use Rattle.hgs_script.proofs.laws.faults_stay.Goals as goal
+
+pub returns-clause-body : goal.returns-clause-body
+returns-clause-body c = body_stays script_from (script_alike c.records_stand_in_front.ensures.is c.fronts_are_read_alike.ensures)
+
+pub returns-clause-files : goal.returns-clause-files
+returns-clause-files c = files_stay script_from (script_alike c.records_stand_in_front.ensures.is c.fronts_are_read_alike.ensures)
+
+pub returns-clause-form : goal.returns-clause-form
+returns-clause-form c = fault_stays script_from (script_alike c.records_stand_in_front.ensures.is c.fronts_are_read_alike.ensures)
