@@ -8,7 +8,8 @@ use Rattle.hgs_files.specs.Log.{IsDone}
 use Rattle.hgs_mem.specs.declared.plan.Plan.{Plan}
 use Rattle.hgs_mem.specs.declared.tally.Tally.{Tally}
 use Rattle.hgs_mem.specs.declared.mem.MemFiles.{MemFiles}
-use Rattle.hgs_mem.specs.Mem.{Map, tree_of}
+use Rattle.hgs_mem.specs.declared.contents.Map.{Map}
+use Rattle.hgs_mem.specs.Mem.{tree_of}
 
 -- the operations done since the start
 abbrev pub log_of : MemFiles → List Op

@@ -1,37 +1,65 @@
-//! A map from paths to bytes, of which copies share the bytes, changed as operations say.
-ghost use Rattle.std.specs.Prelude.{◌≡◌, ◌<◌, ◌≤◌, List, [], ◌∷◌, ◌++◌, OnOk, OnErr, IfOk, IfSome, Some, None, option_copied};
+//! The files as a map from paths to bytes, of which copies share what is in them, changed as operations say.
+ghost use Rattle.std.specs.Prelude.{◌≡◌, ◌<◌, ◌≤◌, length, List, [], ◌∷◌, ◌++◌, OnOk, OnErr, IfOk, IfSome, Some, None, option_copied};
 ghost use Rattle.hgs_files.specs.declared.op.Op.{Op};
 ghost use Rattle.hgs_files.specs.Tree.{with_file, apply};
 ghost use Rattle.hgs_files.specs.Log.{IsDone};
 ghost use Rattle.hgs_files.specs.Reads.{IsSizeOf, ReadsPart};
 ghost use Rattle.hgs_mem.specs.Mem.{tree_of};
+ghost use Rattle.hgs_mem.specs.Shard.{no_files, shard_of};
 ghost use Rattle.hgs_mem.specs.Pieces.{AreSmall};
 
+use crate::content::Content;
 use crate::pieces::appends;
-use crate::shared::SharedBytes;
-use hgs_bytes::bytes::Bytes;
-use hgs_bytes::parts::{front, past};
+use crate::shard::Shard;
 use hgs_files::op::Op;
 use hgs_files::path::StorePath;
 use std::alloc::{AllocError, Global};
-use std::collections::BTreeMap;
 
-pub type Map = BTreeMap<StorePath, SharedBytes>;
+/// The files, in parts. A copy has the parts together with this one, and so costs the same whatever is in them.
+#[derive(Drop)]
+pub struct Map {
+    shards: Vec<Shard>,
+}
+
+impl Map {
+    /// No files. Takes no memory.
+    pub fn new(alloc: Global) -> Map
+        ensures { tree_of result ≡ no_files }
+    {
+        Map {
+            shards: Vec::new(alloc),
+        }
+    }
+}
 
 /// A copy, whose files have their bytes together with this one.
 pub fn copy_of(map: &Map) -> Result<Map, AllocError>
     ensures { IfOk result (λ copy. tree_of copy ≡ tree_of map.now) }
 {
-    map.clone()
+    Ok(Map {
+        shards: map.shards.clone()?,
+    })
 }
 
-/// The bytes of a file.
-fn bytes_of<'m>(map: &'m Map, path: &StorePath) -> Option<&'m Bytes>
+/// The number of the part in which a path is looked for.
+fn shard_of(path: &[u8]) -> usize
+    ensures { result ≡ shard_of path.now }
+{
+    let number = path
+        .iter()
+        .fold(0u64, |number, byte| number % 256 * 31 + *byte as u64);
+    (number % 256) as usize
+}
+
+/// The content of a file.
+fn content_of<'m>(map: &'m Map, path: &StorePath) -> Option<&'m Content>
     ensures { option_copied result ≡ tree_of map.now path.now }
 {
-    match map.get(path) {
-        Some(bytes) => Some(bytes.get()),
-        None => None,
+    let at = shard_of(path.bytes());
+    if at < map.shards.len() {
+        map.shards[at].get(path)
+    } else {
+        None
     }
 }
 
@@ -39,8 +67,8 @@ fn bytes_of<'m>(map: &'m Map, path: &StorePath) -> Option<&'m Bytes>
 pub fn size_of(map: &Map, path: &StorePath) -> Option<u64>
     ensures { IsSizeOf (tree_of map.now path.now) result }
 {
-    match bytes_of(map, path) {
-        Some(bytes) => Some(bytes.len() as u64),
+    match content_of(map, path) {
+        Some(content) => Some(content.len()),
         None => None,
     }
 }
@@ -58,37 +86,50 @@ pub fn read_at(
     ensures most { IfOk result (λ part. IfSome part (λ k. k ≤ most)) }
     ensures err { OnErr result (into.new.items ≡ into.old.items) }
 {
-    match bytes_of(map, path) {
-        Some(bytes) => {
-            let part = front(past(bytes.as_slice(), from as usize), most as usize);
-            into.extend_from_slice(part)?;
-            Ok(Some(part.len() as u64))
+    match content_of(map, path) {
+        Some(content) => {
+            let before = into.len();
+            content.read(from, most, into)?;
+            Ok(Some((into.len() - before) as u64))
         }
         None => Ok(None),
     }
 }
 
-/// The bytes of a file, with what else owns them.
-fn shared_of<'m>(map: &'m Map, path: &StorePath) -> Option<&'m SharedBytes>
-    ensures { option_copied result ≡ tree_of map.now path.now }
+/// Makes so many parts, if there are fewer.
+fn grow(alloc: Global, map: &mut Map, count: usize) -> Result<(), AllocError>
+    ensures same { tree_of map.new ≡ tree_of map.old }
+    ensures long { OnOk result (count ≤ length map.new.shards.items) }
 {
-    map.get(path)
+    let empty = Shard::new(alloc)?;
+    while map.shards.len() < count {
+        map.shards.push(empty.clone()?)?;
+    }
+    Ok(())
 }
 
-/// Sets the bytes of a file.
-fn set(map: &mut Map, path: StorePath, bytes: SharedBytes) -> Result<(), AllocError>
-    ensures ok { OnOk result (tree_of map.new ≡ with_file (tree_of map.old) path (Some bytes)) }
+/// Sets the content of a file.
+fn set(alloc: Global, map: &mut Map, path: StorePath, content: Content) -> Result<(), AllocError>
+    ensures ok { OnOk result (tree_of map.new ≡ with_file (tree_of map.old) path (Some content)) }
     ensures err { OnErr result (tree_of map.new ≡ tree_of map.old) }
 {
-    map.insert(path, bytes)?;
+    let at = shard_of(path.bytes());
+    grow(alloc, map, at + 1)?;
+    let shard = map.shards[at].with(alloc, path, content)?;
+    map.shards[at] = shard;
     Ok(())
 }
 
 /// Takes a file away.
-fn unset(map: &mut Map, path: &StorePath)
-    ensures { tree_of map.new ≡ with_file (tree_of map.old) path.now None }
+fn unset(alloc: Global, map: &mut Map, path: &StorePath) -> Result<(), AllocError>
+    ensures ok { OnOk result (tree_of map.new ≡ with_file (tree_of map.old) path.now None) }
+    ensures err { OnErr result (tree_of map.new ≡ tree_of map.old) }
 {
-    map.remove(path);
+    let at = shard_of(path.bytes());
+    grow(alloc, map, at + 1)?;
+    let shard = map.shards[at].without(alloc, path)?;
+    map.shards[at] = shard;
+    Ok(())
 }
 
 /// Appends to a file, which it makes where it is absent.
@@ -96,12 +137,11 @@ fn append_in(alloc: Global, map: &mut Map, path: &StorePath, bytes: &[u8]) -> Re
     ensures tree { OnOk result (tree_of map.new ≡ apply (Op.Append path.now bytes.now) (tree_of map.old)) }
     ensures err { OnErr result (tree_of map.new ≡ tree_of map.old) }
 {
-    let mut next = match bytes_of(map, path) {
-        Some(old) => old.copy(alloc)?,
-        None => Bytes::new(alloc),
+    let next = match content_of(map, path) {
+        Some(old) => old.and(alloc, bytes)?,
+        None => Content::new(alloc).and(alloc, bytes)?,
     };
-    next.append(bytes)?;
-    set(map, path.copy(alloc)?, SharedBytes::new(alloc, next)?)
+    set(alloc, map, path.copy(alloc)?, next)
 }
 
 /// Makes or replaces a file.
@@ -109,8 +149,8 @@ fn create_in(alloc: Global, map: &mut Map, path: &StorePath, bytes: &[u8]) -> Re
     ensures tree { OnOk result (tree_of map.new ≡ apply (Op.Create path.now bytes.now) (tree_of map.old)) }
     ensures err { OnErr result (tree_of map.new ≡ tree_of map.old) }
 {
-    let bytes = Bytes::from_slice(alloc, bytes)?;
-    set(map, path.copy(alloc)?, SharedBytes::new(alloc, bytes)?)
+    let content = Content::new(alloc).and(alloc, bytes)?;
+    set(alloc, map, path.copy(alloc)?, content)
 }
 
 /// Shortens a file that is longer.
@@ -118,14 +158,14 @@ fn cut_in(alloc: Global, map: &mut Map, path: &StorePath, len: u64) -> Result<()
     ensures tree { OnOk result (tree_of map.new ≡ apply (Op.Cut path.now len) (tree_of map.old)) }
     ensures err { OnErr result (tree_of map.new ≡ tree_of map.old) }
 {
-    let next = match bytes_of(map, path) {
-        Some(bytes) => Bytes::from_slice(alloc, front(bytes.as_slice(), len as usize))?,
+    let next = match content_of(map, path) {
+        Some(content) => content.first(alloc, len)?,
         None => return Ok(()),
     };
-    set(map, path.copy(alloc)?, SharedBytes::new(alloc, next)?)
+    set(alloc, map, path.copy(alloc)?, next)
 }
 
-/// Gives a file another name.
+/// Gives a file another name, or changes nothing, for which it works on a copy.
 fn rename_in(
     alloc: Global,
     map: &mut Map,
@@ -135,15 +175,17 @@ fn rename_in(
     ensures tree { OnOk result (tree_of map.new ≡ apply (Op.Rename from.now to.now) (tree_of map.old)) }
     ensures err { OnErr result (tree_of map.new ≡ tree_of map.old) }
 {
-    let bytes = match shared_of(map, from) {
-        Some(bytes) => bytes.clone()?,
+    let content = match content_of(map, from) {
+        Some(content) => content.clone()?,
         None => return Ok(()),
     };
     if from == to {
         return Ok(());
     }
-    set(map, to.copy(alloc)?, bytes)?;
-    unset(map, from);
+    let mut next = copy_of(map)?;
+    set(alloc, &mut next, to.copy(alloc)?, content)?;
+    unset(alloc, &mut next, from)?;
+    *map = next;
     Ok(())
 }
 
@@ -157,10 +199,7 @@ pub fn apply(alloc: Global, map: &mut Map, op: &Op) -> Result<(), AllocError>
         Op::Create { path, bytes } => create_in(alloc, map, path, bytes.as_slice()),
         Op::Cut { path, len } => cut_in(alloc, map, path, *len),
         Op::Rename { from, to } => rename_in(alloc, map, from, to),
-        Op::Remove { path } => {
-            unset(map, path);
-            Ok(())
-        }
+        Op::Remove { path } => unset(alloc, map, path),
         Op::Sync { path: _ } => Ok(()),
         Op::Settle => Ok(()),
     }

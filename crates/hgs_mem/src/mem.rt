@@ -19,7 +19,6 @@ use hgs_files::files::{Created, FileFault, Files, Reads};
 use hgs_files::op::Op;
 use hgs_files::path::StorePath;
 use std::alloc::{AllocError, Global};
-use std::collections::BTreeMap;
 
 /// Files in memory, which tell all that was done on them, and can be told to fail or to stop at a call.
 ///
@@ -44,7 +43,7 @@ impl MemFiles {
         ensures failures { IfOk result (λ m. (call : ℕ) → failure_at (plan_of m) call ≡ None) }
     {
         Ok(MemFiles {
-            kept: LoggedFiles::from_map(alloc, BTreeMap::new(alloc)),
+            kept: LoggedFiles::from_map(alloc, Map::new(alloc)),
             plan: Plan::new(alloc),
             tally: Tally::new(),
         })

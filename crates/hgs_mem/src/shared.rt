@@ -1,7 +1,8 @@
 //! Bytes that several states of the files have together.
-ghost use Rattle.std.specs.Prelude.{◌≡◌, IfOk};
+ghost use Rattle.std.specs.Prelude.{◌≡◌, take, IfOk};
 
 use hgs_bytes::bytes::Bytes;
+use hgs_bytes::parts::front;
 use std::alloc::{AllocError, Global};
 use std::marker::Model;
 use std::sync::Arc;
@@ -29,6 +30,19 @@ impl SharedBytes {
         Ok(SharedBytes {
             bytes: Arc::new(alloc, bytes)?,
         })
+    }
+
+    /// The first bytes, at most so many.
+    pub fn first(&self, alloc: Global, most: usize) -> Result<SharedBytes, AllocError>
+        ensures { IfOk result (λ s. s ≡ take most self.now) }
+    {
+        if self.bytes.len() <= most {
+            return self.clone();
+        }
+        SharedBytes::new(
+            alloc,
+            Bytes::from_slice(alloc, front(self.bytes.as_slice(), most))?,
+        )
     }
 
     pub fn get(&self) -> &Bytes

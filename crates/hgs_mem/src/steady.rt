@@ -6,12 +6,12 @@ ghost use Rattle.hgs_files.specs.Ties.{untied};
 ghost use Rattle.hgs_files.specs.Reads.{AddsBytes, Counts, HasSize, LooksAt, ReadsFrom};
 ghost use Rattle.hgs_mem.specs.Steady.{steady_log, steady_start, steady_tree};
 
+use crate::contents::Map;
 use crate::logged::LoggedFiles;
 use crate::tally::Tally;
 use hgs_files::files::{Created, FileFault, Files, Reads};
 use hgs_files::path::StorePath;
 use std::alloc::{AllocError, Global};
-use std::collections::BTreeMap;
 
 /// Files in memory none of whose calls fails; one may find no memory. They tell all that was done on them.
 #[derive(Drop)]
@@ -27,7 +27,7 @@ impl SteadyFiles {
         ensures start { (path : List ℕ) → steady_start result path ≡ None }
     {
         SteadyFiles {
-            kept: LoggedFiles::from_map(alloc, BTreeMap::new(alloc)),
+            kept: LoggedFiles::from_map(alloc, Map::new(alloc)),
             tally: Tally::new(),
         }
     }
