@@ -11,7 +11,7 @@ use Rattle.hgs_hub.specs.declared.rule.View.{View}
 use Rattle.hgs_hub.specs.Rule.{first_at, tree_at, SeesAll, start_from}
 use Rattle.hgs_files.specs.Tree.{after_all}
 use Rattle.hgs_files.specs.Reads.{ReadsPart, IsSizeOf}
-use Rattle.hgs_hub.specs.Ends.{Covers}
+use Rattle.hgs_files.specs.Reads.{Covers}
 use Rattle.hgs_hub.specs.Looks.{Moves, Looked, LooksAtMoment}
 use Rattle.hgs_hub.proofs.Fronts.{prefix_self, prefix_trans, prefix_of_take}
 

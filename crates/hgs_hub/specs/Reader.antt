@@ -5,7 +5,7 @@ use Rattle.left_right.specs.Sides.{view}
 use Rattle.hgs_files.specs.declared.op.Op.{Op}
 use Rattle.hgs_files.specs.Tree.{Tree}
 use Rattle.hgs_mem.specs.declared.tally.Tally.{Tally}
-use Rattle.hgs_hub.specs.Ties.{Ties}
+use Rattle.hgs_files.specs.Ties.{Ties}
 use Rattle.hgs_hub.specs.declared.told.Heard.{Heard}
 use Rattle.hgs_hub.specs.declared.reader.HubReader.{HubReader}
 use Rattle.hgs_hub.specs.Home.{home_of}

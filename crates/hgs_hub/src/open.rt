@@ -1,6 +1,6 @@
 //! How ends are made.
 ghost use Rattle.std.specs.Prelude.{◌≡◌, ◌≤◌, [], Some, IfOk, drop, is_some, true, vec_len};
-ghost use Rattle.hgs_hub.specs.Files.{tree_now};
+ghost use Rattle.hgs_mem.specs.MemFiles.{tree_now};
 ghost use Rattle.left_right.specs.Sides.{view};
 ghost use Rattle.hgs_hub.specs.Home.{home_of};
 ghost use Rattle.hgs_hub.specs.New.{AllNew};
@@ -8,15 +8,15 @@ ghost use Rattle.hgs_hub.specs.Rule.{log_at, first_at, start_at, home_from};
 ghost use Rattle.hgs_hub.specs.Told.{lists_of};
 
 use crate::book::Token;
-use crate::contents::copy_of;
-use crate::files::SharedFiles;
 use crate::front::Front;
 use crate::moment::Origin;
-use crate::protocol::Protocol;
 use crate::reader::HubReader;
 use crate::rule::{Meets, Sees, Shown, Tells};
 use crate::show::{Leading, moment_of};
 use hgs_files::op::Op;
+use hgs_files::protocol::Protocol;
+use hgs_mem::contents::copy_of;
+use hgs_mem::mem::MemFiles;
 use left_right::writer::Writer;
 use std::alloc::{AllocError, Global};
 use std::snapshot::Snapshot;
@@ -24,7 +24,7 @@ use std::sync::{Arc, Wait};
 
 /// Both copies of the files as they stand, with an empty log, and room for so many readers.
 fn shelve<P: Protocol>(
-    files: &SharedFiles,
+    files: &MemFiles,
     seen: Token,
     readers: u32,
 ) -> Result<Leading<P>, AllocError>
@@ -56,7 +56,7 @@ fn shelve<P: Protocol>(
 /// The same, where the writing end knows where all began.
 pub(crate) fn lead<P: Protocol, T: Wait>(
     rt: &T,
-    files: &SharedFiles,
+    files: &MemFiles,
     seen: Token,
     readers: u32,
 ) -> Result<Leading<P>, AllocError>

@@ -1,13 +1,13 @@
 //! What a reading end promises over several calls, stated once.
 ghost use Rattle.std.specs.Prelude.{◌≡◌, Some, IfOk};
 ghost use Rattle.hgs_files.specs.Reads.{Grows};
-ghost use Rattle.hgs_hub.specs.Ends.{Covers};
+ghost use Rattle.hgs_files.specs.Reads.{Covers};
 ghost use Rattle.hgs_hub.specs.Reader.{seen_by, start_by, ties_by};
 
-use crate::protocol::Protocol;
 use crate::reader::HubReader;
 use hgs_files::files::{FileFault, Reads};
 use hgs_files::path::StorePath;
+use hgs_files::protocol::Protocol;
 
 /// The lengths of two files. What was found goes on from all that the end had seen or been told when the call began, and is
 /// legal.

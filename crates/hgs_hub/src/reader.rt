@@ -3,7 +3,7 @@ ghost use Rattle.std.specs.Prelude.{◌≡◌, ◌≤◌, [], Some, None, IfSome
 ghost use Rattle.std.specs.Arc.{arc_value};
 ghost use mathlib.Core.List.{IsPrefix};
 ghost use Rattle.hgs_files.specs.Reads.{ReadsPart, IsSizeOf};
-ghost use Rattle.hgs_hub.specs.Ends.{Covers};
+ghost use Rattle.hgs_files.specs.Reads.{Covers};
 ghost use Rattle.hgs_files.specs.Tree.{after_all};
 ghost use Rattle.left_right.specs.Sides.{view};
 ghost use Rattle.hgs_hub.specs.Home.{home_of};
@@ -13,17 +13,16 @@ ghost use Rattle.hgs_hub.specs.Told.{front_log, fronts_of, lists_of};
 ghost use Rattle.hgs_hub.specs.Looks.{Moves, Looked, LooksAtMoment};
 
 use crate::book::Token;
-use crate::contents::bytes_of;
-use crate::ends::Follows;
 use crate::front::Front;
 use crate::moment::Moment;
-use crate::protocol::Protocol;
 use crate::rule::{Law, Sees, Shown, View};
 use crate::told::Heard;
 use core::mem::replace_with;
-use hgs_bytes::parts::{front, past};
+use hgs_files::ends::Follows;
 use hgs_files::files::{FileFault, Reads};
 use hgs_files::path::StorePath;
+use hgs_files::protocol::Protocol;
+use hgs_mem::contents;
 use hgs_mem::tally::Tally;
 use left_right::reader::Reader;
 use std::alloc::AllocError;
@@ -45,24 +44,14 @@ pub(crate) fn read_at(
     ensures most { IfOk result (λ part. IfSome part (λ k. k ≤ most)) }
     ensures err { OnErr result (into.new.items ≡ into.old.items) }
 {
-    match bytes_of(&moment.files, path) {
-        Some(bytes) => {
-            let part = front(past(bytes.as_slice(), from as usize), most as usize);
-            into.extend_from_slice(part)?;
-            Ok(Some(part.len() as u64))
-        }
-        None => Ok(None),
-    }
+    contents::read_at(&moment.files, path, from, most, into)
 }
 
 /// The length of a file.
 pub(crate) fn size_at(moment: &Moment, path: &StorePath) -> Option<u64>
     ensures { IsSizeOf (after_all moment.now.log.value.items (tree_at moment.now.first.value) path.now) result }
 {
-    match bytes_of(&moment.files, path) {
-        Some(bytes) => Some(bytes.len() as u64),
-        None => None,
-    }
+    contents::size_of(&moment.files, path)
 }
 
 /// Enters, and takes the files as they are. One step: they are those of one moment.
@@ -165,7 +154,9 @@ impl<P: Protocol> HubReader<P> {
     pub(crate) fn ends_within(&mut self, front: &Front) -> bool
         requires { front.now.sure.book ≡ self.old.best.sure.book }
         ensures within { result ≡ true → IsPrefix self.old.last.value.log.value.items (front_log front.now) × Covers (lists_of self.old.told) (front_log front.now) }
-        ensures home { self.new.best.sure.book ≡ self.old.best.sure.book }
+        ensures last { self.new.last ≡ self.old.last }
+        ensures told { self.new.told ≡ self.old.told }
+        ensures best { self.new.best ≡ self.old.best }
         ensures tally { self.new.tally ≡ self.old.tally }
     {
         match self.look() {
@@ -220,8 +211,7 @@ impl<P: Protocol> HubReader<P> {
 
 impl<P: Protocol> Reads for HubReader<P> {
     ghost use Rattle.std.specs.Prelude.{Some, false};
-    ghost use Rattle.hgs_files.specs.Reads.{ReadsFrom, AddsBytes, HasSize, LooksAt, Counts};
-    ghost use Rattle.hgs_hub.specs.Ends.{LooksBeyond};
+    ghost use Rattle.hgs_files.specs.Reads.{ReadsFrom, AddsBytes, HasSize, LooksAt, LooksBeyond, Counts};
     ghost use Rattle.hgs_hub.specs.Reader.{seen_by, start_by, ties_by, tally_by};
 
     ghost faults = { λ r. (tally_by r).faults };
@@ -235,6 +225,10 @@ impl<P: Protocol> Reads for HubReader<P> {
     ghost start = { λ r. start_by r };
 
     ghost alone = { false };
+
+    ghost shows = { P.legal };
+
+    ghost ties = { λ r. ties_by r };
 
     fn read(
         &mut self,
@@ -284,13 +278,7 @@ impl<P: Protocol> Reads for HubReader<P> {
 }
 
 impl<P: Protocol> Follows for HubReader<P> {
-    ghost use Rattle.hgs_hub.specs.Reader.{ties_by};
-
     type Front = Front;
-
-    ghost ties = { λ r. ties_by r };
-
-    ghost shows = { P.legal };
 
     fn learn(&mut self, front: Front) {
         self.told = self.told.and(&front);

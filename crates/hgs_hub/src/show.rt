@@ -10,12 +10,12 @@ ghost use Rattle.hgs_hub.specs.Told.{front_log};
 ghost use Rattle.hgs_hub.specs.Writer.{Shows};
 
 use crate::book::{Book, Token};
-use crate::contents::Map;
 use crate::moment::{Moment, Origin};
-use crate::protocol::Protocol;
 use crate::rule::{Law, Sees, Shown, View};
 use core::mem::replace_with;
 use hgs_files::op::Op;
+use hgs_files::protocol::Protocol;
+use hgs_mem::contents::Map;
 use left_right::writer::Writer;
 use std::alloc::{AllocError, Global};
 use std::snapshot::Snapshot;

@@ -5,27 +5,27 @@ ghost use Rattle.hgs_files.specs.Tree.{after_all};
 ghost use Rattle.hgs_files.specs.Files.{GoesOn, LeavesWhole, LeavesPieces};
 ghost use Rattle.hgs_files.specs.Log.{IsPiece};
 ghost use Rattle.hgs_hub.specs.Pieces.{part_by};
-ghost use Rattle.hgs_hub.specs.New.{AllAt, AllWithin};
-ghost use Rattle.hgs_hub.specs.Ends.{total_of};
+ghost use Rattle.hgs_hub.specs.New.{AllAt, AllWithin, marks_of};
+ghost use Rattle.hgs_files.specs.Ends.{total_of};
 ghost use Rattle.hgs_files.specs.Reads.{Counts, counted, ReadsPart, IsSizeOf};
-ghost use Rattle.hgs_hub.specs.Files.{log_of, start_of, tree_now, SameFiles};
+ghost use Rattle.hgs_mem.specs.MemFiles.{log_of, start_of, tree_now, tally_of, KeepsAllBut};
 ghost use Rattle.hgs_hub.specs.Rule.{log_at, first_at, start_at};
 ghost use Rattle.hgs_hub.specs.Told.{front_log};
 
 use crate::book::Book;
 use crate::close::settle;
-use crate::contents::{apply, copy_of};
-use crate::ends::Leads;
-use crate::files::SharedFiles;
 use crate::front::Front;
-use crate::ops;
-use crate::protocol::Protocol;
 use crate::reader::{HubReader, read_at, size_at};
 use crate::show::{Leading, show};
 use hgs_bytes::parts::front;
+use hgs_files::ends::Leads;
 use hgs_files::files::{Created, FileFault, Files, Reads};
 use hgs_files::op::Op;
 use hgs_files::path::StorePath;
+use hgs_files::protocol::Protocol;
+use hgs_mem::contents::{apply, copy_of};
+use hgs_mem::mem::MemFiles;
+use hgs_mem::ops;
 use std::alloc::AllocError;
 use std::sync::Wait;
 
@@ -35,7 +35,7 @@ pub struct HubWriter<P: Protocol, T: Wait + Drop> {
     writer: Leading<P>,
     log: Vec<Op>,
     book: Book,
-    base: SharedFiles,
+    base: MemFiles,
     ghost logged: { log_at writer.desk.shown.value ≡ log.items },
     ghost from: { start_at writer.desk.shown.value ≡ tree_now base },
     ghost fronted: { front_log book.front ≡ log.items },
@@ -61,8 +61,10 @@ fn does_nothing(fate: Option<u64>, bytes: &[u8]) -> bool {
 }
 
 impl<P: Protocol, T: Wait + Drop> HubWriter<P, T> {
+    ghost use Rattle.hgs_hub.specs.Writer.{IsSameWriter};
+
     /// The writing end of these files, which has done nothing yet.
-    pub(crate) fn begin(rt: T, writer: Leading<P>, book: Book, base: SharedFiles) -> HubWriter<P, T>
+    pub(crate) fn begin(rt: T, writer: Leading<P>, book: Book, base: MemFiles) -> HubWriter<P, T>
         requires log { log_at writer.desk.shown.value ≡ [] }
         requires start { start_at writer.desk.shown.value ≡ tree_now base }
         requires told { front_log book.front ≡ [] }
@@ -86,16 +88,38 @@ impl<P: Protocol, T: Wait + Drop> HubWriter<P, T> {
     pub(crate) fn close(
         self,
         rs: Vec<HubReader<P>>,
-    ) -> Result<(T, SharedFiles), (HubWriter<P, T>, Vec<HubReader<P>>)>
+    ) -> Result<(T, MemFiles), (HubWriter<P, T>, Vec<HubReader<P>>)>
         requires { AllAt self.book.front.sure.book rs.items }
         ensures log { IfOk result (λ r. log_of r.1 ≡ log_of self.base ++ self.log.items) }
         ensures start { IfOk result (λ r. start_of r.1 ≡ start_of self.base) }
         ensures within { IfOk result (λ r. AllWithin self.log.items rs.items) }
-        ensures faults { IfOk result (λ r. r.1.tally.faults ≡ counted self.base.tally.faults (total_of (λ r. r.tally.faults) rs.items)) }
-        ensures denied { IfOk result (λ r. r.1.tally.denied ≡ counted self.base.tally.denied (total_of (λ r. r.tally.denied) rs.items)) }
-        ensures same { IfErr result (λ ends. (ends.0.log.items ≡ self.log.items) × (log_of ends.0.base ≡ log_of self.base) × (start_of ends.0.base ≡ start_of self.base) × (ends.0.book.front.sure.book ≡ self.book.front.sure.book)) }
-        ensures homes { IfErr result (λ ends. AllAt self.book.front.sure.book ends.1.items) }
+        ensures faults { IfOk result (λ r. (tally_of r.1).faults ≡ counted (tally_of self.base).faults (total_of (λ r. r.tally.faults) rs.items)) }
+        ensures denied { IfOk result (λ r. (tally_of r.1).denied ≡ counted (tally_of self.base).denied (total_of (λ r. r.tally.denied) rs.items)) }
+        ensures same { IfErr result (λ ends. IsSameWriter self ends.0) }
+        ensures same_readers { IfErr result (λ ends. marks_of ends.1.items ≡ marks_of rs.items) }
     {
+        let mut rs = rs;
+        let settled = settle(&self.book.front, &mut rs);
+        if !settled.fine {
+            return Err((self, rs));
+        }
+        match self.end(settled.faults, settled.denied) {
+            Ok(done) => Ok(done),
+            Err(writer) => Err((writer, rs)),
+        }
+    }
+
+    /// Puts what was done behind the log of the files, and adds these counts, or hands the end back.
+    fn end(self, faults: u64, denied: u64) -> Result<(T, MemFiles), HubWriter<P, T>>
+        ensures log { IfOk result (λ r. log_of r.1 ≡ log_of self.base ++ self.log.items) }
+        ensures start { IfOk result (λ r. start_of r.1 ≡ start_of self.base) }
+        ensures faults { IfOk result (λ r. (tally_of r.1).faults ≡ counted (tally_of self.base).faults faults) }
+        ensures denied { IfOk result (λ r. (tally_of r.1).denied ≡ counted (tally_of self.base).denied denied) }
+        ensures same { IfErr result (λ w. IsSameWriter self w) }
+    {
+        let Ok(files) = copy_of(&self.writer.published().now.files) else {
+            return Err(self);
+        };
         let HubWriter {
             rt,
             writer,
@@ -103,60 +127,19 @@ impl<P: Protocol, T: Wait + Drop> HubWriter<P, T> {
             book,
             mut base,
         } = self;
-        let mut kept = Vec::new(base.alloc());
-        let Ok(files) = copy_of(&writer.published().now.files) else {
-            return Err((
-                HubWriter {
-                    rt,
-                    writer,
-                    log,
-                    book,
-                    base,
-                },
-                rs,
-            ));
-        };
-        if kept.reserve(rs.len()).is_err() {
-            return Err((
-                HubWriter {
-                    rt,
-                    writer,
-                    log,
-                    book,
-                    base,
-                },
-                rs,
-            ));
-        }
-        let settled = settle(&book.front, rs, kept);
-        if !settled.fine {
-            return Err((
-                HubWriter {
-                    rt,
-                    writer,
-                    log,
-                    book,
-                    base,
-                },
-                settled.kept,
-            ));
-        }
         match base.go_on(files, log) {
             Ok(()) => {
-                base.add_counts(settled.faults, settled.denied);
+                base.add_counts(faults, denied);
                 writer.take(&rt);
                 Ok((rt, base))
             }
-            Err(log) => Err((
-                HubWriter {
-                    rt,
-                    writer,
-                    log,
-                    book,
-                    base,
-                },
-                settled.kept,
-            )),
+            Err(log) => Err(HubWriter {
+                rt,
+                writer,
+                log,
+                book,
+                base,
+            }),
         }
     }
 
@@ -164,19 +147,19 @@ impl<P: Protocol, T: Wait + Drop> HubWriter<P, T> {
     fn in_part(&mut self, fails: bool, made: Result<Op, AllocError>) -> Result<(), FileFault>
         requires { IfOk made (λ piece. P.legal (tree_now self.old.base) (self.old.log.items ++ piece ∷ [])) }
         ensures done { (op : Op) (left : List Op) → IfOk made (λ piece. IsPiece op piece left) → (fails ≡ false → left ≡ []) → GoesOn (Some self.old.log.items) (Some self.new.log.items) (LeavesPieces op result) }
-        ensures base { SameFiles self.old.base self.new.base }
-        ensures given { self.new.base.tally.given ≡ self.old.base.tally.given }
-        ensures counts { Counts self.old.base.tally.faults self.new.base.tally.faults self.old.base.tally.denied self.new.base.tally.denied result }
+        ensures base { KeepsAllBut self.old.base self.new.base }
+        ensures given { (tally_of self.new.base).given ≡ (tally_of self.old.base).given }
+        ensures counts { Counts (tally_of self.old.base).faults (tally_of self.new.base).faults (tally_of self.old.base).denied (tally_of self.new.base).denied result }
         ensures home { self.new.book.front.sure.book ≡ self.old.book.front.sure.book }
     {
         match self.add_made(made) {
             Ok(()) => {
                 if fails {
-                    return Err(self.base.tally.failed());
+                    return Err(self.base.failed());
                 }
                 Ok(())
             }
-            Err(_) => Err(self.base.tally.denied()),
+            Err(_) => Err(self.base.denied()),
         }
     }
 
@@ -246,17 +229,17 @@ impl<P: Protocol, T: Wait + Drop> HubWriter<P, T> {
     fn whole(&mut self, made: Result<Op, AllocError>) -> Result<(), FileFault>
         requires { IfOk made (λ op. P.legal (tree_now self.old.base) (self.old.log.items ++ op ∷ [])) }
         ensures done { (op : Op) → IfOk made (λ o. o ≡ op) → GoesOn (Some self.old.log.items) (Some self.new.log.items) (LeavesWhole op result) }
-        ensures base { SameFiles self.old.base self.new.base }
-        ensures given { self.new.base.tally.given ≡ self.old.base.tally.given }
-        ensures counts { Counts self.old.base.tally.faults self.new.base.tally.faults self.old.base.tally.denied self.new.base.tally.denied result }
+        ensures base { KeepsAllBut self.old.base self.new.base }
+        ensures given { (tally_of self.new.base).given ≡ (tally_of self.old.base).given }
+        ensures counts { Counts (tally_of self.old.base).faults (tally_of self.new.base).faults (tally_of self.old.base).denied (tally_of self.new.base).denied result }
         ensures home { self.new.book.front.sure.book ≡ self.old.book.front.sure.book }
     {
-        if self.base.plan.next().is_some() {
-            return Err(self.base.tally.failed());
+        if self.base.next_fate().is_some() {
+            return Err(self.base.failed());
         }
         match self.add_made(made) {
             Ok(()) => Ok(()),
-            Err(_) => Err(self.base.tally.denied()),
+            Err(_) => Err(self.base.denied()),
         }
     }
 }
@@ -278,6 +261,10 @@ impl<P: Protocol, T: Wait + Drop> Reads for HubWriter<P, T> {
 
     ghost alone = { true };
 
+    ghost shows = { λ start log. Unit {0} };
+
+    ghost ties = { λ w. ties_at w };
+
     fn read(
         &mut self,
         path: &StorePath,
@@ -293,16 +280,16 @@ impl<P: Protocol, T: Wait + Drop> Reads for HubWriter<P, T> {
         ensures counts { Counts (tally_at self.old).faults (tally_at self.new).faults (tally_at self.old).denied (tally_at self.new).denied result }
         ensures same_ties { ties_at self.new ≡ ties_at self.old }
     {
-        if self.base.plan.next().is_some() {
-            return Err(self.base.tally.failed());
+        if self.base.next_fate().is_some() {
+            return Err(self.base.failed());
         }
         match self.read_shown(path, from, most, into) {
             Ok(Some(count)) => {
-                self.base.tally.give(count);
+                self.base.give(count);
                 Ok(Some(count))
             }
             Ok(None) => Ok(None),
-            Err(_) => Err(self.base.tally.denied()),
+            Err(_) => Err(self.base.denied()),
         }
     }
 
@@ -315,8 +302,8 @@ impl<P: Protocol, T: Wait + Drop> Reads for HubWriter<P, T> {
         ensures counts { Counts (tally_at self.old).faults (tally_at self.new).faults (tally_at self.old).denied (tally_at self.new).denied result }
         ensures same_ties { ties_at self.new ≡ ties_at self.old }
     {
-        if self.base.plan.next().is_some() {
-            return Err(self.base.tally.failed());
+        if self.base.next_fate().is_some() {
+            return Err(self.base.failed());
         }
         Ok(self.size_shown(path))
     }
@@ -343,9 +330,9 @@ impl<P: Protocol, T: Wait + Drop> Files for HubWriter<P, T> {
         ensures counts { Counts (tally_at self.old).faults (tally_at self.new).faults (tally_at self.old).denied (tally_at self.new).denied result }
         ensures same_ties { ties_at self.new ≡ ties_at self.old }
     {
-        let fate = self.base.plan.next();
+        let fate = self.base.next_fate();
         if does_nothing(fate, bytes) {
-            return Err(self.base.tally.failed());
+            return Err(self.base.failed());
         }
         let part = part_by(fate, bytes);
         let made = ops::append(self.base.alloc(), path, part);
@@ -360,9 +347,9 @@ impl<P: Protocol, T: Wait + Drop> Files for HubWriter<P, T> {
         ensures counts { Counts (tally_at self.old).faults (tally_at self.new).faults (tally_at self.old).denied (tally_at self.new).denied result }
         ensures same_ties { ties_at self.new ≡ ties_at self.old }
     {
-        let fate = self.base.plan.next();
+        let fate = self.base.next_fate();
         if does_nothing(fate, bytes) {
-            return Err(self.base.tally.failed());
+            return Err(self.base.failed());
         }
         let part = part_by(fate, bytes);
         let made = ops::create(self.base.alloc(), path, part);
@@ -377,8 +364,8 @@ impl<P: Protocol, T: Wait + Drop> Files for HubWriter<P, T> {
         ensures counts { Counts (tally_at self.old).faults (tally_at self.new).faults (tally_at self.old).denied (tally_at self.new).denied result }
         ensures same_ties { ties_at self.new ≡ ties_at self.old }
     {
-        if self.base.plan.next().is_some() {
-            return Err(self.base.tally.failed());
+        if self.base.next_fate().is_some() {
+            return Err(self.base.failed());
         }
         if self.size_shown(path).is_some() {
             return Ok(Created::There);
@@ -386,7 +373,7 @@ impl<P: Protocol, T: Wait + Drop> Files for HubWriter<P, T> {
         let made = ops::create(self.base.alloc(), path, bytes);
         match self.add_made(made) {
             Ok(()) => Ok(Created::Made),
-            Err(_) => Err(self.base.tally.denied()),
+            Err(_) => Err(self.base.denied()),
         }
     }
 
@@ -451,11 +438,7 @@ impl<P: Protocol, T: Wait + Drop> Files for HubWriter<P, T> {
 }
 
 impl<P: Protocol, T: Wait + Drop> Leads for HubWriter<P, T> {
-    ghost use Rattle.hgs_hub.specs.Writer.{ties_at};
-
     type Front = Front;
-
-    ghost ties = { λ w. ties_at w };
 
     fn front(&mut self) -> Front {
         self.book.front.again()

@@ -8,7 +8,8 @@ use Rattle.hgs_files.specs.Log.{IsDone}
 use Rattle.hgs_mem.specs.declared.plan.Plan.{Plan}
 use Rattle.hgs_mem.specs.declared.tally.Tally.{Tally}
 use Rattle.hgs_mem.specs.declared.mem.MemFiles.{MemFiles}
-use Rattle.hgs_mem.specs.Mem.{start_tree}
+use Rattle.hgs_mem.specs.declared.contents.Map.{Map}
+use Rattle.hgs_mem.specs.Mem.{tree_of}
 
 -- the operations done since the start
 abbrev pub log_of : MemFiles → List Op
@@ -16,11 +17,15 @@ log_of m = m.kept.log.items
 
 -- the tree at the start
 abbrev pub start_of : MemFiles → Tree
-start_of m = start_tree m.kept.first m.kept.files
+start_of m = tree_of m.kept.first.value
 
 -- the tree now
 abbrev pub tree_now : MemFiles → Tree
 tree_now m = after_all (log_of m) (start_of m)
+
+-- the map of the files now
+abbrev pub map_of : MemFiles → Map
+map_of m = m.kept.files
 
 -- the most bytes in one piece of an append
 abbrev pub piece_of : MemFiles → ℕ
@@ -36,6 +41,10 @@ tally_of m = m.tally
 -- nothing but the plan changed
 abbrev pub KeepsFiles : MemFiles → MemFiles → Type 0
 KeepsFiles old new = (log_of new ≡ log_of old) × (start_of new ≡ start_of old) × (piece_of new ≡ piece_of old) × (tally_of new ≡ tally_of old)
+
+-- the files, their log and their pieces are the same
+abbrev pub KeepsAllBut : MemFiles → MemFiles → Type 0
+KeepsAllBut old new = (log_of new ≡ log_of old) × (start_of new ≡ start_of old) × (piece_of new ≡ piece_of old) × (map_of new ≡ map_of old)
 
 -- A call fails exactly where that is its fate.
 abbrev pub FailsBy : {T : Type 0} → Option ℕ → Result T FileFault → Type 0

@@ -2,7 +2,7 @@
 use Rattle.std.specs.Prelude.{List}
 use Rattle.hgs_files.specs.declared.op.Op.{Op}
 use Rattle.hgs_files.specs.Tree.{Tree, after_all}
-use Rattle.hgs_mem.specs.Mem.{start_tree}
+use Rattle.hgs_mem.specs.Mem.{tree_of}
 use Rattle.hgs_mem.specs.declared.steady.SteadyFiles.{SteadyFiles}
 
 -- the operations done since the start
@@ -11,7 +11,7 @@ steady_log m = m.kept.log.items
 
 -- the tree at the start
 abbrev pub steady_start : SteadyFiles → Tree
-steady_start m = start_tree m.kept.first m.kept.files
+steady_start m = tree_of m.kept.first.value
 
 -- the tree now
 abbrev pub steady_tree : SteadyFiles → Tree

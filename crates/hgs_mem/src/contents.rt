@@ -1,75 +1,219 @@
-//! A map from paths to bytes, changed as operations say, with the log of these.
-ghost use Rattle.std.specs.Prelude.{◌≡◌, ◌<◌, List, [], ◌∷◌, ◌++◌, take, drop, OnOk, OnErr, Some, None, option_copied, is_ok, if◌then◌else◌};
+//! The files as a map from paths to bytes, of which copies share what is in them, changed as operations say.
+ghost use Rattle.std.specs.Prelude.{◌≡◌, ◌<◌, ◌≤◌, length, List, [], ◌∷◌, ◌++◌, OnOk, OnErr, IfOk, IfSome, Some, None, option_copied};
 ghost use Rattle.hgs_files.specs.declared.op.Op.{Op};
 ghost use Rattle.hgs_files.specs.Tree.{with_file, apply};
 ghost use Rattle.hgs_files.specs.Log.{IsDone};
+ghost use Rattle.hgs_files.specs.Reads.{IsSizeOf, ReadsPart};
 ghost use Rattle.hgs_mem.specs.Mem.{tree_of};
+ghost use Rattle.hgs_mem.specs.Shard.{no_files, shard_of};
 ghost use Rattle.hgs_mem.specs.Pieces.{AreSmall};
 
+use crate::content::Content;
 use crate::pieces::appends;
-use hgs_bytes::bytes::Bytes;
+use crate::shard::Shard;
 use hgs_files::op::Op;
 use hgs_files::path::StorePath;
 use std::alloc::{AllocError, Global};
-use std::collections::BTreeMap;
 
-pub type Map = BTreeMap<StorePath, Bytes>;
+/// The files, in parts. A copy has the parts together with this one, and so costs the same whatever is in them.
+#[derive(Drop)]
+pub struct Map {
+    shards: Vec<Shard>,
+}
 
-/// Sets the bytes of a file.
-pub fn set(map: &mut Map, path: StorePath, bytes: Bytes) -> Result<(), AllocError>
-    ensures ok { OnOk result (tree_of map.new ≡ with_file (tree_of map.old) path (Some bytes)) }
+impl Map {
+    /// No files. Takes no memory.
+    pub fn new(alloc: Global) -> Map
+        ensures { tree_of result ≡ no_files }
+    {
+        Map {
+            shards: Vec::new(alloc),
+        }
+    }
+}
+
+/// A copy, whose files have their bytes together with this one.
+pub fn copy_of(map: &Map) -> Result<Map, AllocError>
+    ensures { IfOk result (λ copy. tree_of copy ≡ tree_of map.now) }
+{
+    Ok(Map {
+        shards: map.shards.clone()?,
+    })
+}
+
+/// The number of the part in which a path is looked for.
+fn shard_of(path: &[u8]) -> usize
+    ensures { result ≡ shard_of path.now }
+{
+    let number = path
+        .iter()
+        .fold(0u64, |number, byte| number % 256 * 31 + *byte as u64);
+    (number % 256) as usize
+}
+
+/// The content of a file.
+fn content_of<'m>(map: &'m Map, path: &StorePath) -> Option<&'m Content>
+    ensures { option_copied result ≡ tree_of map.now path.now }
+{
+    let at = shard_of(path.bytes());
+    if at < map.shards.len() {
+        map.shards[at].get(path)
+    } else {
+        None
+    }
+}
+
+/// The length of a file.
+pub fn size_of(map: &Map, path: &StorePath) -> Option<u64>
+    ensures { IsSizeOf (tree_of map.now path.now) result }
+{
+    match content_of(map, path) {
+        Some(content) => Some(content.len()),
+        None => None,
+    }
+}
+
+/// Adds to `into` the part of a file from a place, at most so many bytes of it, and answers how many.
+pub fn read_at(
+    map: &Map,
+    path: &StorePath,
+    from: u64,
+    most: u64,
+    into: &mut Vec<u8>,
+) -> Result<Option<u64>, AllocError>
+    ensures ok { IfOk result (λ part. ReadsPart (tree_of map.now path.now) from most into.old.items into.new.items part) }
+    ensures same { IfOk result (λ part. part ≡ None → into.new.items ≡ into.old.items) }
+    ensures most { IfOk result (λ part. IfSome part (λ k. k ≤ most)) }
+    ensures err { OnErr result (into.new.items ≡ into.old.items) }
+{
+    match content_of(map, path) {
+        Some(content) => {
+            let before = into.len();
+            content.read(from, most, into)?;
+            Ok(Some((into.len() - before) as u64))
+        }
+        None => Ok(None),
+    }
+}
+
+/// Makes so many parts, if there are fewer.
+fn grow(alloc: Global, map: &mut Map, count: usize) -> Result<(), AllocError>
+    ensures same { tree_of map.new ≡ tree_of map.old }
+    ensures long { OnOk result (count ≤ length map.new.shards.items) }
+{
+    let empty = Shard::new(alloc)?;
+    while map.shards.len() < count {
+        map.shards.push(empty.clone()?)?;
+    }
+    Ok(())
+}
+
+/// Sets the content of a file.
+fn set(alloc: Global, map: &mut Map, path: StorePath, content: Content) -> Result<(), AllocError>
+    ensures ok { OnOk result (tree_of map.new ≡ with_file (tree_of map.old) path (Some content)) }
     ensures err { OnErr result (tree_of map.new ≡ tree_of map.old) }
 {
-    map.insert(path, bytes)?;
+    let at = shard_of(path.bytes());
+    grow(alloc, map, at + 1)?;
+    let shard = map.shards[at].with(alloc, path, content)?;
+    map.shards[at] = shard;
     Ok(())
 }
 
 /// Takes a file away.
-pub fn unset(map: &mut Map, path: &StorePath)
-    ensures { tree_of map.new ≡ with_file (tree_of map.old) path.now None }
+fn unset(alloc: Global, map: &mut Map, path: &StorePath) -> Result<(), AllocError>
+    ensures ok { OnOk result (tree_of map.new ≡ with_file (tree_of map.old) path.now None) }
+    ensures err { OnErr result (tree_of map.new ≡ tree_of map.old) }
 {
-    map.remove(path);
+    let at = shard_of(path.bytes());
+    grow(alloc, map, at + 1)?;
+    let shard = map.shards[at].without(alloc, path)?;
+    map.shards[at] = shard;
+    Ok(())
 }
 
-/// The bytes of a file.
-pub fn bytes_of<'m>(map: &'m Map, path: &StorePath) -> Option<&'m Bytes>
-    ensures { option_copied result ≡ tree_of map.now path.now }
+/// Appends to a file, which it makes where it is absent.
+fn append_in(alloc: Global, map: &mut Map, path: &StorePath, bytes: &[u8]) -> Result<(), AllocError>
+    ensures tree { OnOk result (tree_of map.new ≡ apply (Op.Append path.now bytes.now) (tree_of map.old)) }
+    ensures err { OnErr result (tree_of map.new ≡ tree_of map.old) }
 {
-    map.get(path)
+    let next = match content_of(map, path) {
+        Some(old) => old.and(alloc, bytes)?,
+        None => Content::new(alloc).and(alloc, bytes)?,
+    };
+    set(alloc, map, path.copy(alloc)?, next)
 }
 
-/// The first bytes, at most so many.
-#[tactic(auto, using(std::proofs::lemmas::List::take_min))]
-pub fn front(bytes: &[u8], most: u64) -> &[u8]
-    ensures { result.now ≡ take most bytes.now }
+/// Makes or replaces a file.
+fn create_in(alloc: Global, map: &mut Map, path: &StorePath, bytes: &[u8]) -> Result<(), AllocError>
+    ensures tree { OnOk result (tree_of map.new ≡ apply (Op.Create path.now bytes.now) (tree_of map.old)) }
+    ensures err { OnErr result (tree_of map.new ≡ tree_of map.old) }
 {
-    let count = most.min(bytes.len() as u64) as usize;
-    &bytes[..count]
+    let content = Content::new(alloc).and(alloc, bytes)?;
+    set(alloc, map, path.copy(alloc)?, content)
 }
 
-/// The bytes from a place on, none where there are no more.
-#[tactic(auto, using(std::proofs::lemmas::List::drop_min))]
-pub fn past(bytes: &[u8], from: u64) -> &[u8]
-    ensures { result.now ≡ drop from bytes.now }
+/// Shortens a file that is longer.
+fn cut_in(alloc: Global, map: &mut Map, path: &StorePath, len: u64) -> Result<(), AllocError>
+    ensures tree { OnOk result (tree_of map.new ≡ apply (Op.Cut path.now len) (tree_of map.old)) }
+    ensures err { OnErr result (tree_of map.new ≡ tree_of map.old) }
 {
-    let start = from.min(bytes.len() as u64) as usize;
-    &bytes[start..]
+    let next = match content_of(map, path) {
+        Some(content) => content.first(alloc, len)?,
+        None => return Ok(()),
+    };
+    set(alloc, map, path.copy(alloc)?, next)
 }
 
-/// Sets a file, and adds these operations, or does nothing.
-fn record(
+/// Gives a file another name, or changes nothing, for which it works on a copy.
+fn rename_in(
+    alloc: Global,
     map: &mut Map,
-    log: &mut Vec<Op>,
-    mut ops: Vec<Op>,
-    path: StorePath,
-    bytes: Bytes,
+    from: &StorePath,
+    to: &StorePath,
 ) -> Result<(), AllocError>
-    ensures log { log.new.items ≡ (if is_ok result then log.old.items ++ ops.items else log.old.items) }
-    ensures map { tree_of map.new ≡ (if is_ok result then with_file (tree_of map.old) path (Some bytes) else tree_of map.old) }
+    ensures tree { OnOk result (tree_of map.new ≡ apply (Op.Rename from.now to.now) (tree_of map.old)) }
+    ensures err { OnErr result (tree_of map.new ≡ tree_of map.old) }
 {
-    log.reserve(ops.len())?;
-    set(map, path, bytes)?;
-    match log.append(&mut ops) {
+    let content = match content_of(map, from) {
+        Some(content) => content.clone()?,
+        None => return Ok(()),
+    };
+    if from == to {
+        return Ok(());
+    }
+    let mut next = copy_of(map)?;
+    set(alloc, &mut next, to.copy(alloc)?, content)?;
+    unset(alloc, &mut next, from)?;
+    *map = next;
+    Ok(())
+}
+
+/// Does an operation, or changes nothing.
+pub fn apply(alloc: Global, map: &mut Map, op: &Op) -> Result<(), AllocError>
+    ensures tree { OnOk result (tree_of map.new ≡ apply op.now (tree_of map.old)) }
+    ensures err { OnErr result (tree_of map.new ≡ tree_of map.old) }
+{
+    match op {
+        Op::Append { path, bytes } => append_in(alloc, map, path, bytes.as_slice()),
+        Op::Create { path, bytes } => create_in(alloc, map, path, bytes.as_slice()),
+        Op::Cut { path, len } => cut_in(alloc, map, path, *len),
+        Op::Rename { from, to } => rename_in(alloc, map, from, to),
+        Op::Remove { path } => unset(alloc, map, path),
+        Op::Sync { path: _ } => Ok(()),
+        Op::Settle => Ok(()),
+    }
+}
+
+/// Does an operation, and adds it to the log, or does nothing.
+pub fn do_one(alloc: Global, map: &mut Map, log: &mut Vec<Op>, op: Op) -> Result<(), AllocError>
+    ensures ok { OnOk result (log.new.items ≡ log.old.items ++ op ∷ []) }
+    ensures tree { OnOk result (tree_of map.new ≡ apply op (tree_of map.old)) }
+    ensures err { OnErr result ((log.new.items ≡ log.old.items) × (tree_of map.new ≡ tree_of map.old)) }
+{
+    log.reserve(1)?;
+    apply(alloc, map, &op)?;
+    match log.push(op) {
         Ok(()) => Ok(()),
         Err(_) => unreachable!(),
     }
@@ -89,134 +233,11 @@ pub fn append(
     ensures tree { OnOk result (tree_of map.new ≡ apply (Op.Append path.now bytes.now) (tree_of map.old)) }
     ensures err { OnErr result ((log.new.items ≡ log.old.items) × (tree_of map.new ≡ tree_of map.old)) }
 {
-    let ops = appends(alloc, path, bytes, piece)?;
-    let mut next = match bytes_of(map, path) {
-        Some(old) => old.copy(alloc)?,
-        None => Bytes::new(alloc),
-    };
-    next.append(bytes)?;
-    record(map, log, ops, path.copy(alloc)?, next)
-}
-
-/// Makes or replaces a file, and adds that to the log, or does nothing.
-pub fn create(
-    alloc: Global,
-    map: &mut Map,
-    log: &mut Vec<Op>,
-    path: &StorePath,
-    bytes: &[u8],
-) -> Result<(), AllocError>
-    ensures ok { OnOk result (log.new.items ≡ log.old.items ++ Op.Create path.now bytes.now ∷ []) }
-    ensures tree { OnOk result (tree_of map.new ≡ apply (Op.Create path.now bytes.now) (tree_of map.old)) }
-    ensures err { OnErr result ((log.new.items ≡ log.old.items) × (tree_of map.new ≡ tree_of map.old)) }
-{
-    let op = Op::Create {
-        path: path.copy(alloc)?,
-        bytes: Bytes::from_slice(alloc, bytes)?,
-    };
-    log.reserve(1)?;
-    set(map, path.copy(alloc)?, Bytes::from_slice(alloc, bytes)?)?;
-    match log.push(op) {
+    let mut ops = appends(alloc, path, bytes, piece)?;
+    log.reserve(ops.len())?;
+    append_in(alloc, map, path, bytes)?;
+    match log.append(&mut ops) {
         Ok(()) => Ok(()),
         Err(_) => unreachable!(),
     }
-}
-
-/// Shortens, and adds that to the log, or does nothing.
-pub fn cut(
-    alloc: Global,
-    map: &mut Map,
-    log: &mut Vec<Op>,
-    path: &StorePath,
-    len: u64,
-) -> Result<(), AllocError>
-    ensures ok { OnOk result (log.new.items ≡ log.old.items ++ Op.Cut path.now len ∷ []) }
-    ensures tree { OnOk result (tree_of map.new ≡ apply (Op.Cut path.now len) (tree_of map.old)) }
-    ensures err { OnErr result ((log.new.items ≡ log.old.items) × (tree_of map.new ≡ tree_of map.old)) }
-{
-    log.push(Op::Cut {
-        path: path.copy(alloc)?,
-        len,
-    })?;
-    match map.get_mut(path) {
-        Some(bytes) => {
-            if len < bytes.len() as u64 {
-                bytes.cut(len as usize);
-            }
-        }
-        None => {}
-    }
-    Ok(())
-}
-
-/// Takes a file away, and adds that to the log, or does nothing.
-pub fn remove(
-    alloc: Global,
-    map: &mut Map,
-    log: &mut Vec<Op>,
-    path: &StorePath,
-) -> Result<(), AllocError>
-    ensures ok { OnOk result (log.new.items ≡ log.old.items ++ Op.Remove path.now ∷ []) }
-    ensures tree { OnOk result (tree_of map.new ≡ apply (Op.Remove path.now) (tree_of map.old)) }
-    ensures err { OnErr result ((log.new.items ≡ log.old.items) × (tree_of map.new ≡ tree_of map.old)) }
-{
-    log.push(Op::Remove {
-        path: path.copy(alloc)?,
-    })?;
-    unset(map, path);
-    Ok(())
-}
-
-/// Gives a file another name, and adds that to the log, or does nothing.
-pub fn rename(
-    alloc: Global,
-    map: &mut Map,
-    log: &mut Vec<Op>,
-    from: &StorePath,
-    to: &StorePath,
-) -> Result<(), AllocError>
-    ensures ok { OnOk result (log.new.items ≡ log.old.items ++ Op.Rename from.now to.now ∷ []) }
-    ensures tree { OnOk result (tree_of map.new ≡ apply (Op.Rename from.now to.now) (tree_of map.old)) }
-    ensures err { OnErr result ((log.new.items ≡ log.old.items) × (tree_of map.new ≡ tree_of map.old)) }
-{
-    let op = Op::Rename {
-        from: from.copy(alloc)?,
-        to: to.copy(alloc)?,
-    };
-    log.reserve(1)?;
-    rename_in(alloc, map, from, to)?;
-    match log.push(op) {
-        Ok(()) => Ok(()),
-        Err(_) => unreachable!(),
-    }
-}
-
-fn rename_in(
-    alloc: Global,
-    map: &mut Map,
-    from: &StorePath,
-    to: &StorePath,
-) -> Result<(), AllocError>
-    ensures tree { OnOk result (tree_of map.new ≡ apply (Op.Rename from.now to.now) (tree_of map.old)) }
-    ensures err { OnErr result (tree_of map.new ≡ tree_of map.old) }
-{
-    let bytes = match bytes_of(map, from) {
-        Some(bytes) => bytes.copy(alloc)?,
-        None => return Ok(()),
-    };
-    if from == to {
-        return Ok(());
-    }
-    set(map, to.copy(alloc)?, bytes)?;
-    unset(map, from);
-    Ok(())
-}
-
-/// Adds an operation that changes no file.
-pub fn note(log: &mut Vec<Op>, op: Op) -> Result<(), AllocError>
-    ensures ok { OnOk result (log.new.items ≡ log.old.items ++ op ∷ []) }
-    ensures err { OnErr result (log.new.items ≡ log.old.items) }
-{
-    log.push(op)?;
-    Ok(())
 }

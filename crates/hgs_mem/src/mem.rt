@@ -1,24 +1,24 @@
 //! Files in memory.
-ghost use Rattle.std.specs.Prelude.{◌≡◌, ◌==◌, ◌≤◌, ◌<◌, ℕ, min, List, [], ◌∷◌, ◌++◌, take, drop, length, IfOk, OnOk, OnErr, Some, None, true, refl, if◌then◌else◌, IfSome};
+ghost use Rattle.std.specs.Prelude.{◌≡◌, ◌==◌, ◌≤◌, ◌<◌, ℕ, min, List, [], ◌∷◌, ◌++◌, take, drop, length, IfOk, IfErr, OnOk, OnErr, Some, None, true, refl, if◌then◌else◌, IfSome};
 ghost use Rattle.hgs_files.specs.declared.op.Op.{Op};
 ghost use Rattle.hgs_files.specs.Tree.{after_all};
 ghost use Rattle.hgs_files.specs.Log.{append_of_rest};
 ghost use Rattle.hgs_files.specs.Ties.{untied};
-ghost use Rattle.hgs_files.specs.Reads.{Counts, ReadsFrom, HasSize, LooksAt, AddsBytes, ReadsPart, greatest};
+ghost use Rattle.hgs_files.specs.Reads.{Counts, ReadsFrom, HasSize, LooksAt, AddsBytes, Rises, counted, greatest};
 ghost use Rattle.hgs_files.specs.Files.{GoesOn, LeavesPieces, LeavesWhole, CreatesNew};
-ghost use Rattle.hgs_mem.specs.Mem.{start_tree};
+ghost use Rattle.hgs_mem.specs.Mem.{tree_of};
 ghost use Rattle.hgs_mem.specs.Pieces.{AreSmall, create_of_front};
 ghost use Rattle.hgs_mem.specs.Plan.{failure_at, next_fate, after_call, earlier};
-ghost use Rattle.hgs_mem.specs.MemFiles.{log_of, start_of, tree_now, piece_of, plan_of, tally_of, KeepsFiles, FailsBy, FailsAfter};
+ghost use Rattle.hgs_mem.specs.MemFiles.{log_of, start_of, tree_now, piece_of, plan_of, tally_of, map_of, KeepsFiles, KeepsAllBut, FailsBy, FailsAfter};
 
-use crate::contents::{front, past};
+use crate::contents::Map;
 use crate::logged::LoggedFiles;
 use crate::plan::Plan;
 use crate::tally::Tally;
 use hgs_files::files::{Created, FileFault, Files, Reads};
+use hgs_files::op::Op;
 use hgs_files::path::StorePath;
 use std::alloc::{AllocError, Global};
-use std::collections::BTreeMap;
 
 /// Files in memory, which tell all that was done on them, and can be told to fail or to stop at a call.
 ///
@@ -43,7 +43,7 @@ impl MemFiles {
         ensures failures { IfOk result (λ m. (call : ℕ) → failure_at (plan_of m) call ≡ None) }
     {
         Ok(MemFiles {
-            kept: LoggedFiles::from_map(alloc, BTreeMap::new(alloc)),
+            kept: LoggedFiles::from_map(alloc, Map::new(alloc)),
             plan: Plan::new(alloc),
             tally: Tally::new(),
         })
@@ -88,6 +88,86 @@ impl MemFiles {
         self.plan.calls
     }
 
+    /// The fate of the next call, which is counted.
+    pub fn next_fate(&mut self) -> Option<u64>
+        ensures fate { result ≡ next_fate (plan_of self.old) }
+        ensures plan { plan_of self.new ≡ after_call (plan_of self.old) }
+        ensures files { KeepsAllBut self.old self.new }
+        ensures tally { tally_of self.new ≡ tally_of self.old }
+    {
+        self.plan.next()
+    }
+
+    /// Counts a call that failed.
+    pub fn failed(&mut self) -> FileFault
+        ensures fault { result ≡ FileFault.Failed }
+        ensures counts { Rises (tally_of self.old).faults (tally_of self.new).faults 1 }
+        ensures denied { (tally_of self.new).denied ≡ (tally_of self.old).denied }
+        ensures given { (tally_of self.new).given ≡ (tally_of self.old).given }
+        ensures plan { plan_of self.new ≡ plan_of self.old }
+        ensures files { KeepsAllBut self.old self.new }
+    {
+        self.tally.failed()
+    }
+
+    /// Counts a call that found no memory.
+    pub fn denied(&mut self) -> FileFault
+        ensures fault { result ≡ FileFault.Memory }
+        ensures faults { (tally_of self.new).faults ≡ (tally_of self.old).faults }
+        ensures counts { Rises (tally_of self.old).denied (tally_of self.new).denied 1 }
+        ensures given { (tally_of self.new).given ≡ (tally_of self.old).given }
+        ensures plan { plan_of self.new ≡ plan_of self.old }
+        ensures files { KeepsAllBut self.old self.new }
+    {
+        self.tally.denied()
+    }
+
+    /// Counts bytes that a read gave.
+    pub fn give(&mut self, bytes: u64)
+        ensures faults { (tally_of self.new).faults ≡ (tally_of self.old).faults }
+        ensures denied { (tally_of self.new).denied ≡ (tally_of self.old).denied }
+        ensures given { Rises (tally_of self.old).given (tally_of self.new).given bytes }
+        ensures plan { plan_of self.new ≡ plan_of self.old }
+        ensures files { KeepsAllBut self.old self.new }
+    {
+        self.tally.give(bytes);
+    }
+
+    /// Adds to the two counts, which stay at their greatest values.
+    pub fn add_counts(&mut self, faults: u64, denied: u64)
+        ensures tally { tally_of self.new ≡ record { faults = counted (tally_of self.old).faults faults; denied = counted (tally_of self.old).denied denied; given = (tally_of self.old).given } }
+        ensures plan { plan_of self.new ≡ plan_of self.old }
+        ensures files { KeepsAllBut self.old self.new }
+    {
+        self.tally.faults = self.tally.faults.saturating_add(faults);
+        self.tally.denied = self.tally.denied.saturating_add(denied);
+    }
+
+    pub fn alloc(&self) -> Global {
+        self.kept.alloc
+    }
+
+    /// The files as they stand.
+    pub fn files(&self) -> &Map
+        ensures map { result.now ≡ map_of self.now }
+        ensures tree { tree_of result.now ≡ tree_now self.now }
+    {
+        &self.kept.files
+    }
+
+    /// Goes on to what these files are after these operations, or does nothing and gives them back.
+    pub fn go_on(&mut self, files: Map, ops: Vec<Op>) -> Result<(), Vec<Op>>
+        requires { tree_of files ≡ after_all ops.items (tree_now self.old) }
+        ensures ok { OnOk result (log_of self.new ≡ log_of self.old ++ ops.items) }
+        ensures err { IfErr result (λ given. (given.items ≡ ops.items) × (log_of self.new ≡ log_of self.old)) }
+        ensures start { start_of self.new ≡ start_of self.old }
+        ensures piece { piece_of self.new ≡ piece_of self.old }
+        ensures tally { tally_of self.new ≡ tally_of self.old }
+        ensures plan { plan_of self.new ≡ plan_of self.old }
+    {
+        self.kept.go_on(files, ops)
+    }
+
     /// The files as they stand, as those that a session begins with: nothing done yet, nothing counted, nothing to fail,
     /// and appends whole again. Takes no memory.
     pub fn restart(self) -> MemFiles
@@ -106,29 +186,6 @@ impl MemFiles {
             plan,
             tally: Tally::new(),
         }
-    }
-}
-
-/// Adds to `into` the part of a file from a place, at most so many bytes of it, and answers how many.
-pub(crate) fn read_into(
-    kept: &LoggedFiles,
-    path: &StorePath,
-    from: u64,
-    most: u64,
-    into: &mut Vec<u8>,
-) -> Result<Option<u64>, AllocError>
-    ensures ok { IfOk result (λ part. ReadsPart (after_all kept.now.log.items (start_tree kept.now.first kept.now.files) path.now) from most into.old.items into.new.items part) }
-    ensures same { IfOk result (λ part. part ≡ None → into.new.items ≡ into.old.items) }
-    ensures most { IfOk result (λ part. IfSome part (λ k. k ≤ most)) }
-    ensures err { OnErr result (into.new.items ≡ into.old.items) }
-{
-    match kept.bytes_of(path) {
-        Some(bytes) => {
-            let part = front(past(bytes.as_slice(), from), most);
-            into.extend_from_slice(part)?;
-            Ok(Some(part.len() as u64))
-        }
-        None => Ok(None),
     }
 }
 
@@ -168,7 +225,7 @@ impl Reads for MemFiles {
     {
         match self.plan.next() {
             Some(_) => Err(self.tally.failed()),
-            None => match read_into(&self.kept, path, from, most, into) {
+            None => match self.kept.read_at(path, from, most, into) {
                 Ok(Some(count)) => {
                     self.tally.give(count);
                     Ok(Some(count))
@@ -192,10 +249,7 @@ impl Reads for MemFiles {
     {
         match self.plan.next() {
             Some(_) => Err(self.tally.failed()),
-            None => match self.kept.bytes_of(path) {
-                Some(bytes) => Ok(Some(bytes.len() as u64)),
-                None => Ok(None),
-            },
+            None => Ok(self.kept.size_of(path)),
         }
     }
 }
@@ -265,7 +319,7 @@ impl Files for MemFiles {
         match self.plan.next() {
             Some(_) => Err(self.tally.failed()),
             None => {
-                if self.kept.bytes_of(path).is_some() {
+                if self.kept.size_of(path).is_some() {
                     return Ok(Created::There);
                 }
                 match self.kept.create(path, bytes) {

@@ -6,13 +6,12 @@ ghost use Rattle.hgs_files.specs.Ties.{untied};
 ghost use Rattle.hgs_files.specs.Reads.{AddsBytes, Counts, HasSize, LooksAt, ReadsFrom};
 ghost use Rattle.hgs_mem.specs.Steady.{steady_log, steady_start, steady_tree};
 
+use crate::contents::Map;
 use crate::logged::LoggedFiles;
-use crate::mem::read_into;
 use crate::tally::Tally;
 use hgs_files::files::{Created, FileFault, Files, Reads};
 use hgs_files::path::StorePath;
 use std::alloc::{AllocError, Global};
-use std::collections::BTreeMap;
 
 /// Files in memory none of whose calls fails; one may find no memory. They tell all that was done on them.
 #[derive(Drop)]
@@ -28,7 +27,7 @@ impl SteadyFiles {
         ensures start { (path : List ℕ) → steady_start result path ≡ None }
     {
         SteadyFiles {
-            kept: LoggedFiles::from_map(alloc, BTreeMap::new(alloc)),
+            kept: LoggedFiles::from_map(alloc, Map::new(alloc)),
             tally: Tally::new(),
         }
     }
@@ -76,7 +75,7 @@ impl Reads for SteadyFiles {
         ensures still { steady_log self.new ≡ steady_log self.old }
         ensures counts { Counts 0 0 self.old.tally.denied self.new.tally.denied result }
     {
-        match read_into(&self.kept, path, from, most, into) {
+        match self.kept.read_at(path, from, most, into) {
             Ok(Some(count)) => {
                 self.tally.give(count);
                 Ok(Some(count))
@@ -94,10 +93,7 @@ impl Reads for SteadyFiles {
         ensures still { steady_log self.new ≡ steady_log self.old }
         ensures counts { Counts 0 0 self.old.tally.denied self.new.tally.denied result }
     {
-        match self.kept.bytes_of(path) {
-            Some(bytes) => Ok(Some(bytes.len() as u64)),
-            None => Ok(None),
-        }
+        Ok(self.kept.size_of(path))
     }
 }
 
@@ -140,7 +136,7 @@ impl Files for SteadyFiles {
         ensures given { self.new.tally.given ≡ self.old.tally.given }
         ensures counts { Counts 0 0 self.old.tally.denied self.new.tally.denied result }
     {
-        if self.kept.bytes_of(path).is_some() {
+        if self.kept.size_of(path).is_some() {
             return Ok(Created::There);
         }
         match self.kept.create(path, bytes) {

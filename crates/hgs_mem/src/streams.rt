@@ -4,7 +4,7 @@ ghost use Rattle.hgs_files.specs.Reads.{counted};
 ghost use Rattle.hgs_files.specs.Streams.{Takes, Writes, CountsFailed};
 ghost use Rattle.hgs_mem.specs.Streams.{left_of, source_calls, source_named, source_faults, written_to, sink_calls, sink_named, sink_faults, FailsAt};
 
-use crate::contents::{front, past};
+use hgs_bytes::parts::{front, past};
 use hgs_files::streams::{IoFault, Sink, Source};
 use std::alloc::{AllocError, Global};
 
@@ -64,7 +64,7 @@ impl Source for MemSource {
             self.faults = self.faults.saturating_add(1);
             return Err(IoFault::Failed);
         }
-        let part = front(past(self.bytes.as_slice(), self.at), most);
+        let part = front(past(self.bytes.as_slice(), self.at as usize), most as usize);
         let count = part.len() as u64;
         match into.extend_from_slice(part) {
             Ok(()) => {

@@ -6,10 +6,8 @@ ghost use Rattle.hgs_files.specs.Files.{MayDo};
 use hgs_files::files::{Created, FileFault, Files, Reads};
 use hgs_files::path::StorePath;
 use hgs_files::streams::{IoFault, Sink, Source};
-use hgs_files::yard::Yard;
 use hgs_mem::mem::MemFiles;
 use hgs_mem::streams::{MemSink, MemSource};
-use hgs_mem::yard::MemYard;
 use std::alloc::Global;
 use std::test::Fail;
 
@@ -222,24 +220,6 @@ fn pieces_join_and_files_are_made_once(rt: HostRuntime) -> Result<(), Fail> {
     assert_eq!(rt;
         shown(&mut files, &paths, rt.alloc())?.as_slice(),
         b"a=first b=abcde ".as_slice()
-    );
-    Ok(())
-}
-
-/// Takes a yard apart, and puts it together again.
-fn apart_and_again<Y: Yard>(yard: Y) -> Y {
-    let (files, rest) = yard.alone();
-    Y::again(files, rest)
-}
-
-#[test]
-fn a_yard_keeps_its_files(rt: HostRuntime) -> Result<(), Fail> {
-    let paths = three_paths(rt.alloc())?;
-    let yard = apart_and_again(MemYard::new(two_files(rt.alloc(), &paths)?));
-    let (mut files, _) = yard.alone();
-    assert_eq!(rt;
-        shown(&mut files, &paths, rt.alloc())?.as_slice(),
-        SAME.as_bytes()
     );
     Ok(())
 }

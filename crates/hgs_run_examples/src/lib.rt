@@ -9,3 +9,5 @@ mod refresh;
 mod stops;
 #[cfg(test)]
 mod stores;
+#[cfg(test)]
+mod yards;

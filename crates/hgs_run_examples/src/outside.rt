@@ -1,14 +1,12 @@
 //! How many calls on the files a question makes, and what is told where one fails.
 use crate::stores::{FIRST, FIRST_CHUNK, store};
+use crate::yards::{Free, run_over};
 use hgs_files::files::Files;
 use hgs_files::path::StorePath;
-use hgs_files::yard::{Left, Yard};
 use hgs_mem::mem::MemFiles;
 use hgs_mem::streams::{MemSink, MemSource};
-use hgs_mem::yard::MemYard;
-use hgs_top::run::run;
-use hgs_verify::progress::Unseen;
 use std::alloc::Global;
+use std::sync::Wait;
 use std::test::Fail;
 use std::thread::Threads;
 
@@ -37,7 +35,7 @@ fn one_file(alloc: Global) -> Result<MemFiles, Fail> {
 }
 
 /// What `run` answers to these words.
-pub(crate) fn asked<R: Alloc<A = Global> + Threads + Sync>(
+pub(crate) fn asked<R: Alloc<A = Global> + Threads + Sync + Wait>(
     rt: &R,
     files: MemFiles,
     words: &[&str],
@@ -49,16 +47,16 @@ pub(crate) fn asked<R: Alloc<A = Global> + Threads + Sync>(
         owned.push(String::from_str(alloc, word)?)?;
     }
     let mut source = MemSource::new(alloc, b"unread")?;
-    let ran = run(
+    let (status, _) = run_over::<Free, &R, R>(
+        rt,
         rt,
         alloc,
         &owned,
-        MemYard::new(files),
+        files,
         &mut source,
         &mut sink,
-        &mut Unseen,
-    );
-    Ok((ran.status, Vec::from_slice(alloc, sink.bytes())?))
+    )?;
+    Ok((status, Vec::from_slice(alloc, sink.bytes())?))
 }
 
 #[test]
@@ -82,7 +80,7 @@ fn what_fails_outside_is_told(rt: HostRuntime) -> Result<(), Fail> {
 }
 
 /// How many calls on the files a run makes.
-fn calls_of<R: Alloc<A = Global> + Threads + Sync>(
+fn calls_of<R: Alloc<A = Global> + Threads + Sync + Wait>(
     rt: &R,
     files: MemFiles,
     words: &[&str],
@@ -95,18 +93,8 @@ fn calls_of<R: Alloc<A = Global> + Threads + Sync>(
     }
     let mut source = MemSource::new(alloc, b"")?;
     let mut sink = MemSink::new(alloc);
-    let ran = run(
-        rt,
-        alloc,
-        &owned,
-        MemYard::new(files),
-        &mut source,
-        &mut sink,
-        &mut Unseen,
-    );
-    match ran.left {
-        Left::Whole(yard) => Ok(yard.alone().0.calls().saturating_sub(before)),
-    }
+    let (_, left) = run_over::<Free, &R, R>(rt, rt, alloc, &owned, files, &mut source, &mut sink)?;
+    Ok(left.calls().saturating_sub(before))
 }
 
 /// How many calls on the files these words make: five for a load; then those for a text of the changelog, for the index and

@@ -1,12 +1,10 @@
 //! Each call of a commit stops in turn after so many bytes, or fails, and so does each of a recovery behind it: what is told then
 //! are the lines before or those after, and those after where the commit was answered. The nodes are Mercurial's.
-use hgs_files::yard::{Left, Yard};
+use crate::yards::{Free, run_over};
 use hgs_mem::mem::MemFiles;
 use hgs_mem::streams::{MemSink, MemSource};
-use hgs_mem::yard::MemYard;
-use hgs_top::run::{Ran, run};
-use hgs_verify::progress::Unseen;
 use std::alloc::Global;
+use std::sync::Wait;
 use std::test::Fail;
 use std::thread::Threads;
 
@@ -32,7 +30,7 @@ struct Came {
     files: MemFiles,
 }
 
-fn run_word<R: Alloc<A = Global> + Threads + Sync>(
+fn run_word<R: Alloc<A = Global> + Threads + Sync + Wait>(
     rt: &R,
     files: MemFiles,
     word: &str,
@@ -43,17 +41,9 @@ fn run_word<R: Alloc<A = Global> + Threads + Sync>(
     words.push(String::from_str(alloc, word)?)?;
     let mut input = MemSource::new(alloc, given)?;
     let mut sink = MemSink::new(alloc);
-    let Ran { status, left } = run(
-        rt,
-        alloc,
-        &words,
-        MemYard::new(files),
-        &mut input,
-        &mut sink,
-        &mut Unseen,
-    );
-    let Left::Whole(yard) = left;
-    let (files, _) = yard.alone();
+    let (status, files) = run_over::<Free, &R, R>(
+        rt, rt, alloc, &words, files, &mut input, &mut sink,
+    )?;
     Ok(Came {
         status,
         text: Vec::from_slice(alloc, sink.bytes())?,
@@ -62,20 +52,26 @@ fn run_word<R: Alloc<A = Global> + Threads + Sync>(
 }
 
 /// A repository with the first changeset.
-fn committed<R: Alloc<A = Global> + Threads + Sync>(rt: &R) -> Result<MemFiles, Fail> {
+fn committed<R: Alloc<A = Global> + Threads + Sync + Wait>(rt: &R) -> Result<MemFiles, Fail> {
     let made = run_word(rt, MemFiles::new(rt.alloc())?, "init", b"")?;
     let first = run_word(rt, made.files, "commit", FIRST)?;
     Ok(first.files.restart())
 }
 
 /// Recovers, and gives the lines of the history.
-fn lines<R: Alloc<A = Global> + Threads + Sync>(rt: &R, files: MemFiles) -> Result<Vec<u8>, Fail> {
+fn lines<R: Alloc<A = Global> + Threads + Sync + Wait>(
+    rt: &R,
+    files: MemFiles,
+) -> Result<Vec<u8>, Fail> {
     let recovered = run_word(rt, files.restart(), "recover", b"")?;
     Ok(run_word(rt, recovered.files, "log", b"")?.text)
 }
 
 /// Whether the lines behind a commit that came to this are those before or those after, and those after where it was answered.
-fn is_right<R: Alloc<A = Global> + Threads + Sync>(rt: &R, left: Came) -> Result<bool, Fail> {
+fn is_right<R: Alloc<A = Global> + Threads + Sync + Wait>(
+    rt: &R,
+    left: Came,
+) -> Result<bool, Fail> {
     let Came { status, files, .. } = left;
     let lines = lines(rt, files)?;
     Ok(lines.as_slice() == AFTER || status != 0 && lines.as_slice() == BEFORE)

@@ -1,7 +1,7 @@
 use Rattle.std.proofs.Common.{rules, ◌≡◌, [], ◌∷◌, ◌++◌, None, Some, ap}
 use Rattle.hgs_files.specs.Tree.{after_all}
 use Rattle.hgs_files.specs.declared.op.Op.TheVariants.{Create}
-use Rattle.hgs_hub.specs.Files.{tree_now}
+use Rattle.hgs_mem.specs.MemFiles.{tree_now}
 use Rattle.hgs_hub.proofs.PieceLemmas.{create_done, no_size}
 use Rattle.hgs_hub.proofs.writer.HubWriterFiles.create_new.Goals as goal
 

@@ -1,5 +1,0 @@
-use Rattle.std.proofs.Common.{◌∙◌}
-use Rattle.hgs_hub.proofs.files.SharedFiles.restart.Goals as goal
-
-pub returns-clause-start : goal.returns-clause-start
-returns-clause-start c = c.from_map.ensures.start ∙ c.args.self.kept

@@ -1,0 +1,43 @@
+//! Runs over files that ends can share.
+use hgs_files::protocol::Protocol;
+use hgs_files::yard::{Left, Yard};
+use hgs_hub::hub::Hub;
+use hgs_mem::mem::MemFiles;
+use hgs_mem::streams::{MemSink, MemSource};
+use hgs_top::run::{Ran, run};
+use hgs_verify::progress::Unseen;
+use std::alloc::Global;
+use std::sync::Wait;
+use std::test::Fail;
+use std::thread::Threads;
+
+/// All lists are legal.
+pub(crate) struct Free;
+
+impl Protocol for Free {
+    ghost legal = { λ start log. Unit {0} };
+
+    ghost legal_empty = { λ start. tt };
+
+    ghost legal_front = { λ start log more h. tt };
+
+    ghost legal_piece = { λ start log left op piece p h. tt };
+}
+
+/// What these words come to over a yard of these files: the status, and the files.
+pub(crate) fn run_over<P: Protocol, T: Wait + Drop + Send, R: Threads + Sync>(
+    rt: &R,
+    handle: T,
+    alloc: Global,
+    words: &[String],
+    files: MemFiles,
+    input: &mut MemSource,
+    out: &mut MemSink,
+) -> Result<(u8, MemFiles), Fail> {
+    let yard: Hub<P, T> = Hub::new(handle, files);
+    let Ran { status, left } = run(rt, alloc, words, yard, input, out, &mut Unseen);
+    match left {
+        Left::Whole(yard) => Ok((status, yard.alone().0)),
+        Left::Parts(_, _) => Err(Fail::new("the ends are apart")),
+    }
+}
