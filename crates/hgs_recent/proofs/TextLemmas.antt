@@ -5,7 +5,7 @@ use Rattle.std.specs.List.{AllByRecursion}
 use Rattle.std.specs.Map.{lookup, lookup_entry, remove_entry}
 use Rattle.std.specs.Option.{option_map_or}
 use Rattle.hgs_bytes.specs.Bytes.{same}
-use Rattle.hgs_bytes.specs.Theorems.ByteLemmas.{same-eq}
+use Rattle.hgs_bytes.specs.Theorems.ByteLemmas.{same-eq, same-refl}
 use Rattle.lru.specs.LruCache.{promoted, put_entries}
 use Rattle.hgs_revlog.specs.Load.{most_text}
 use Rattle.hgs_recent.specs.Texts.{AreKept, Texts, looked_up, most_kept, text_under, used, used_if}
@@ -131,3 +131,11 @@ looked-kept node es cap are = by (lookup (same node) es) refl
 
 pub found-small : (node : List ℕ) (es : Texts) → AllByRecursion (λ (e : List ℕ × List ℕ). length e.1 ≤ most_text) es → IfSome (text_under node es) (λ text. length text ≤ most_text)
 found-small node es all = found-all (same node) (λ (t : List ℕ). length t ≤ most_text) es all
+
+-- what is found under a node is found there once it was used
+pub looked-under : (node : List ℕ) (es : Texts) → text_under node (looked_up node es) ≡ text_under node es
+looked-under node es = by (lookup (same node) es) refl
+  where
+    by : (o : Option (List ℕ)) → lookup (same node) es ≡ o → lookup (same node) (used_if node o es) ≡ o
+    by None h = h
+    by (Some text) h = ap (λ b. cond b (Some text) (lookup (same node) (take (most_kept - 1) (remove_entry (same node) es)))) (same-refl node)

@@ -32,6 +32,7 @@ looked_up node texts = used_if node (text_under node texts) texts
 -- A text that was read was used. Where there was no memory to keep it, nothing changed.
 abbrev pub MayKeep : List ℕ → List ℕ → Texts → Texts → Type 0
 MayKeep node text old new = (new ≡ used node text old) ⊎ (new ≡ old)
+
 -- at most so many, each no longer than a text may be
 pub record AreKept (cache : LruCache (List ℕ) (List ℕ)) : Type 0 where
   pub cap : cache.cap ≡ most_kept
