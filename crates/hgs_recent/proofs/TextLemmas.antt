@@ -1,5 +1,5 @@
 -- Kept texts: what is found among them, and what a use makes of them.
-use Rattle.std.proofs.Common.{◌≡◌, ℕ, zero, suc, ◌-◌, ◌≤◌, Bool, true, false, cond, List, [], ◌∷◌, length, take, take_all, length-take, Option, Some, None, refl, sym, ◌∙◌, ap, subst, arith}
+use Rattle.std.proofs.Common.{◌≡◌, ℕ, suc, ◌-◌, ◌≤◌, Bool, true, false, cond, List, [], ◌∷◌, length, take, take_all, length-take, Option, Some, None, refl, sym, ◌∙◌, ap, subst, arith}
 use Rattle.std.specs.Prelude.{IfSome}
 use Rattle.std.specs.List.{AllByRecursion}
 use Rattle.std.specs.Map.{lookup, lookup_entry, remove_entry}
@@ -8,6 +8,7 @@ use Rattle.hgs_bytes.specs.Bytes.{same}
 use Rattle.hgs_bytes.specs.Theorems.ByteLemmas.{same-eq, same-refl}
 use Rattle.lru.specs.LruCache.{promoted, put_entries}
 use Rattle.hgs_revlog.specs.Load.{most_text}
+use Rattle.hgs_recent.specs.Theorems.UseLemmas.{found-all, removed-all, taken-all}
 use Rattle.hgs_recent.specs.Texts.{AreKept, Texts, looked_up, most_kept, text_under, used, used_if}
 
 module _ {K X : Type 0} (test : K → Bool) where
@@ -57,28 +58,6 @@ module _ {K X : Type 0} (test : K → Bool) where
             entry = ap (λ b. cond b (Some e) (lookup_entry test es)) t ∙ f.entry;
             others = ap (λ b. suc (length (cond b es (e ∷ remove_entry test es)))) t ∙ ap (λ n. suc n) f.others;
           }
-
-  -- what holds of all holds of what is left
-  removed-all : (P : K × X → Type 0) (es : List (K × X)) → AllByRecursion P es → AllByRecursion P (remove_entry test es)
-  removed-all P [] all = tt
-  removed-all P (e ∷ es) all = by (test e.0) (removed-all P es all.1)
-    where
-      by : (b : Bool) → AllByRecursion P (remove_entry test es) → AllByRecursion P (cond b es (e ∷ remove_entry test es))
-      by true on = all.1
-      by false on = (all.0, on)
-
-  found-all : (P : X → Type 0) (es : List (K × X)) → AllByRecursion (λ (e : K × X). P e.1) es → IfSome (lookup test es) P
-  found-all P [] all = tt
-  found-all P (e ∷ es) all = by (test e.0) (found-all P es all.1)
-    where
-      by : (b : Bool) → IfSome (lookup test es) P → IfSome (cond b (Some e.1) (lookup test es)) P
-      by true on = all.0
-      by false on = on
-
-taken-all : {A : Type 0} (P : A → Type 0) (n : ℕ) (xs : List A) → AllByRecursion P xs → AllByRecursion P (take n xs)
-taken-all P zero xs all = tt
-taken-all P (suc n) [] all = tt
-taken-all P (suc n) (x ∷ xs) all = (all.0, taken-all P n xs all.1)
 
 -- ---- uses
 
