@@ -1,0 +1,40 @@
+//! What the definitions of this crate imply. Each function is one law; none does anything but name the laws below that its
+//! proof takes.
+ghost use Rattle.std.specs.Prelude.{◌≡◌, ℕ, List, [], Result, Some, slice_get};
+ghost use Rattle.hgs_bytes.specs.Bytes.{IsPrefixOf};
+ghost use Rattle.hgs_files.specs.declared.op.Op.{Op};
+ghost use Rattle.hgs_files.specs.Tree.{Tree};
+ghost use Rattle.hgs_model.specs.Repo.{Changeset};
+ghost use Rattle.hgs_load.specs.declared.answer.ReadAnswer.{ReadAnswer};
+ghost use Rattle.hgs_load.specs.View.{View};
+ghost use Rattle.hgs_reader.specs.Contents as plain;
+ghost use Rattle.hgs_recalled.specs.Recalled.{WereRead, AnswerAlike};
+ghost use Rattle.hgs_recent.specs.Questions.{changeset_use_asks, files_asks, cat_asks, Keeps};
+ghost use Rattle.hgs_recent.specs.Texts.{Texts};
+ghost use Rattle.hgs_views.specs.Course.{Course, IsCourse, OpensAlong, ReadsAlong};
+ghost use Rattle.hgs_views.specs.Seen.{IsLoadedBetween, Numbers};
+
+use hgs_views::laws::contents_of_views;
+
+/// Beside no texts the questions are those of a session that keeps none.
+pub fn questions_beside_no_texts()
+    ensures files { (view : View) (rev : ℕ) → files_asks [] view rev ≡ plain.files_asks view rev }
+    ensures cat { (view : View) (rev : ℕ) (path : List ℕ) → cat_asks [] view rev path ≡ plain.cat_asks view rev path }
+{}
+
+/// A session keeps only texts that it read under their nodes for changesets of views that it had: so it is of none, a call that
+/// was told the lists keeps it so, and it stays so.
+pub fn kept_texts_were_read()
+    ensures none { (x : Course) (first last : List Op) → WereRead x first last [] }
+    ensures later { (x : Course) (first last more : List Op) (texts : Texts) → WereRead x first last texts → IsPrefixOf last more → WereRead x first more texts }
+    ensures call { (x : Course) (first began ended from to : List Op) (v : Numbers) (view : View) (rev : ℕ) (c : Changeset) (old new : Texts) (r : Result Unit ReadAnswer) → IsLoadedBetween x began ended v view → slice_get (x.repo v.read).changesets rev ≡ Some c → IsPrefixOf first began → IsPrefixOf ended from → IsPrefixOf from to →
+        WereRead x first from old → Keeps (Some from) x.start (Some to) (changeset_use_asks old view rev) old new r → WereRead x first to new }
+{}
+
+/// Beside such texts a view's questions answer as those of a session that keeps none.
+pub fn kept_texts_answer_alike()
+    ensures { (x : Course) (zero began ended first last : List Op) (v : Numbers) (view : View) (rev : ℕ) (c : Changeset) (texts : Texts) → IsCourse x zero last → OpensAlong x zero last → ReadsAlong x zero last → IsLoadedBetween x began ended v view → IsPrefixOf zero began → IsPrefixOf ended first → IsPrefixOf first last →
+        slice_get (x.repo v.read).changesets rev ≡ Some c → WereRead x zero first texts → AnswerAlike x first last texts view rev }
+{
+    contents_of_views();
+}
