@@ -5,16 +5,19 @@ ghost use Rattle.hgs_bytes.specs.Bytes.{IsPrefixOf};
 ghost use Rattle.hgs_files.specs.declared.op.Op.{Op};
 ghost use Rattle.hgs_files.specs.Tree.{Tree};
 ghost use Rattle.hgs_model.specs.Repo.{Changeset};
+ghost use Rattle.hgs_legal.specs.Numbers.{repo_at};
+ghost use Rattle.hgs_headline.specs.WritersLog.{WritersLog, course_of};
 ghost use Rattle.hgs_load.specs.declared.answer.ReadAnswer.{ReadAnswer};
 ghost use Rattle.hgs_load.specs.View.{View};
 ghost use Rattle.hgs_reader.specs.Contents as plain;
-ghost use Rattle.hgs_recalled.specs.Recalled.{WereRead, AnswerAlike};
+ghost use Rattle.hgs_recalled.specs.Recalled.{WereRead, AnswerAlike, AddsBeside};
 ghost use Rattle.hgs_recent.specs.Questions.{changeset_use_asks, files_asks, cat_asks, Keeps};
 ghost use Rattle.hgs_recent.specs.Texts.{Texts};
 ghost use Rattle.hgs_views.specs.Course.{Course, IsCourse, OpensAlong, ReadsAlong};
 ghost use Rattle.hgs_views.specs.Seen.{IsLoadedBetween, Numbers};
 
-use hgs_views::laws::contents_of_views;
+use hgs_headline::laws::{views_beside_writers, writers_logs_are_courses};
+use hgs_views::laws::{calls_that_add_a_text, contents_of_views};
 
 /// Beside no texts the questions are those of a session that keeps none.
 pub fn questions_beside_no_texts()
@@ -37,4 +40,16 @@ pub fn kept_texts_answer_alike()
         slice_get (x.repo v.read).changesets rev ≡ Some c → WereRead x zero first texts → AnswerAlike x first last texts view rev }
 {
     contents_of_views();
+}
+
+/// So it is over the log that writers make: each call for the files of a changeset, or for the bytes of one, adds what was
+/// committed, whichever texts the session kept of its earlier calls.
+pub fn kept_texts_beside_writers()
+    ensures { (h : WritersLog) (began ended first last : List Op) (v : Numbers) (view : View) (rev : ℕ) (c : Changeset) (texts : Texts) → IsPrefixOf last h.log → OpensAlong (course_of h) [] last → ReadsAlong (course_of h) [] last → IsLoadedBetween (course_of h) began ended v view → IsPrefixOf ended first → IsPrefixOf first last →
+        slice_get (repo_at h.last v.read).changesets rev ≡ Some c → WereRead (course_of h) [] first texts → AddsBeside h.start first last texts view (repo_at h.last v.read).changesets rev c }
+{
+    writers_logs_are_courses();
+    views_beside_writers();
+    calls_that_add_a_text();
+    kept_texts_answer_alike();
 }
