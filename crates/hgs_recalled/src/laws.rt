@@ -9,21 +9,14 @@ ghost use Rattle.hgs_legal.specs.Numbers.{repo_at};
 ghost use Rattle.hgs_headline.specs.WritersLog.{WritersLog, course_of};
 ghost use Rattle.hgs_load.specs.declared.answer.ReadAnswer.{ReadAnswer};
 ghost use Rattle.hgs_load.specs.View.{View};
-ghost use Rattle.hgs_reader.specs.Contents as plain;
 ghost use Rattle.hgs_recalled.specs.Recalled.{WereRead, AnswerAlike, AddsBeside};
-ghost use Rattle.hgs_recent.specs.Questions.{changeset_use_asks, files_asks, cat_asks, Keeps};
+ghost use Rattle.hgs_recent.specs.Questions.{changeset_use_asks, Keeps};
 ghost use Rattle.hgs_recent.specs.Texts.{Texts};
 ghost use Rattle.hgs_views.specs.Course.{Course, IsCourse, OpensAlong, ReadsAlong};
 ghost use Rattle.hgs_views.specs.Seen.{IsLoadedBetween, Numbers};
 
 use hgs_headline::laws::{views_beside_writers, writers_logs_are_courses};
 use hgs_views::laws::{calls_that_add_a_text, contents_of_views};
-
-/// Beside no texts the questions are those of a session that keeps none.
-pub fn questions_beside_no_texts()
-    ensures files { (view : View) (rev : ℕ) → files_asks [] view rev ≡ plain.files_asks view rev }
-    ensures cat { (view : View) (rev : ℕ) (path : List ℕ) → cat_asks [] view rev path ≡ plain.cat_asks view rev path }
-{}
 
 /// A session keeps only texts that it read under their nodes for changesets of views that it had: so it is of none, a call that
 /// was told the lists keeps it so, and it stays so.

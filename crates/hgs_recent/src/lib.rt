@@ -2,6 +2,7 @@
 //! again.
 #![tactic(auto)]
 
+pub mod laws;
 mod manifest;
 pub mod session;
 pub mod texts;
