@@ -126,8 +126,8 @@ fn a_body_is_found_by_a_kept_manifest(rt: HostRuntime) -> Result<(), Fail> {
     Ok(())
 }
 
-/// The entry of revision `rev` of an index, whose chunks have `stored` bytes each.
-fn add_entry(into: &mut Vec<u8>, rev: u32, stored: u32, node: &Node) -> Result<(), Fail> {
+/// The entry of a revision without parents, whose chunk has `stored` bytes, as each before it.
+fn add_entry(index: &mut Vec<u8>, rev: u32, stored: u32, node: &Node) -> Result<(), Fail> {
     let place = if rev == 0 {
         0x1_0000_0000
     } else {
@@ -135,7 +135,7 @@ fn add_entry(into: &mut Vec<u8>, rev: u32, stored: u32, node: &Node) -> Result<(
             .wrapping_mul(stored as u64)
             .wrapping_mul(0x1_0000)
     };
-    into.extend_from_slice(&place.to_be_bytes())?;
+    index.extend_from_slice(&place.to_be_bytes())?;
     for number in [
         stored,
         stored.wrapping_sub(1),
@@ -144,42 +144,71 @@ fn add_entry(into: &mut Vec<u8>, rev: u32, stored: u32, node: &Node) -> Result<(
         0xffff_ffff,
         0xffff_ffff,
     ] {
-        into.extend_from_slice(&number.to_be_bytes())?;
+        index.extend_from_slice(&number.to_be_bytes())?;
     }
-    into.extend_from_slice(&node.0)?;
-    into.extend_from_slice(&[0; 12])?;
+    index.extend_from_slice(&node.0)?;
+    index.extend_from_slice(&[0; 12])?;
     Ok(())
 }
 
-/// The store of so many changesets without parents, each with a manifest of its own, which has the file `a` with twenty bytes of its
+/// The two files of a revlog.
+#[derive(Drop)]
+struct RevlogBytes {
+    index: Vec<u8>,
+    chunks: Vec<u8>,
+}
+
+impl RevlogBytes {
+    fn new(alloc: Global) -> RevlogBytes {
+        RevlogBytes {
+            index: Vec::new(alloc),
+            chunks: Vec::new(alloc),
+        }
+    }
+
+    /// Adds a text of `size` bytes without parents, as each before it.
+    fn add(&mut self, rev: u32, size: u32, text: &[u8]) -> Result<Node, Fail> {
+        let root = Node([0; 20]);
+        let node = node_of(&root, &root, text);
+        add_entry(&mut self.index, rev, size.wrapping_add(1), &node)?;
+        self.chunks.push(b'u')?;
+        self.chunks.extend_from_slice(text)?;
+        Ok(node)
+    }
+}
+
+/// The text of a manifest with the file `a`, of a node of twenty bytes that are this one.
+fn manifest_text(alloc: Global, byte: u8) -> Result<Vec<u8>, Fail> {
+    let mut text = Vec::from_slice(alloc, b"a\x00")?;
+    text.extend_from_slice(&hex_of(&Node([byte; 20])))?;
+    text.push(b'\n')?;
+    Ok(text)
+}
+
+/// The text of a changeset with the manifest of this node.
+fn change_text(alloc: Global, manifest: &Node) -> Result<Vec<u8>, Fail> {
+    let mut text = Vec::from_slice(alloc, &hex_of(manifest))?;
+    text.extend_from_slice(b"\ntest\n0 0\na\n\na")?;
+    Ok(text)
+}
+
+/// The store of so many changesets without parents, each with a manifest of its own, in which the file `a` has the byte of its
 /// number and one.
 fn many_changesets(alloc: Global, count: u8) -> Result<MemFiles, Fail> {
-    let root = Node([0; 20]);
-    let mut changes = Vec::new(alloc);
-    let mut change_chunks = Vec::new(alloc);
-    let mut manifests = Vec::new(alloc);
-    let mut manifest_chunks = Vec::new(alloc);
+    let mut changes = RevlogBytes::new(alloc);
+    let mut manifests = RevlogBytes::new(alloc);
     for i in 0..count {
-        let mut manifest = Vec::from_slice(alloc, b"a\x00")?;
-        manifest.extend_from_slice(&hex_of(&Node([i.wrapping_add(1); 20])))?;
-        manifest.push(b'\n')?;
-        let node = node_of(&root, &root, &manifest);
-        add_entry(&mut manifests, i as u32, 44, &node)?;
-        manifest_chunks.push(b'u')?;
-        manifest_chunks.extend_from_slice(&manifest)?;
-        let mut change = Vec::from_slice(alloc, &hex_of(&node))?;
-        change.extend_from_slice(b"\ntest\n0 0\na\n\na")?;
-        add_entry(&mut changes, i as u32, 55, &node_of(&root, &root, &change))?;
-        change_chunks.push(b'u')?;
-        change_chunks.extend_from_slice(&change)?;
+        let manifest = manifest_text(alloc, i.wrapping_add(1))?;
+        let node = manifests.add(i as u32, 43, &manifest)?;
+        changes.add(i as u32, 54, &change_text(alloc, &node)?)?;
     }
     files_with(
         alloc,
         &[
-            (b"store/00changelog.i".as_slice(), changes.as_slice()),
-            (b"store/00changelog.d", &change_chunks),
-            (b"store/00manifest.i", &manifests),
-            (b"store/00manifest.d", &manifest_chunks),
+            (b"store/00changelog.i".as_slice(), changes.index.as_slice()),
+            (b"store/00changelog.d", &changes.chunks),
+            (b"store/00manifest.i", &manifests.index),
+            (b"store/00manifest.d", &manifests.chunks),
         ],
     )
 }
