@@ -1,0 +1,5 @@
+//! Examples of sessions that keep the texts of manifests. There is nothing here but tests.
+#![tactic(auto)]
+
+#[cfg(test)]
+mod recent;
