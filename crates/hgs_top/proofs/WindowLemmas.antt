@@ -15,7 +15,7 @@ use Rattle.hgs_load.specs.View.{View}
 use Rattle.hgs_load.specs.Theorems.PartLemmas.{part_is}
 use Rattle.hgs_reader.specs.Line.{changeset_asks, chunks_path, line_at, line_asks}
 use Rattle.hgs_top.specs.declared.window.Window.{Window}
-use Rattle.hgs_top.specs.Windows.{span_or_none, chunk_span, most_window, back_to, goes_back, back_over, window_of, stands_in, chunk_in, no_window, window_asks, held_asks}
+use Rattle.hgs_top.specs.Windows.{span_or_empty, chunk_span, most_window, back_to, goes_back, back_over, window_of, stands_in, chunk_in, no_window, window_asks, held_asks}
 
 -- ---- lists
 
@@ -52,7 +52,7 @@ next_back chunk window (suc n) h = let e : n ≡ suc n - 1 = omega arith in ap (
 pub back_on : (log : Log) (window : Span) (first : ℕ) (chunk : Span) → 0 < first → option_map (span_in log.inline (first - 1)) (slice_get log.entries (first - 1)) ≡ Some chunk → chunk.from ≤ window.from → window.len + (window.from - chunk.from) ≤ most_window →
     back_over (chunk_span log) (back_to window chunk) (first - 1) ≡ back_over (chunk_span log) window first
 back_on log window first chunk some at low near =
-    let is : chunk_span log (first - 1) ≡ chunk = ap span_or_none at in
+    let is : chunk_span log (first - 1) ≡ chunk = ap span_or_empty at in
     sym (next_back (chunk_span log) window first some ∙ ap (λ c. if goes_back window c then back_over (chunk_span log) (back_to window c) (first - 1) else window) is
     ∙ ap (λ b. if b then back_over (chunk_span log) (back_to window chunk) (first - 1) else window) (both_most chunk.from window.from (back_to window chunk).len most_window low near))
 
@@ -108,10 +108,10 @@ line_in_window t view window rev is c = by (slice_get view.changelog.entries rev
   where
     by : (o : Option Entry) → slice_get view.changelog.entries rev ≡ o → line_at view rev (chunk_in window (chunk_span view.changelog rev)) ≡ at_rest t (line_asks view rev)
     by None e =
-        let place : chunk_span view.changelog rev ≡ record { from = 0; len = 0 } = ap (λ q. span_or_none (option_map (span_in view.changelog.inline rev) q)) e in
+        let place : chunk_span view.changelog rev ≡ record { from = 0; len = 0 } = ap (λ q. span_or_empty (option_map (span_in view.changelog.inline rev) q)) e in
         ap (λ s. line_at view rev (chunk_in window s)) place ∙ sym (none_at_rest view.changelog.inline t rev (line_at view rev)) ∙ ap (λ q. at_rest t (changeset_asks view.changelog.inline rev q (line_at view rev))) (sym e)
     by (Some entry) e =
-        let place : chunk_span view.changelog rev ≡ span_in view.changelog.inline rev entry = ap (λ q. span_or_none (option_map (span_in view.changelog.inline rev) q)) e in
+        let place : chunk_span view.changelog rev ≡ span_in view.changelog.inline rev entry = ap (λ q. span_or_empty (option_map (span_in view.changelog.inline rev) q)) e in
         ap (line_at view rev) (same_chunk t view window (chunk_span view.changelog rev) is c
         ∙ ap (λ (s : Span). take s.len (drop s.from (unwrap_or (t (chunks_path view.changelog.inline)) []))) place)
         ∙ sym (line_at_rest view.changelog.inline t rev entry (line_at view rev)) ∙ ap (λ q. at_rest t (changeset_asks view.changelog.inline rev q (line_at view rev))) (sym e)

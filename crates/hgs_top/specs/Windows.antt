@@ -10,13 +10,13 @@ use Rattle.hgs_load.specs.View.{View}
 use Rattle.hgs_reader.specs.Line.{chunks_path, line_at}
 use Rattle.hgs_top.specs.declared.window.Window.{Window}
 
-abbrev pub span_or_none : Option Span → Span
-span_or_none None = record { from = 0; len = 0 }
-span_or_none (Some span) = span
+abbrev pub span_or_empty : Option Span → Span
+span_or_empty None = record { from = 0; len = 0 }
+span_or_empty (Some span) = span
 
 -- where the chunk of a changeset stands in its file
 abbrev pub chunk_span : Log → ℕ → Span
-chunk_span log rev = span_or_none (option_map (span_in log.inline rev) (slice_get log.entries rev))
+chunk_span log rev = span_or_empty (option_map (span_in log.inline rev) (slice_get log.entries rev))
 
 -- the most bytes of a window with more than one chunk
 abbrev pub most_window : ℕ
