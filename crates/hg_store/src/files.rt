@@ -1,8 +1,10 @@
 //! The files of an operating system, with the counts of what failed.
-ghost use Rattle.std.specs.Prelude.{◌≡◌, Ok, None, true, refl, IfOk, OnErr, IsErr};
+ghost use Rattle.std.specs.Prelude.{◌≡◌, Ok, None, [], true, false, refl, IfOk, OnErr, IsErr};
 ghost use Rattle.hgs_files.specs.Reads.{Counts, counted};
+ghost use Rattle.hgs_files.specs.Ties.{untied};
 
 use crate::folder::Folder;
+use hgs_files::ends::{Follows, Leads, Told};
 use hgs_files::files::{Created, FileFault, Files, Reads};
 use hgs_files::path::StorePath;
 use hgs_mem::tally::Tally;
@@ -23,6 +25,27 @@ impl OsFiles {
             folder: Folder::new(rt, folder)?,
             tally: Tally::new(),
         })
+    }
+
+    /// A reading end over the same folder, with a handle of its own.
+    pub fn reader(&self) -> Result<OsReader, AllocError>
+        ensures { IfOk result (λ r. (r.files.tally.faults ≡ 0) × (r.files.tally.denied ≡ 0)) }
+    {
+        Ok(OsReader {
+            files: OsFiles {
+                folder: self.folder.again()?,
+                tally: Tally::new(),
+            },
+        })
+    }
+
+    /// Adds to the two counts, which stay at their greatest values.
+    pub fn add_counts(&mut self, faults: u64, denied: u64)
+        ensures faults { self.new.tally.faults ≡ counted self.old.tally.faults faults }
+        ensures denied { self.new.tally.denied ≡ counted self.old.tally.denied denied }
+    {
+        self.tally.faults = self.tally.faults.saturating_add(faults);
+        self.tally.denied = self.tally.denied.saturating_add(denied);
     }
 }
 
@@ -52,6 +75,10 @@ impl Reads for OsFiles {
     ghost start = { λ _ _. None };
 
     ghost alone = { true };
+
+    ghost shows = { λ start log. Unit {0} };
+
+    ghost ties = { λ _. untied };
 
     fn read(
         &mut self,
@@ -112,4 +139,82 @@ impl Files for OsFiles {
     fn settle(&mut self) -> Result<(), FileFault> {
         count(&mut self.tally, self.folder.settle())
     }
+}
+
+/// What a writing end over a disk hands over: nothing, since it tells nothing.
+#[derive(Drop)]
+pub struct OsFront;
+
+impl Told for OsFront {
+    ghost home = { λ _. [] };
+
+    ghost log = { λ _. None };
+}
+
+impl Leads for OsFiles {
+    type Front = OsFront;
+
+    fn front(&mut self) -> OsFront {
+        OsFront
+    }
+}
+
+/// The files in one folder, as one who reads them while others may write.
+#[derive(Drop)]
+pub struct OsReader {
+    files: OsFiles,
+}
+
+impl OsReader {
+    /// How often it has failed.
+    pub fn faults_so_far(&self) -> u64
+        ensures { result ≡ self.now.files.tally.faults }
+    {
+        self.files.tally.faults
+    }
+
+    /// How often it found no memory.
+    pub fn denied_so_far(&self) -> u64
+        ensures { result ≡ self.now.files.tally.denied }
+    {
+        self.files.tally.denied
+    }
+}
+
+impl Reads for OsReader {
+    ghost faults = { λ r. r.files.tally.faults };
+
+    ghost denied = { λ r. r.files.tally.denied };
+
+    ghost given = { λ r. r.files.tally.given };
+
+    ghost seen = { λ _. None };
+
+    ghost start = { λ _ _. None };
+
+    ghost alone = { false };
+
+    ghost shows = { λ start log. Unit {0} };
+
+    ghost ties = { λ _. untied };
+
+    fn read(
+        &mut self,
+        path: &StorePath,
+        from: u64,
+        most: u64,
+        into: &mut Vec<u8>,
+    ) -> Result<Option<u64>, FileFault> {
+        self.files.read(path, from, most, into)
+    }
+
+    fn size(&mut self, path: &StorePath) -> Result<Option<u64>, FileFault> {
+        self.files.size(path)
+    }
+}
+
+impl Follows for OsReader {
+    type Front = OsFront;
+
+    fn learn(&mut self, _front: OsFront) {}
 }

@@ -88,6 +88,11 @@ impl Folder {
         })
     }
 
+    /// The same folder, in which nothing was changed yet.
+    pub fn again(&self) -> Result<Folder, AllocError> {
+        Folder::new(self.rt, &self.name)
+    }
+
     // The name of a file. std names files by text, and the names in a store are ASCII: other bytes are refused.
     fn name_of(&self, path: &StorePath) -> io::Result<String> {
         match str::from_utf8(path.bytes()) {

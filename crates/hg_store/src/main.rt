@@ -82,7 +82,7 @@ fn answer<T: Threads + Sync, K: Sink>(
     match read_words(rt)? {
         Words::All(words) => {
             make_store(rt, &words);
-            let yard = OsYard::new(OsFiles::new(*rt, ".hg")?);
+            let yard = OsYard::new(rt.alloc(), OsFiles::new(*rt, ".hg")?);
             let mut input = OsSource::new(rt.stdin());
             let mut progress = OsProgress::new(*rt);
             let ran = run(

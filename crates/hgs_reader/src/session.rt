@@ -144,8 +144,8 @@ impl Session {
         )
     }
 
-    // The file in which the chunks of the changesets stand.
-    fn chunks(&self) -> &StorePath
+    /// The file in which the chunks of the changesets stand.
+    pub fn chunks(&self) -> &StorePath
         ensures { result.now ≡ chunks_path self.now.changelog.inline }
     {
         if self.loaded.changelog().is_inline() {
@@ -172,8 +172,8 @@ impl Session {
         }
     }
 
-    // The line of a changeset whose chunk was read.
-    fn line_from(&self, rev: u32, chunk: &[u8]) -> Result<Vec<u8>, ReadAnswer>
+    /// The line that `log` writes of a changeset whose chunk was read.
+    pub fn line_from(&self, rev: u32, chunk: &[u8]) -> Result<Vec<u8>, ReadAnswer>
         requires stands { rev < length self.now.changelog.entries }
         requires within { IfSome (slice_get self.now.changelog.entries rev) (λ e. length chunk.now ≤ e.stored) }
         ensures line { Gives is_of_outside (λ line. line.items) result (line_at self.now rev chunk.now) }

@@ -11,10 +11,12 @@ use Rattle.hgs_load.specs.Given.{Gave, GaveRefused, TakesText}
 use Rattle.hgs_load.specs.Open.{open_asks}
 use Rattle.hgs_load.specs.View.{View}
 use Rattle.hgs_load.specs.Theorems.GivenLemmas.{gave-none, gave-then, gave-both}
-use Rattle.hgs_reader.specs.Line.{line_asks}
+use Rattle.hgs_reader.specs.Line.{line_at}
 use Rattle.hgs_reader.specs.Names.{named}
-use Rattle.hgs_top.specs.Given.{lines_reads, reads_of_rev, contents_reads, ReadsOnly}
+use Rattle.hgs_top.specs.Given.{reads_of_rev, contents_reads, ReadsOnly}
+use Rattle.hgs_top.specs.declared.window.Window.{Window}
 use Rattle.hgs_top.specs.Outcome.{Subject, contents_asks}
+use Rattle.hgs_top.specs.Windows.{behind_line, chunk_in, chunk_span, held_asks, lines_behind}
 
 -- a refusal left something of the question
 abbrev left_of : {B : Type 0} → ℕ → ℕ → Option (List Op) → Tree → Option (List Op) → Asks (Result B ReadAnswer) → Type 0
@@ -59,23 +61,30 @@ contents-only g0 g1 g2 before now next start start_now view name subject rev old
 none : 0 < 0 → ⊥
 none h = omega (arith, h)
 
-module _ (g0 g1 g2 : ℕ) (before now next : Option (List Op)) (start start_now : Tree) (whole : Asks (Result Unit ReadAnswer)) (view session : View) (same : session ≡ view) (begun : start_now ≡ start) (old new : List ℕ) where
-  pub line-on : (left : ℕ) (u : Unit) → 0 < left → Gave g0 g1 before start now whole (lines_reads view left) → TakesText g1 g2 now start_now next (line_asks session (left - 1)) old new (Ok u) → Gave g0 g2 before start next whole (lines_reads view (left - 1))
-  line-on zero u some gave h = absurd (none some)
-  line-on (suc left) u some gave h =
+module _ (g0 g1 g2 : ℕ) (before now next : Option (List Op)) (start start_now : Tree) (whole : Asks (Result Unit ReadAnswer)) (view : View) (window : Window) (begun : start_now ≡ start) where
+  -- the window of the next line is there
+  pub held-on : (left : ℕ) (held : Window) → 0 < left → Gave g0 g1 before start now whole (lines_behind view window left) → Gave g1 g2 now start_now next (held_asks view window (left - 1)) (answer (Ok held))
+      → Gave g0 g2 before start next whole (behind_line (line_at view (left - 1) (chunk_in held (chunk_span view.changelog (left - 1)))) (lines_behind view held (left - 1)))
+  held-on zero held some gave h = absurd (none some)
+  held-on (suc left) held some gave h =
       let less : suc left - 1 ≡ left = omega arith in
-      let V : View → Type 0 = λ v. TakesText g1 g2 now start_now next (line_asks v (suc left - 1)) old new (Ok u) in
-      let N : ℕ → Type 0 = λ n. TakesText g1 g2 now start_now next (line_asks view n) old new (Ok u) in
-      let asked = subst N less (subst V same h) in
-      let Q : ℕ → Type 0 = λ n. Gave g0 g2 before start next whole (lines_reads view n) in
+      let N : ℕ → Type 0 = λ n. Gave g1 g2 now start_now next (held_asks view window n) (answer (Ok held)) in
+      let more : Window → Asks (Result Unit ReadAnswer) = λ w. behind_line (line_at view left (chunk_in w (chunk_span view.changelog left))) (lines_behind view w left) in
+      let Q : ℕ → Type 0 = λ n. Gave g0 g2 before start next whole (behind_line (line_at view n (chunk_in held (chunk_span view.changelog n))) (lines_behind view held n)) in
       subst Q (sym less)
-      (gave-both g0 g1 g2 before now next start start_now whole (lines_reads view (suc left)) (lines_reads view left) begun gave (gave-then g1 g2 now next start_now (line_asks view left) (answer (Ok asked.0)) (λ line. lines_reads view left) asked.2))
+      (gave-both g0 g1 g2 before now next start start_now whole (lines_behind view window (suc left)) (more held) begun gave (gave-then g1 g2 now next start_now (held_asks view window left) (answer (Ok held)) more (subst N less h)))
 
-  pub line-refused : (left : ℕ) (e : ReadAnswer) → 0 < left → Gave g0 g1 before start now whole (lines_reads view left) → TakesText g1 g2 now start_now next (line_asks session (left - 1)) old new (Err e) → ReadsOnly g0 g2 before start next whole
-  line-refused zero e some gave h = absurd (none some)
-  line-refused (suc left) e some gave h =
+  pub held-refused : (left : ℕ) (e : ReadAnswer) → 0 < left → Gave g0 g1 before start now whole (lines_behind view window left) → GaveRefused g1 g2 now start_now next (held_asks view window (left - 1)) e → ReadsOnly g0 g2 before start next whole
+  held-refused zero e some gave h = absurd (none some)
+  held-refused (suc left) e some gave h =
       let less : suc left - 1 ≡ left = omega arith in
-      let V : View → Type 0 = λ v. TakesText g1 g2 now start_now next (line_asks v (suc left - 1)) old new (Err e) in
-      let N : ℕ → Type 0 = λ n. TakesText g1 g2 now start_now next (line_asks view n) old new (Err e) in
-      let l = only-refused g1 g2 now next start_now (line_asks view left) (λ line. lines_reads view left) e (subst N less (subst V same h)) in
-      (l.0, gave-both g0 g1 g2 before now next start start_now whole (lines_reads view (suc left)) l.0 begun gave l.1)
+      let N : ℕ → Type 0 = λ n. GaveRefused g1 g2 now start_now next (held_asks view window n) e in
+      let more : Window → Asks (Result Unit ReadAnswer) = λ w. behind_line (line_at view left (chunk_in w (chunk_span view.changelog left))) (lines_behind view w left) in
+      let l = only-refused g1 g2 now next start_now (held_asks view window left) more e (subst N less h) in
+      (l.0, gave-both g0 g1 g2 before now next start start_now whole (lines_behind view window (suc left)) l.0 begun gave l.1)
+
+-- the line was made
+pub line-on : (g0 g1 : ℕ) (before after : Option (List Op)) (start : Tree) (whole rest : Asks (Result Unit ReadAnswer)) (line : Result (List ℕ) ReadAnswer) (text : List ℕ) → line ≡ Ok text → Gave g0 g1 before start after whole (behind_line line rest) → Gave g0 g1 before start after whole rest
+line-on g0 g1 before after start whole rest line text is gave =
+    let P : Result (List ℕ) ReadAnswer → Type 0 = λ r. Gave g0 g1 before start after whole (behind_line r rest) in
+    subst P is gave

@@ -18,4 +18,5 @@ pub mod ReplyLemmas
 pub mod RepositoryLemmas
 pub mod ValidLemmas
 pub mod VerifiedLemmas
+pub mod WindowLemmas
 pub mod Written

@@ -8,16 +8,19 @@ use Rattle.hgs_files.specs.Streams.{IsWritten}
 use Rattle.hgs_files.specs.Tree.{Tree, after_all}
 use Rattle.hgs_load.specs.declared.answer.ReadAnswer.{ReadAnswer}
 use Rattle.hgs_load.specs.Answer.{is_of_outside}
-use Rattle.hgs_load.specs.Asks.{at_rest, Answers, AddsAnswer}
-use Rattle.hgs_reader.specs.Line.{line_asks}
+use Rattle.hgs_load.specs.Asks.{at_rest, AddsGiven, Answers}
+use Rattle.hgs_reader.specs.Line.{line_asks, line_at}
 use Rattle.hgs_load.specs.View.{View}
 use Rattle.hgs_load.specs.Open.{open_asks}
 use Rattle.hgs_load.specs.Theorems.AskLemmas.{either}
-use Rattle.hgs_load.specs.Theorems.RestLemmas.{answers_at_rest, refused_at_rest, adds_at_rest, adds_refused_at_rest}
+use Rattle.hgs_load.specs.Theorems.RestLemmas.{answers_at_rest, refused_at_rest}
 use Rattle.hgs_top.specs.declared.stopped.Stopped.{Stopped}
 use Rattle.hgs_top.specs.declared.stopped.Stopped.TheVariants.{Refused, Unwritten}
+use Rattle.hgs_top.specs.declared.window.Window.{Window}
 use Rattle.hgs_top.specs.Outcome.{Outcome, refused, line_then, lines_down, lines_of_view, log_of_view, log_outcome}
 use Rattle.hgs_top.specs.Run.{OfTree, IsTold, IsFrontWritten, IsCut, IsGathered, IsUnwritten, StopsAt}
+use Rattle.hgs_top.specs.Windows.{chunk_in, chunk_span, held_asks}
+use Rattle.hgs_top.proofs.WindowLemmas.{IsOf, held_at_rest, held_is_found}
 use Rattle.hgs_top.proofs.Written.{adds_on, cut_on, nothing}
 
 -- of the view's lines so many are left; those before were written or gathered
@@ -88,47 +91,6 @@ half_unwritten t view left old mid new g0 g1 text pos h line g f =
 
 -- ---- where the log is told
 
-module _ (seen0 seen1 seen2 : Option (List Op)) (start0 start1 : Tree) (view view1 : View) (left : ℕ) (old mid : Option (List ℕ)) (g0 g1 : List ℕ) (pos : 0 < left) (s1 : seen1 ≡ seen0) (s2 : seen2 ≡ seen1) (st : start1 ≡ start0) (v : view1 ≡ view) where
-  here : (r : Result Unit ReadAnswer) → AddsAnswer seen1 start1 seen2 (line_asks view1 (left - 1)) g0 g1 r → AddsAnswer seen0 start0 seen2 (line_asks view (left - 1)) g0 g1 r
-  here r a =
-      let P : Option (List Op) → Type 0 = λ o. AddsAnswer o start1 seen2 (line_asks view1 (left - 1)) g0 g1 r in
-      let Q : Tree → Type 0 = λ t. AddsAnswer seen0 t seen2 (line_asks view1 (left - 1)) g0 g1 r in
-      let V : View → Type 0 = λ w. AddsAnswer seen0 start0 seen2 (line_asks w (left - 1)) g0 g1 r in
-      subst V v (subst Q st (subst P s1 a))
-
-  pub refused_told : (e : ReadAnswer) → OfTree seen0 start0 (λ t. IsHalfWay t view left old mid g0) → AddsAnswer seen1 start1 seen2 (line_asks view1 (left - 1)) g0 g1 (Err e) →
-      OfTree seen0 start0 (λ t. IsGathered (lines_of_view t view) old mid g1 (Err (Refused e)))
-  refused_told e h a = refused_by seen0 refl h (here (Err e) a)
-    where
-      refused_by : (seen : Option (List Op)) → seen ≡ seen0 → OfTree seen start0 (λ t. IsHalfWay t view left old mid g0) → AddsAnswer seen0 start0 seen2 (line_asks view (left - 1)) g0 g1 (Err e) →
-          OfTree seen start0 (λ t. IsGathered (lines_of_view t view) old mid g1 (Err (Refused e)))
-      refused_by None q h b = tt
-      refused_by (Some l) q h b =
-          let k = adds_refused_at_rest seen0 seen2 l start0 (line_asks view (left - 1)) g0 g1 e (sym q) (s2 ∙ s1) b in
-          half_refused (after_all l start0) view left old mid g0 g1 e pos h k.0 k.1
-
-  pub next_told : (new : Option (List ℕ)) (g2 : List ℕ) (u : Unit) → OfTree seen0 start0 (λ t. IsHalfWay t view left old mid g0) → AddsAnswer seen1 start1 seen2 (line_asks view1 (left - 1)) g0 g1 (Ok u) →
-      (d : List ℕ) × IsWritten mid new d × (d ++ g2 ≡ g1) → OfTree seen0 start0 (λ t. IsHalfWay t view (left - 1) old new g2)
-  next_told new g2 u h a w = next_by seen0 refl h (here (Ok u) a)
-    where
-      next_by : (seen : Option (List Op)) → seen ≡ seen0 → OfTree seen start0 (λ t. IsHalfWay t view left old mid g0) → AddsAnswer seen0 start0 seen2 (line_asks view (left - 1)) g0 g1 (Ok u) →
-          OfTree seen start0 (λ t. IsHalfWay t view (left - 1) old new g2)
-      next_by None q h b = tt
-      next_by (Some l) q h b =
-          let k = adds_at_rest seen0 seen2 l start0 (line_asks view (left - 1)) g0 g1 u (sym q) (s2 ∙ s1) b in
-          half_on (after_all l start0) view left old mid new g0 g1 g2 k.0 pos h k.2 k.1 w
-
-  pub unwritten_told : (new : Option (List ℕ)) (u : Unit) → OfTree seen0 start0 (λ t. IsHalfWay t view left old mid g0) → AddsAnswer seen1 start1 seen2 (line_asks view1 (left - 1)) g0 g1 (Ok u) →
-      IsCut mid new g1 → OfTree seen0 start0 (λ t. IsCut old new (lines_of_view t view).text)
-  unwritten_told new u h a w = unwritten_by seen0 refl h (here (Ok u) a)
-    where
-      unwritten_by : (seen : Option (List Op)) → seen ≡ seen0 → OfTree seen start0 (λ t. IsHalfWay t view left old mid g0) → AddsAnswer seen0 start0 seen2 (line_asks view (left - 1)) g0 g1 (Ok u) →
-          OfTree seen start0 (λ t. IsCut old new (lines_of_view t view).text)
-      unwritten_by None q h b = tt
-      unwritten_by (Some l) q h b =
-          let k = adds_at_rest seen0 seen2 l start0 (line_asks view (left - 1)) g0 g1 u (sym q) (s2 ∙ s1) b in
-          half_unwritten (after_all l start0) view left old mid new g0 g1 k.0 pos h k.2 k.1 w
-
 pub of_each : (seen : Option (List Op)) (start : Tree) (P Q : Tree → Type 0) → ((t : Tree) → P t → Q t) → OfTree seen start P → OfTree seen start Q
 of_each None start P Q f h = tt
 of_each (Some l) start P Q f h = f (after_all l start) h
@@ -136,6 +98,51 @@ of_each (Some l) start P Q f h = f (after_all l start) h
 pub of_all : (seen : Option (List Op)) (start : Tree) (P : Tree → Type 0) → ((t : Tree) → P t) → OfTree seen start P
 of_all None start P f = tt
 of_all (Some l) start P f = f (after_all l start)
+
+-- the window holds the chunk of the next line, which is that of the files
+abbrev pub HasLine : Tree → View → ℕ → Option (List ℕ) → Option (List ℕ) → List ℕ → Window → Type 0
+HasLine t view left old new gathered window =
+    IsHalfWay t view left old new gathered × IsOf t view window × (line_at view (left - 1) (chunk_in window (chunk_span view.changelog (left - 1))) ≡ at_rest t (line_asks view (left - 1)))
+
+module _ (seen0 seen1 seen2 : Option (List Op)) (start0 start1 : Tree) (view : View) (left : ℕ) (old mid : Option (List ℕ)) (g : List ℕ) (window : Window) (s1 : seen1 ≡ seen0) (s2 : seen2 ≡ seen1) (st : start1 ≡ start0) where
+  here : (r : Result Window ReadAnswer) → Answers (λ (w : Window). w) seen1 start1 seen2 (held_asks view window (left - 1)) r → Answers (λ (w : Window). w) seen0 start0 seen2 (held_asks view window (left - 1)) r
+  here r a =
+      let P : Option (List Op) → Type 0 = λ o. Answers (λ (w : Window). w) o start1 seen2 (held_asks view window (left - 1)) r in
+      let Q : Tree → Type 0 = λ t. Answers (λ (w : Window). w) seen0 t seen2 (held_asks view window (left - 1)) r in
+      subst Q st (subst P s1 a)
+
+  pub held_told : (next : Window) → OfTree seen0 start0 (λ t. IsHalfWay t view left old mid g × IsOf t view window) → Answers (λ (w : Window). w) seen1 start1 seen2 (held_asks view window (left - 1)) (Ok next) → OfTree seen0 start0 (λ t. HasLine t view left old mid g next)
+  held_told next h a = by seen0 refl h (here (Ok next) a)
+    where
+      by : (seen : Option (List Op)) → seen ≡ seen0 → OfTree seen start0 (λ t. IsHalfWay t view left old mid g × IsOf t view window) → Answers (λ (w : Window). w) seen0 start0 seen2 (held_asks view window (left - 1)) (Ok next) → OfTree seen start0 (λ t. HasLine t view left old mid g next)
+      by None q h b = tt
+      by (Some l) q h b =
+          let found = answers_at_rest (λ (w : Window). w) seen0 seen2 l start0 (held_asks view window (left - 1)) next (sym q) (s2 ∙ s1) b in
+          let k = held_at_rest (after_all l start0) view window next (left - 1) h.1 found in
+          (h.0, k.0, k.1)
+
+  pub unheld_told : (e : ReadAnswer) → 0 < left → OfTree seen0 start0 (λ t. IsHalfWay t view left old mid g × IsOf t view window) → Answers (λ (w : Window). w) seen1 start1 seen2 (held_asks view window (left - 1)) (Err e) → OfTree seen0 start0 (λ t. IsGathered (lines_of_view t view) old mid g (Err (Refused e)))
+  unheld_told e pos h a = by seen0 refl h (here (Err e) a)
+    where
+      by : (seen : Option (List Op)) → seen ≡ seen0 → OfTree seen start0 (λ t. IsHalfWay t view left old mid g × IsOf t view window) → Answers (λ (w : Window). w) seen0 start0 seen2 (held_asks view window (left - 1)) (Err e) → OfTree seen start0 (λ t. IsGathered (lines_of_view t view) old mid g (Err (Refused e)))
+      by None q h b = tt
+      by (Some l) q h b =
+          let t = after_all l start0 in
+          half_refused t view left old mid g g e pos h.0 refl
+          (either (is_of_outside e) _ _ (λ m. absurd (held_is_found t view window (left - 1) e m)) (refused_at_rest (λ (w : Window). w) seen0 seen2 l start0 (held_asks view window (left - 1)) e (sym q) (s2 ∙ s1) b))
+
+module _ (seen : Option (List Op)) (start : Tree) (view : View) (left : ℕ) (old mid : Option (List ℕ)) (g0 g1 : List ℕ) (window : Window) (pos : 0 < left) (h : OfTree seen start (λ t. HasLine t view left old mid g0 window)) where
+  abbrev line : Result (List ℕ) ReadAnswer
+  line = line_at view (left - 1) (chunk_in window (chunk_span view.changelog (left - 1)))
+
+  pub refused_told : (e : ReadAnswer) → AddsGiven line g0 g1 (Err e) → OfTree seen start (λ t. IsGathered (lines_of_view t view) old mid g1 (Err (Refused e)))
+  refused_told e a = of_each seen start (λ t. HasLine t view left old mid g0 window) (λ t. IsGathered (lines_of_view t view) old mid g1 (Err (Refused e))) (λ t k. half_refused t view left old mid g0 g1 e pos k.0 a.0 (either (is_of_outside e) _ _ (λ m. sym k.2 ∙ m) a.1)) h
+
+  pub next_told : (new : Option (List ℕ)) (g2 : List ℕ) (u : Unit) → AddsGiven line g0 g1 (Ok u) → (d : List ℕ) × IsWritten mid new d × (d ++ g2 ≡ g1) → OfTree seen start (λ t. IsHalfWay t view (left - 1) old new g2 × IsOf t view window)
+  next_told new g2 u a w = of_each seen start (λ t. HasLine t view left old mid g0 window) (λ t. IsHalfWay t view (left - 1) old new g2 × IsOf t view window) (λ t k. (half_on t view left old mid new g0 g1 g2 a.0 pos k.0 (sym k.2 ∙ a.2) a.1 w, k.1)) h
+
+  pub unwritten_told : (new : Option (List ℕ)) (u : Unit) → AddsGiven line g0 g1 (Ok u) → IsCut mid new g1 → OfTree seen start (λ t. IsCut old new (lines_of_view t view).text)
+  unwritten_told new u a w = of_each seen start (λ t. HasLine t view left old mid g0 window) (λ t. IsCut old new (lines_of_view t view).text) (λ t k. half_unwritten t view left old mid new g0 g1 a.0 pos k.0 (sym k.2 ∙ a.2) a.1 w) h
 
 -- ---- the whole of `log`
 

@@ -1,5 +1,5 @@
 -- What a question reads of the files.
-use Rattle.std.specs.Prelude.{◌≡◌, ℕ, zero, suc, List, length, Option, Some, None, Result, Ok, Err, ⊤}
+use Rattle.std.specs.Prelude.{◌≡◌, ℕ, List, length, Option, Some, None, Result, Ok, Err, ⊤}
 use Rattle.hgs_files.specs.declared.op.Op.{Op}
 use Rattle.hgs_files.specs.Tree.{Tree}
 use Rattle.hgs_load.specs.declared.answer.ReadAnswer.{ReadAnswer}
@@ -7,15 +7,10 @@ use Rattle.hgs_load.specs.Asks.{Asks, answer, then_asks}
 use Rattle.hgs_load.specs.Given.{Gave}
 use Rattle.hgs_load.specs.Open.{open_asks}
 use Rattle.hgs_load.specs.View.{View}
-use Rattle.hgs_reader.specs.Line.{line_asks}
 use Rattle.hgs_reader.specs.Names.{named}
 use Rattle.hgs_top.specs.Outcome.{Subject, its_files, its_file, its_phase, contents_asks}
+use Rattle.hgs_top.specs.Windows.{lines_reads}
 use Rattle.hgs_top.specs.Words.{Question, ask_page, ask_log, ask_heads, ask_bookmarks, ask_parents, ask_files, ask_cat, ask_phase, Request, to_answer, to_do, to_play, to_verify, to_generate}
-
--- the lines of so many changesets, newest first
-abbrev pub lines_reads : View → ℕ → Asks (Result Unit ReadAnswer)
-lines_reads view zero = answer (Ok tt)
-lines_reads view (suc n) = then_asks (line_asks view n) (λ line. lines_reads view n)
 
 abbrev pub log_reads : Asks (Result Unit ReadAnswer)
 log_reads = then_asks open_asks (λ view. lines_reads view (length view.changelog.entries))

@@ -9,4 +9,5 @@ pub mod Pages
 pub mod Repository
 pub mod Run
 pub mod Verified
+pub mod Windows
 pub mod Words

@@ -20,4 +20,5 @@ pub mod run;
 pub mod stopped;
 pub mod told;
 pub mod verified;
+mod window;
 pub mod words;

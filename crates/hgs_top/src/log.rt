@@ -4,12 +4,14 @@ ghost use Rattle.hgs_files.specs.Streams.{IsWritten};
 ghost use Rattle.hgs_files.specs.Reads.{Grows, Rose};
 ghost use Rattle.hgs_files.specs.declared.streams.IoFault.TheVariants.{Failed};
 ghost use Rattle.hgs_load.specs.declared.answer.ReadAnswer.TheVariants.{Fault};
-ghost use Rattle.hgs_top.specs.Given.{lines_reads, log_reads, ReadsOnly};
+ghost use Rattle.hgs_top.specs.Given.{log_reads, ReadsOnly};
 ghost use Rattle.hgs_top.specs.Outcome.{log_outcome, lines_of_view};
 ghost use Rattle.hgs_top.specs.Run.{OfTree, IsTold, IsCut, IsGathered, IsUnwritten, StopsAt};
+ghost use Rattle.hgs_top.specs.Windows.{lines_reads};
 
 use crate::output::write_all;
 use crate::stopped::Stopped;
+use crate::window::Window;
 use hgs_files::files::Reads;
 use hgs_files::streams::{IoFault, Sink};
 use hgs_load::answer::ReadAnswer;
@@ -40,14 +42,15 @@ fn write_large<K: Sink>(out: &mut K, gathered: &mut Vec<u8>) -> Result<(), IoFau
 
 // Gathers the lines of the changesets, newest first, and writes them where many stand together.
 fn gather_lines<R: Reads, K: Sink>(
-    session: &mut Session,
+    alloc: Global,
+    session: &Session,
     files: &mut R,
     out: &mut K,
     gathered: &mut Vec<u8>,
 ) -> Result<(), Stopped>
     requires { gathered.old.items ≡ [] }
-    ensures gathered { R.alone ≡ true → OfTree (R.seen files.old) (R.start files.old) (λ t. IsGathered (lines_of_view t session.old) (K.written out.old) (K.written out.new) gathered.new.items result) }
-    ensures given { ReadsOnly (R.given files.old) (R.given files.new) (R.seen files.old) (R.start files.old) (R.seen files.new) (lines_reads session.old (length session.old.changelog.entries)) }
+    ensures gathered { R.alone ≡ true → OfTree (R.seen files.old) (R.start files.old) (λ t. IsGathered (lines_of_view t session.now) (K.written out.old) (K.written out.new) gathered.new.items result) }
+    ensures given { ReadsOnly (R.given files.old) (R.given files.new) (R.seen files.old) (R.start files.old) (R.seen files.new) (lines_reads session.now (length session.now.changelog.entries)) }
     ensures seen { Grows (R.seen files.old) (R.seen files.new) }
     ensures same_start { R.start files.new ≡ R.start files.old }
     ensures still { R.alone ≡ true → R.seen files.new ≡ R.seen files.old }
@@ -56,10 +59,15 @@ fn gather_lines<R: Reads, K: Sink>(
     ensures later_sink { K.faults out.old ≤ K.faults out.new }
     ensures failed { result ≡ Err (Stopped.Unwritten Failed) → Rose (K.faults out.old) (K.faults out.new) }
 {
+    let mut window = Window::empty();
     let mut left = session.len();
     while left > 0 {
         left -= 1;
-        match session.log_line(files, left, gathered) {
+        window = match window.hold(alloc, session, files, left) {
+            Ok(window) => window,
+            Err(refusal) => return Err(Stopped::Refused(refusal)),
+        };
+        match window.add_line(session, left, gathered) {
             Ok(()) => {}
             Err(refusal) => return Err(Stopped::Refused(refusal)),
         }
@@ -113,12 +121,12 @@ pub fn write_log<R: Reads, K: Sink>(
     ensures later_sink { K.faults out.old ≤ K.faults out.new }
     ensures failed { result ≡ Err (Stopped.Unwritten Failed) → Rose (K.faults out.old) (K.faults out.new) }
 {
-    let mut session = match Session::open(alloc, files) {
+    let session = match Session::open(alloc, files) {
         Ok(session) => session,
         Err(refusal) => return Err(Stopped::Refused(refusal)),
     };
     let mut gathered: Vec<u8> = Vec::new(alloc);
-    match gather_lines(&mut session, files, out, &mut gathered) {
+    match gather_lines(alloc, &session, files, out, &mut gathered) {
         Ok(()) => write_last(out, &gathered),
         Err(Stopped::Refused(refusal)) => write_before(out, &gathered, refusal),
         Err(Stopped::Unwritten(fault)) => Err(Stopped::Unwritten(fault)),

@@ -1,17 +1,17 @@
 use Rattle.std.proofs.Common.{◌≡◌, ◌≤◌, length, true}
 use Rattle.hgs_files.specs.Reads.{Grows}
 use Rattle.hgs_load.specs.Given.{Gave}
-use Rattle.hgs_top.specs.Given.{lines_reads}
 use Rattle.hgs_top.specs.Run.{OfTree}
+use Rattle.hgs_top.specs.Windows.{lines_behind, lines_reads}
 use Rattle.hgs_top.proofs.LogLemmas.{IsHalfWay}
+use Rattle.hgs_top.proofs.WindowLemmas.{IsOf}
 use Rattle.hgs_top.proofs.log.gather_lines.Given as goal
 
 abbrev pub invariant-loop-left : goal.invariant-loop-left
 invariant-loop-left g l = record {
-  told : g.R.Reads.alone ≡ true → OfTree (g.R.Reads.seen l.fn.files) (g.R.Reads.start l.fn.files) (λ t. IsHalfWay t l.fn.session l.left (g.K.Sink.written l.fn.out) (g.K.Sink.written l.out) l.gathered.items);
-  gave : Gave (g.R.Reads.given l.fn.files) (g.R.Reads.given l.files) (g.R.Reads.seen l.fn.files) (g.R.Reads.start l.fn.files) (g.R.Reads.seen l.files) (lines_reads l.fn.session (length l.fn.session.changelog.entries)) (lines_reads l.fn.session l.left);
+  told : g.R.Reads.alone ≡ true → OfTree (g.R.Reads.seen l.fn.files) (g.R.Reads.start l.fn.files) (λ t. IsHalfWay t l.fn.session l.left (g.K.Sink.written l.fn.out) (g.K.Sink.written l.out) l.gathered.items × IsOf t l.fn.session l.window);
+  gave : Gave (g.R.Reads.given l.fn.files) (g.R.Reads.given l.files) (g.R.Reads.seen l.fn.files) (g.R.Reads.start l.fn.files) (g.R.Reads.seen l.files) (lines_reads l.fn.session (length l.fn.session.changelog.entries)) (lines_behind l.fn.session l.window l.left);
   within : l.left ≤ length l.fn.session.changelog.entries;
-  same_session : l.session ≡ l.fn.session;
   grown : Grows (g.R.Reads.seen l.fn.files) (g.R.Reads.seen l.files);
   same_start : g.R.Reads.start l.files ≡ g.R.Reads.start l.fn.files;
   still : g.R.Reads.alone ≡ true → g.R.Reads.seen l.files ≡ g.R.Reads.seen l.fn.files;

@@ -9,7 +9,7 @@ use Rattle.hgs_top.specs.Outcome.{lines_of_view, log_of_view}
 use Rattle.hgs_top.specs.Run.{OfTree, IsTold, IsCut, IsGathered, IsUnwritten, StopsAt}
 use Rattle.hgs_load.specs.Open.{open_asks}
 use Rattle.hgs_load.specs.View.{View}
-use Rattle.hgs_top.specs.Given.{lines_reads}
+use Rattle.hgs_top.specs.Windows.{lines_reads}
 use Rattle.hgs_top.proofs.GivenLemmas.{only-refused, only-behind}
 use Rattle.hgs_top.proofs.LogLemmas.{opened, unopened, last_told, before_told, of_each}
 use Rattle.hgs_top.proofs.log.write_log.Goals as goal
