@@ -1,6 +1,10 @@
 //! The place of a repository on the disk.
-ghost use Rattle.std.specs.Prelude.{◌≡◌, ◌≤◌, All, IfOk, vec_len};
-ghost use Rattle.hgs_files.specs.Ends.{total_of};
+ghost use Rattle.std.specs.Prelude.{◌≡◌, All, IfErr, IfOk, None, vec_len};
+ghost use Rattle.std.specs.List.{AllZip};
+ghost use Rattle.hgs_files.specs.Ends.{EndsWithin, Follow, total_of};
+ghost use Rattle.hgs_files.specs.Reads.{counted};
+ghost use Rattle.hgs_files.specs.Ties.{untied};
+ghost use Rattle.hg_store.specs.Disk.{untold};
 
 use crate::files::{OsFiles, OsFront, OsReader};
 use hgs_files::ends::{Follows, Leads, Told};
@@ -34,18 +38,24 @@ fn readers_over(alloc: Global, files: &OsFiles, n: u32) -> Result<Vec<OsReader>,
     Ok(readers)
 }
 
-// The counts of reading ends together.
-fn totals(readers: &[OsReader]) -> (u64, u64)
-    ensures faults { result.0 ≡ total_of (λ r. r.files.tally.faults) readers.now }
-    ensures denied { result.1 ≡ total_of (λ r. r.files.tally.denied) readers.now }
+// How often reading ends failed together.
+fn faults_of(readers: &[OsReader]) -> u64
+    ensures { result ≡ total_of (λ r. r.files.tally.faults) readers.now }
 {
-    let mut faults: u64 = 0;
-    let mut denied: u64 = 0;
-    for reader in readers {
-        faults = faults.saturating_add(reader.faults_so_far());
-        denied = denied.saturating_add(reader.denied_so_far());
-    }
-    (faults, denied)
+    readers.iter().fold(
+        0,
+        |sum: u64, reader| sum.saturating_add(reader.faults_so_far()),
+    )
+}
+
+// How often they found no memory together.
+fn denied_of(readers: &[OsReader]) -> u64
+    ensures { result ≡ total_of (λ r. r.files.tally.denied) readers.now }
+{
+    readers.iter().fold(
+        0,
+        |sum: u64, reader| sum.saturating_add(reader.denied_so_far()),
+    )
 }
 
 impl Yard for OsYard {
@@ -79,10 +89,18 @@ impl Yard for OsYard {
         }
     }
 
-    fn finish(w: OsFiles, rs: Vec<OsReader>) -> Result<OsYard, (OsFiles, Vec<OsReader>)> {
+    fn finish(w: OsFiles, rs: Vec<OsReader>) -> Result<OsYard, (OsFiles, Vec<OsReader>)>
+        requires { All (λ r. untied.home ≡ untied.home) rs.items }
+        ensures log { IfOk result (λ yard. Follow untied untold untold (λ path. None)) }
+        ensures readers { IfOk result (λ yard. All (λ r. EndsWithin untold untold untied.told) rs.items) }
+        ensures faults { IfOk result (λ yard. yard.files.tally.faults ≡ counted w.tally.faults (total_of (λ r. r.files.tally.faults) rs.items)) }
+        ensures denied { IfOk result (λ yard. yard.files.tally.denied ≡ counted w.tally.denied (total_of (λ r. r.files.tally.denied) rs.items)) }
+        ensures same { IfErr result (λ ends. (untold ≡ untold) × (untied ≡ untied)) }
+        ensures same_readers { IfErr result (λ ends. AllZip (λ r s. (untied ≡ untied) × (untold ≡ untold)) rs.items ends.1.items) }
+        ensures same_home { IfErr result (λ ends. All (λ r. untied.home ≡ untied.home) ends.1.items) }
+    {
         let mut files = w;
-        let (faults, denied) = totals(&rs);
-        files.add_counts(faults, denied);
+        files.add_counts(faults_of(&rs), denied_of(&rs));
         Ok(OsYard {
             alloc: *rs.allocator(),
             files,

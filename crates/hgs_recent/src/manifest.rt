@@ -5,6 +5,7 @@ ghost use Rattle.hgs_files.specs.Reads.{Grows};
 ghost use Rattle.hgs_index.specs.Manifest.{read_manifest};
 ghost use Rattle.hgs_load.specs.Answer.{is_of_outside, HasFaultCause, NeverFaults};
 ghost use Rattle.hgs_load.specs.Asks.{answer, then_asks, Answers};
+ghost use Rattle.hgs_load.specs.Beyond.{IsShown};
 ghost use Rattle.hgs_load.specs.Given.{Takes};
 ghost use Rattle.hgs_reader.specs.Contents.{manifest_index, manifest_data, rows_answer};
 ghost use Rattle.hgs_reader.specs.Find.{text_asks};
@@ -44,6 +45,8 @@ fn manifest_read<R: Reads>(
     ensures seen { Grows (R.seen files.old) (R.seen files.new) }
     ensures same_start { R.start files.new ≡ R.start files.old }
     ensures still { R.alone ≡ true → R.seen files.new ≡ R.seen files.old }
+    ensures same_ties { R.ties files.new ≡ R.ties files.old }
+    ensures shown { IsShown R.shows (R.start files.old) (R.seen files.old) → IsShown R.shows (R.start files.new) (R.seen files.new) }
     ensures cause { HasFaultCause (R.faults files.old) (R.faults files.new) (R.denied files.old) (R.denied files.new) result }
 {
     let paths = manifest_paths(alloc)?;
@@ -73,6 +76,8 @@ pub fn manifest_of<R: Reads>(
     ensures seen { Grows (R.seen files.old) (R.seen files.new) }
     ensures same_start { R.start files.new ≡ R.start files.old }
     ensures still { R.alone ≡ true → R.seen files.new ≡ R.seen files.old }
+    ensures same_ties { R.ties files.new ≡ R.ties files.old }
+    ensures shown { IsShown R.shows (R.start files.old) (R.seen files.old) → IsShown R.shows (R.start files.new) (R.seen files.new) }
     ensures cause { HasFaultCause (R.faults files.old) (R.faults files.new) (R.denied files.old) (R.denied files.new) result }
 {
     if is_null(node) {

@@ -33,6 +33,7 @@ impl RecentSession {
     ghost use Rattle.hgs_files.specs.Reads.{Grows};
     ghost use Rattle.hgs_load.specs.Answer.{HasFaultCause};
     ghost use Rattle.hgs_load.specs.Asks.{Answers, AddsAnswer};
+    ghost use Rattle.hgs_load.specs.Beyond.{AnswersBeyond, IsShown, RefreshesBeyond};
     ghost use Rattle.hgs_load.specs.Given.{Takes, TakesText, TakesView};
     ghost use Rattle.hgs_load.specs.Load.{Refreshes};
     ghost use Rattle.hgs_load.specs.Open.{open_asks};
@@ -66,6 +67,9 @@ impl RecentSession {
         ensures seen { Grows (R.seen files.old) (R.seen files.new) }
         ensures same_start { R.start files.new ≡ R.start files.old }
         ensures still { R.alone ≡ true → R.seen files.new ≡ R.seen files.old }
+        ensures same_ties { R.ties files.new ≡ R.ties files.old }
+        ensures shown { IsShown R.shows (R.start files.old) (R.seen files.old) → IsShown R.shows (R.start files.new) (R.seen files.new) }
+        ensures beyond { AnswersBeyond (λ recent. recent.view) (R.ties files.old).told (R.seen files.old) (R.start files.old) (R.seen files.new) open_asks result }
         ensures cause { HasFaultCause (R.faults files.old) (R.faults files.new) (R.denied files.old) (R.denied files.new) result }
     {
         let texts = RecentTexts::new(alloc)?;
@@ -90,6 +94,9 @@ impl RecentSession {
         ensures seen { Grows (R.seen files.old) (R.seen files.new) }
         ensures same_start { R.start files.new ≡ R.start files.old }
         ensures still { R.alone ≡ true → R.seen files.new ≡ R.seen files.old }
+        ensures same_ties { R.ties files.new ≡ R.ties files.old }
+        ensures shown { IsShown R.shows (R.start files.old) (R.seen files.old) → IsShown R.shows (R.start files.new) (R.seen files.new) }
+        ensures beyond { RefreshesBeyond (R.ties files.old).told (R.seen files.old) (R.start files.old) (R.seen files.new) (refresh_asks self.old.view) self.new.view result }
         ensures cause { HasFaultCause (R.faults files.old) (R.faults files.new) (R.denied files.old) (R.denied files.new) result }
     {
         self.session.refresh(files)
@@ -109,6 +116,8 @@ impl RecentSession {
         ensures seen { Grows (R.seen files.old) (R.seen files.new) }
         ensures same_start { R.start files.new ≡ R.start files.old }
         ensures still { R.alone ≡ true → R.seen files.new ≡ R.seen files.old }
+        ensures same_ties { R.ties files.new ≡ R.ties files.old }
+        ensures shown { IsShown R.shows (R.start files.old) (R.seen files.old) → IsShown R.shows (R.start files.new) (R.seen files.new) }
         ensures cause { HasFaultCause (R.faults files.old) (R.faults files.new) (R.denied files.old) (R.denied files.new) result }
     {
         self.session.log_line(files, rev, into)
@@ -124,6 +133,8 @@ impl RecentSession {
         ensures seen { Grows (R.seen files.old) (R.seen files.new) }
         ensures same_start { R.start files.new ≡ R.start files.old }
         ensures still { R.alone ≡ true → R.seen files.new ≡ R.seen files.old }
+        ensures same_ties { R.ties files.new ≡ R.ties files.old }
+        ensures shown { IsShown R.shows (R.start files.old) (R.seen files.old) → IsShown R.shows (R.start files.new) (R.seen files.new) }
         ensures cause { HasFaultCause (R.faults files.old) (R.faults files.new) (R.denied files.old) (R.denied files.new) result }
     {
         match self.session.change(files, rev) {
@@ -150,6 +161,8 @@ impl RecentSession {
         ensures seen { Grows (R.seen files.old) (R.seen files.new) }
         ensures same_start { R.start files.new ≡ R.start files.old }
         ensures still { R.alone ≡ true → R.seen files.new ≡ R.seen files.old }
+        ensures same_ties { R.ties files.new ≡ R.ties files.old }
+        ensures shown { IsShown R.shows (R.start files.old) (R.seen files.old) → IsShown R.shows (R.start files.new) (R.seen files.new) }
         ensures cause { HasFaultCause (R.faults files.old) (R.faults files.new) (R.denied files.old) (R.denied files.new) result }
     {
         match self.manifest(files, rev) {
@@ -181,6 +194,8 @@ impl RecentSession {
         ensures seen { Grows (R.seen files.old) (R.seen files.new) }
         ensures same_start { R.start files.new ≡ R.start files.old }
         ensures still { R.alone ≡ true → R.seen files.new ≡ R.seen files.old }
+        ensures same_ties { R.ties files.new ≡ R.ties files.old }
+        ensures shown { IsShown R.shows (R.start files.old) (R.seen files.old) → IsShown R.shows (R.start files.new) (R.seen files.new) }
         ensures cause { HasFaultCause (R.faults files.old) (R.faults files.new) (R.denied files.old) (R.denied files.new) result }
     {
         let manifest = match self.manifest(files, rev) {

@@ -1,6 +1,6 @@
 //! How many calls on the files a question makes, and what is told where one fails.
 use crate::stores::{FIRST, FIRST_CHUNK, store};
-use crate::yards::{Free, run_over};
+use crate::yards::run_over;
 use hgs_files::files::Files;
 use hgs_files::path::StorePath;
 use hgs_mem::mem::MemFiles;
@@ -47,15 +47,7 @@ pub(crate) fn asked<R: Alloc<A = Global> + Threads + Sync + Wait>(
         owned.push(String::from_str(alloc, word)?)?;
     }
     let mut source = MemSource::new(alloc, b"unread")?;
-    let (status, _) = run_over::<Free, &R, R>(
-        rt,
-        rt,
-        alloc,
-        &owned,
-        files,
-        &mut source,
-        &mut sink,
-    )?;
+    let (status, _) = run_over(rt, alloc, &owned, files, &mut source, &mut sink)?;
     Ok((status, Vec::from_slice(alloc, sink.bytes())?))
 }
 
@@ -93,7 +85,7 @@ fn calls_of<R: Alloc<A = Global> + Threads + Sync + Wait>(
     }
     let mut source = MemSource::new(alloc, b"")?;
     let mut sink = MemSink::new(alloc);
-    let (_, left) = run_over::<Free, &R, R>(rt, rt, alloc, &owned, files, &mut source, &mut sink)?;
+    let (_, left) = run_over(rt, alloc, &owned, files, &mut source, &mut sink)?;
     Ok(left.calls().saturating_sub(before))
 }
 

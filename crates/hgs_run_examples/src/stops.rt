@@ -1,6 +1,6 @@
 //! Each call of a commit stops in turn after so many bytes, or fails, and so does each of a recovery behind it: what is told then
 //! are the lines before or those after, and those after where the commit was answered. The nodes are Mercurial's.
-use crate::yards::{Free, run_over};
+use crate::yards::run_over;
 use hgs_mem::mem::MemFiles;
 use hgs_mem::streams::{MemSink, MemSource};
 use std::alloc::Global;
@@ -41,9 +41,7 @@ fn run_word<R: Alloc<A = Global> + Threads + Sync + Wait>(
     words.push(String::from_str(alloc, word)?)?;
     let mut input = MemSource::new(alloc, given)?;
     let mut sink = MemSink::new(alloc);
-    let (status, files) = run_over::<Free, &R, R>(
-        rt, rt, alloc, &words, files, &mut input, &mut sink,
-    )?;
+    let (status, files) = run_over(rt, alloc, &words, files, &mut input, &mut sink)?;
     Ok(Came {
         status,
         text: Vec::from_slice(alloc, sink.bytes())?,

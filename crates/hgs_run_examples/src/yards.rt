@@ -12,7 +12,7 @@ use std::test::Fail;
 use std::thread::Threads;
 
 /// All lists are legal.
-pub(crate) struct Free;
+struct Free;
 
 impl Protocol for Free {
     ghost legal = { λ start log. Unit {0} };
@@ -25,16 +25,15 @@ impl Protocol for Free {
 }
 
 /// What these words come to over a yard of these files: the status, and the files.
-pub(crate) fn run_over<P: Protocol, T: Wait + Drop + Send, R: Threads + Sync>(
+pub(crate) fn run_over<R: Threads + Wait + Sync>(
     rt: &R,
-    handle: T,
     alloc: Global,
     words: &[String],
     files: MemFiles,
     input: &mut MemSource,
     out: &mut MemSink,
 ) -> Result<(u8, MemFiles), Fail> {
-    let yard: Hub<P, T> = Hub::new(handle, files);
+    let yard: Hub<Free, &R> = Hub::new(rt, files);
     let Ran { status, left } = run(rt, alloc, words, yard, input, out, &mut Unseen);
     match left {
         Left::Whole(yard) => Ok((status, yard.alone().0)),

@@ -1,4 +1,4 @@
-use Rattle.std.proofs.Common.{◌≡◌, [], Some, subst, sym}
+use Rattle.std.proofs.Common.{◌≡◌, [], Some, ◌∙◌, subst, sym}
 use Rattle.std.specs.Prelude.{OnOk}
 use Rattle.hgs_files.specs.Files.{GoesOn}
 use Rattle.hgs_machine.specs.Asked.{asked}
@@ -40,3 +40,12 @@ returns-in-Fail-clause-acts c =
     (on_ok c.fail_next.result X Y
     (acts_after (Fail c.in-Fail.count) (steady_tree c.args.files.now) c.args.self.now v a (steady_log c.args.files.now) (steady_log c.come.new.files) (steady_log c.fail_next.new.files) c.in_ok-come.ensures.next c.in_ok-come.ensures.same c.in_ok-come.ensures.log)
     c.fail_next.ensures.does)
+
+pub returns-in-All-clause-same_start : goal.returns-in-All-clause-same_start
+returns-in-All-clause-same_start c = c.finish_next.ensures.same_start ∙ c.in_ok-come.ensures.same_start
+
+pub returns-in-Part-clause-same_start : goal.returns-in-Part-clause-same_start
+returns-in-Part-clause-same_start c = c.do_more.ensures.same_start ∙ c.in_ok-come.ensures.same_start
+
+pub returns-in-Fail-clause-same_start : goal.returns-in-Fail-clause-same_start
+returns-in-Fail-clause-same_start c = c.fail_next.ensures.same_start ∙ c.in_ok-come.ensures.same_start
