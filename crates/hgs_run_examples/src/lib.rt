@@ -10,4 +10,6 @@ mod stops;
 #[cfg(test)]
 mod stores;
 #[cfg(test)]
+mod tail;
+#[cfg(test)]
 mod yards;
