@@ -19,7 +19,7 @@ use std::sync::Wait;
 use std::test::Fail;
 
 /// All lists are legal.
-struct Free;
+pub(crate) struct Free;
 
 impl Protocol for Free {
     ghost legal = { λ start log. Unit {0} };
