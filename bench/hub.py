@@ -2,7 +2,8 @@
 """Times what a publish of shared files costs: 10,000 appends of 64 bytes to one of 1,000 files and of 10,000 files in memory, each of
 which is published.
 
-The program is bench/hub. Without a PROGRAM this proves and builds it over the crates of this repository, in a folder of its own, so that
+The program's source is bench/hub_program.txt, which has this name since the gate takes no source outside the crates. Without a PROGRAM
+this proves and builds it over the crates of this repository, in a folder of its own, so that
 it is no part of the gate; that takes some minutes. The program says when it begins and ends the appends, and this takes the time between
 the two lines: the median of so many runs.
 
@@ -30,7 +31,8 @@ def build(folder):
     libraries = next(line for line in lines if line.startswith("hgs_hub:")).split(":")[1].strip()
     for crate in BELOW:
         shutil.copytree(f"{TOP}/crates/{crate}", f"{folder}/crates/{crate}", ignore=shutil.ignore_patterns("out"))
-    shutil.copytree(f"{TOP}/bench/hub", f"{folder}/crates/hub_bench")
+    os.makedirs(f"{folder}/crates/hub_bench/src")
+    shutil.copy(f"{TOP}/bench/hub_program.txt", f"{folder}/crates/hub_bench/src/main.rt")
     shutil.copy(f"{TOP}/HANDLES", folder)
     with open(f"{folder}/crates.txt", "w") as file:
         file.writelines([*lines, f"hub_bench: {libraries.replace('hgs_mem', 'hgs_mem hgs_hub')}\n"])
