@@ -2,7 +2,7 @@
 """Looks over the tree itself: what holds of every crate and is no matter of a proof.
 
 Each line of crates.txt names only lines above it, or libraries that are no crates of the tree; a crate names nothing of another
-crate's `proofs/`; no definition cites a theorem; the text that a must-fail edit replaces stands once; no module is called
+crate's `proofs/` but what the checker itself makes there; no definition cites a theorem; the text that a must-fail edit replaces stands once; no module is called
 `out`; `HANDLES` has its one line. The last line is 'N passed, M failed'.
 """
 
@@ -13,7 +13,8 @@ import sys
 
 top = os.path.dirname(os.path.dirname(os.path.abspath(__file__)))
 os.chdir(top)
-own_proofs = re.compile(r"\bRattle\.(\w+)\.proofs\.")
+# (`TheSendSync` is no file of the crate: the checker makes it, and it says whether a type may go to another thread)
+own_proofs = re.compile(r"\bRattle\.(\w+)\.proofs\.(?![\w.]*\.TheSendSync\b)")
 
 
 def text_of(path):
