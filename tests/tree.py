@@ -2,8 +2,8 @@
 """Looks over the tree itself: what holds of every crate and is no matter of a proof.
 
 Each line of crates.txt names only lines above it, or libraries that are no crates of the tree; a crate names nothing of another
-crate's `proofs/` but what the checker itself makes there; no definition cites a theorem; the text that a must-fail edit replaces stands once; no module is called
-`out`; `HANDLES` has its one line. The last line is 'N passed, M failed'.
+crate's `proofs/` but what the checker itself makes there; no definition cites a theorem; the text that a must-fail edit replaces
+stands once; no module is called `out`; `HANDLES` has its one line. The last line is 'N passed, M failed'.
 """
 
 import os
