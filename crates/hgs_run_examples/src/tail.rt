@@ -97,16 +97,17 @@ fn a_refresh_is_given_what_is_new(rt: HostRuntime) -> Result<(), Fail> {
 
 const ONLY: &[u8] = b"commit\nuser test\ndate 0 0\ndesc 1\na\nfile - 2 a\na\n\nend\n";
 
-/// How many bytes a session is given for the files of the first changeset.
+/// How many bytes a session is given for the files of a changeset.
 fn given_for_files(
     alloc: Global,
     session: &mut RecentSession,
     files: &mut Counted<MemFiles>,
+    rev: u32,
 ) -> Result<u64, Fail> {
     let before = files.bytes;
     let mut text = Vec::new(alloc);
-    if session.session().len() > 0 {
-        session.files(files, 0, &mut text)?;
+    if rev < session.session().len() {
+        session.files(files, rev, &mut text)?;
     }
     Ok(files.bytes.saturating_sub(before))
 }
@@ -119,8 +120,42 @@ fn a_kept_manifest_is_not_given_again(rt: HostRuntime) -> Result<(), Fail> {
     let files = run_words(&rt, made, &["commit"], ONLY)?;
     let mut files = Counted { files, bytes: 0 };
     let mut session = RecentSession::open(alloc, &mut files)?;
-    let first = given_for_files(alloc, &mut session, &mut files)?;
-    let second = given_for_files(alloc, &mut session, &mut files)?;
+    let first = given_for_files(alloc, &mut session, &mut files, 0)?;
+    let second = given_for_files(alloc, &mut session, &mut files, 0)?;
     assert_eq!(rt; first, second.saturating_add(64 + 44));
+    Ok(())
+}
+
+/// Asks for the files of the changesets from one to before another, in order.
+fn ask_for(
+    alloc: Global,
+    session: &mut RecentSession,
+    files: &mut Counted<MemFiles>,
+    from: u32,
+    to: u32,
+) -> Result<(), Fail> {
+    for rev in from..to {
+        given_for_files(alloc, session, files, rev)?;
+    }
+    Ok(())
+}
+
+// Sixteen texts are kept: the seventeenth takes the place of the one that was not used longest, and a text that is used again stays.
+#[test]
+fn the_text_used_longest_ago_is_given_up(rt: HostRuntime) -> Result<(), Fail> {
+    let alloc = rt.alloc();
+    let files = run_words(&rt, MemFiles::new(alloc)?, &["gen", "7", "20"], b"")?;
+    let mut files = Counted { files, bytes: 0 };
+    let mut session = RecentSession::open(alloc, &mut files)?;
+    let first = given_for_files(alloc, &mut session, &mut files, 0)?;
+    let second = given_for_files(alloc, &mut session, &mut files, 1)?;
+    ask_for(alloc, &mut session, &mut files, 2, 16)?;
+    let used_again = given_for_files(alloc, &mut session, &mut files, 0)?;
+    assert!(rt; used_again < first);
+    ask_for(alloc, &mut session, &mut files, 16, 17)?;
+    let still_kept = given_for_files(alloc, &mut session, &mut files, 0)?;
+    assert_eq!(rt; still_kept, used_again);
+    let given_up = given_for_files(alloc, &mut session, &mut files, 1)?;
+    assert_eq!(rt; given_up, second);
     Ok(())
 }
