@@ -170,4 +170,5 @@ def main():
         in_a_row(program, work)
 
 
-main()
+if __name__ == "__main__":
+    main()

@@ -4,7 +4,7 @@
 _hg_store_words() {
     local command=${COMP_WORDS[1]} place=$COMP_CWORD
     if [ "$place" = 1 ]; then
-        printf '%s\n' log heads files cat bookmarks parents phase init commit bookmark verify gen recover play --help --version
+        printf '%s\n' log heads files cat bookmarks parents phase init commit bookmark verify gen recover play session --help --version
         return
     fi
     [[ $command = phase && ${COMP_WORDS[2]} = --force ]] && place=$((place - 1)) && [ "$place" = 1 ] && return

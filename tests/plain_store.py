@@ -1,5 +1,5 @@
-"""A second, simple implementation of a store, after docs/FORMATS.md and docs/DECISIONS.md: the whole repository in memory, and the
-bytes that its files have. `tests/histories.py` compares the program with it.
+"""A second, simple implementation of a store, after docs/FORMATS.md and docs/ANSWERS.md alone: the whole repository in memory, the
+bytes that its files have, and what stands in the way of its commands. `tests/histories.py` compares the program with it.
 """
 
 import hashlib
@@ -80,12 +80,51 @@ def listed_name(path, ext):
     return b"data/" + b"/".join([*marked, last]) + ext
 
 
+DEVICES = {b"aux", b"con", b"prn", b"nul", *(b"%s%d" % (name, n) for name in (b"com", b"lpt") for n in range(1, 10))}
+
+
+def spelled(name, is_plain):
+    """Each byte that a file system may not take as its code; capitals by `_` or as small letters."""
+
+    def byte(c):
+        if c < 32 or c >= 126 or c in b'\\:*?"<>|':
+            return b"~%02x" % c
+        if 65 <= c <= 90:
+            return (b"_" if is_plain else b"") + bytes([c]).lower()
+        return b"__" if c == 95 and is_plain else bytes([c])
+
+    return b"".join(map(byte, name))
+
+
+def component(part):
+    if part[:1] in (b".", b" "):
+        part = b"~%02x" % part[0] + part[1:]
+    elif part.split(b".")[0] in DEVICES:
+        part = part[:2] + b"~%02x" % part[2] + part[3:]
+    return part[:-1] + b"~%02x" % part[-1] if part[-1:] in (b".", b" ") else part
+
+
+def components(name):
+    return b"/".join(map(component, name.split(b"/")))
+
+
+def hashed_name(listed, ext):
+    *folders, last = components(spelled(listed[len(b"data/") :], False)).split(b"/")
+    short = b""
+    for folder in (f[:8] for f in folders):
+        folder = folder[:-1] + b"_" if folder[-1:] in (b".", b" ") else folder
+        if len(short) + len(folder) > 68:
+            break
+        short += folder + b"/"
+    digits = hashlib.sha1(listed).hexdigest().encode()
+    room = 120 - len(b"dh/" + short + digits + ext)
+    return b"dh/" + short + last[: max(room, 0)] + digits + ext
+
+
 def store_name(path, ext):
-    """The plain form alone, of paths that need no code but that of capitals, `_` and a leading dot."""
-    spelled = b"".join(b"_" + bytes([c]).lower() if bytes([c]).isupper() else b"__" if c == ord("_") else bytes([c]) for c in listed_name(path, ext))
-    named = b"/".join(b"~2e" + part[1:] if part.startswith(b".") else part for part in spelled.split(b"/"))
-    assert len(named) <= 120 and all(33 <= c <= 126 for c in named)
-    return (b"store/" + named).decode()
+    listed = listed_name(path, ext)
+    plain = components(spelled(listed, True))
+    return "store/" + (plain if len(plain) <= 120 else hashed_name(listed, ext)).decode()
 
 
 def body_text(body):
@@ -98,7 +137,36 @@ class Store:
         self.changelog, self.manifest, self.filelogs, self.list = Revlog(), Revlog(), {}, b""
         self.trees, self.manifests = [], []
         self.phases, self.marks, self.working, self.tracked = [], {}, None, None
-        self.roots, self.has_marks = b"", False
+        self.roots = b""
+        # what stands beside the repository: locks and strays by their names in .hg, an open journal, and other words of `requires`
+        self.locks, self.strays, self.is_open, self.requires, self.tail = {}, {}, False, REQUIRES, b""
+
+    # ---- what stands in the way of every command that writes
+
+    def begin(self):
+        if self.requires is None:
+            raise Refused(24, "abort: not a repository")
+        other = [word for word in self.requires.decode().split() if word not in REQUIRES.decode().split()]
+        if other:
+            raise Refused(27, f"abort: requirement {other[0]}")
+        for name in ("wlock", "store/lock"):
+            if name in self.locks:
+                raise Refused(10, f"abort: lock held by {self.locks[name].decode()}")
+        if self.is_open:
+            raise Refused(11, "abort: abandoned transaction found")
+        if self.tail:
+            raise Refused(15, f"abort: damaged store/00changelog.i: revlog 14 {len(self.trees)}")
+
+    def init(self):
+        if self.requires is not None:
+            raise Refused(25, "abort: repository exists")
+
+    def in_the_way(self, added):
+        """A file at one of the two names of a new path, also of one that will have no data file: the first in the order of paths."""
+        for path in sorted(added):
+            for ext in (b".i", b".d"):
+                if path not in self.filelogs and store_name(path, ext) in self.strays:
+                    raise Refused(34, f"abort: file in the way {store_name(path, ext)}")
 
     # ---- names
 
@@ -137,8 +205,9 @@ class Store:
             return (a, None)
         return (b, None) if a in log.ancestors(b) else (a, b)
 
-    def commit(self, names, tree, user, seconds, phase, mark, description):
+    def commit(self, names, tree, user, date, phase, mark, description):
         """Of a tree from paths to a flag and a body. The revisions are added at the end, where nothing refuses them."""
+        self.begin()
         parents = self.parents_of(names)
         link = len(self.trees)
         rows, changed, added = {}, set(), {}
@@ -157,9 +226,9 @@ class Store:
         changed |= {path for parent in parents if parent is not None for path in self.trees[parent] if path not in tree}
         if parents[1] is None and not changed:
             raise Refused(13, f"abort: nothing changed ({parents[0] or 0})")
-        return self.add(parents, link, rows, added, sorted(changed), user, seconds, phase, mark, description)
+        return self.add(parents, link, rows, added, sorted(changed), user, date, phase, mark, description)
 
-    def add(self, parents, link, rows, added, changed, user, seconds, phase, mark, description):
+    def add(self, parents, link, rows, added, changed, user, date, phase, mark, description):
         nodes = {}
         for path, (text, file_parents) in added.items():
             log = self.filelogs.get(path) or Revlog()
@@ -174,11 +243,12 @@ class Store:
         above = (first, None if second == first else second)
         low, high = sorted(self.manifest.node(parent) for parent in above)
         node = hashlib.sha1(low + high + text).digest()
-        lines = [node.hex().encode(), user, b"%d 0" % seconds, *changed]
+        lines = [node.hex().encode(), user, b"%d %d" % date, *changed]
         change = b"\n".join(lines) + b"\n\n" + description
         standing = self.changelog.standing(change, parents)
         if standing is not None:
             raise Refused(13, f"abort: nothing changed ({standing})")
+        self.in_the_way(added)
         for path in sorted(added):
             if path not in self.filelogs:
                 self.filelogs[path] = Revlog()
@@ -191,13 +261,14 @@ class Store:
         self.phases.append(max([PHASES.index(phase)] + [self.phases[parent] for parent in parents if parent is not None]))
         self.working, self.tracked = link, sorted(rows)
         if mark is not None:
-            self.marks[mark], self.has_marks = link, True
+            self.marks[mark] = link
         self.roots = self.roots_text()
         return f"{link}:{self.changelog.nodes[link].hex()}"
 
     # ---- the other commands
 
     def move(self, name, phase, force):
+        self.begin()
         rev, to = self.known(name), PHASES.index(phase)
         if to > self.phases[rev] and not force:
             raise Refused(26, f"abort: phase of {rev} needs --force")
@@ -214,13 +285,15 @@ class Store:
         return f"{rev} {phase}"
 
     def mark(self, mark, name):
+        self.begin()
         rev = self.known(name)
         if self.marks.get(mark) == rev:
             raise Refused(13, f"abort: nothing changed ({rev})")
-        self.marks[mark], self.has_marks = rev, True
+        self.marks[mark] = rev
         return f"{mark} {rev}"
 
     def unmark(self, mark):
+        self.begin()
         if mark not in self.marks:
             raise Refused(12, "abort: unknown revision")
         del self.marks[mark]
@@ -236,30 +309,40 @@ class Store:
         return b"".join(b"%d %s\n" % (phase, self.changelog.nodes[rev].hex().encode()) for phase, rev in sorted(roots))
 
     def files(self):
-        files = {"requires": REQUIRES, "store/fncache": self.list, "store/phaseroots": self.roots}
+        files = {**self.locks, **self.strays, "requires": self.requires or b"", "store/fncache": self.list, "store/phaseroots": self.roots}
         logs = {"store/00changelog": self.changelog, "store/00manifest": self.manifest}
         for name, log in logs.items():
             files[f"{name}.i"], files[f"{name}.d"] = log.files()
+        files["store/00changelog.i"] += self.tail
         for path, log in self.filelogs.items():
             files[store_name(path, b".i")], files[store_name(path, b".d")] = log.files(log.is_inline())
-        files["bookmarks"] = b"".join(b"%s %s\n" % (self.changelog.nodes[rev].hex().encode(), name.encode()) for name, rev in sorted(self.marks.items()))
+        files["bookmarks"] = b"".join(b"%s %s\n" % (self.changelog.nodes[rev].hex().encode(), name.encode()) for name, rev in sorted(self.marks.items(), key=lambda mark: mark[0].encode()))
         if self.working is not None:
             entries = b"".join(struct.pack(">cIiiI", b"n", 0, -1, -1, len(path)) + path for path in self.tracked)
             files["dirstate"] = self.changelog.nodes[self.working] + NULL + entries
         return {name: data for name, data in files.items() if data}
 
     def answers(self):
-        """The whole answers of `heads`, `bookmarks` and `parents`."""
+        """The whole answers of the questions that name no revision."""
         def hexed(rev):
             return self.changelog.nodes[rev].hex()
 
         parents = {parent for both in self.changelog.parents for parent in both}
         return {
+            "log": b"".join(self.line(rev) for rev in reversed(range(len(self.trees)))).decode(),
             "heads": "".join(f"{rev} {hexed(rev)}\n" for rev in range(len(self.trees)) if rev not in parents),
             "bookmarks": "".join(f"{name}\t{rev}\t{hexed(rev)}\n" for name, rev in sorted(self.marks.items())),
             "parents": "" if self.working is None else f"{self.working} {hexed(self.working)}\n",
         }
 
+    def line(self, rev):
+        """The line of `log`: of the text of the changeset, and the parents' revisions."""
+        head, description = self.changelog.texts[rev].split(b"\n\n", 1)
+        _, user, date = head.split(b"\n")[:3]
+        parents = [-1 if parent is None else parent for parent in self.changelog.parents[rev]]
+        numbers = "\t".join(map(str, [rev, self.changelog.nodes[rev].hex(), *parents])).encode()
+        return b"\t".join([numbers, *date.split(b" "), user, description.split(b"\n")[0]]) + b"\n"
+
     def listing(self, rev):
         rows = sorted(self.trees[rev].items())
-        return "".join(f"{self.filelogs[path].nodes[file].hex()} {flag} {path.decode()}\n" for path, (file, flag) in rows)
+        return b"".join(f"{self.filelogs[path].nodes[file].hex()} {flag} ".encode() + path + b"\n" for path, (file, flag) in rows)

@@ -280,6 +280,7 @@ impl Folder {
         begun(file.write_all(bytes))
     }
 
+    /// Gives a file these bytes alone. One that it made and could not fill is removed again, as far as the system lets it.
     pub fn put(&mut self, path: &StorePath, bytes: &[u8]) -> io::Result<()> {
         let name = self.name_of(path)?;
         self.note(name.as_str())?;
@@ -288,7 +289,7 @@ impl Folder {
         how.write(true).create(true).truncate(true);
         let mut file = self.open_or_make(&how, name.as_str())?;
         if is_new {
-            begun(self.give_mode(&file, name.as_str()))?;
+            return self.fill_or_remove(&mut file, name.as_str(), bytes);
         }
         begun(file.write_all(bytes))
     }
@@ -304,10 +305,16 @@ impl Folder {
             Err(error) if error.kind() == ErrorKind::AlreadyExists => return Ok(Created::There),
             Err(error) => return Err(error),
         };
-        match self.fill(&mut file, name.as_str(), bytes) {
-            Ok(()) => Ok(Created::Made),
+        self.fill_or_remove(&mut file, name.as_str(), bytes)?;
+        Ok(Created::Made)
+    }
+
+    // Gives a file that was just made its mode and its bytes, or removes it again.
+    fn fill_or_remove(&self, file: &mut File, name: &str, bytes: &[u8]) -> io::Result<()> {
+        match self.fill(file, name, bytes) {
+            Ok(()) => Ok(()),
             Err(error) => {
-                begun(fs::remove_file(&self.rt, name.as_str()))?;
+                begun(fs::remove_file(&self.rt, name))?;
                 Err(error)
             }
         }

@@ -17,7 +17,7 @@ pub fn hint(status: u8) -> Option<&'static str> {
         ),
         13 => Some("the repository is as the command asks already; nothing was changed"),
         14 => Some(
-            "the input is no record of a changeset, or no schedule, from the byte on that the line names; `bin/record` prints one of a folder; nothing was changed",
+            "the input is no record of a changeset, no schedule or no script, from the byte on that the line names; `bin/record` prints one of a folder; nothing was changed",
         ),
         15 => Some(
             "this file does not hold what it should; nothing was changed; `hg verify` says more of a repository of Mercurial's",

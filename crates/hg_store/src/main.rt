@@ -7,6 +7,8 @@
 mod command_line;
 mod files;
 mod folder;
+#[cfg(test)]
+mod gates;
 mod hints;
 mod progress;
 mod streams;
@@ -21,15 +23,16 @@ use crate::progress::OsProgress;
 use crate::streams::{OsSink, OsSource};
 use crate::yard::OsYard;
 use hgs_files::streams::Sink;
+use hgs_run::run::run;
 use hgs_top::command::refuse_words;
 use hgs_top::orders::Order;
-use hgs_top::run::run;
 use hgs_top::words::{Asked, asked_by};
 use std::alloc::AllocError;
 use std::fs;
 use std::io::ErrorKind;
 use std::os::fd::AsFd;
 use std::process::ExitCode;
+use std::sync::Wait;
 use std::thread::Threads;
 
 // Refuses words of which the one behind these is not UTF-8: the first that does not fit is one of these, or that one.
@@ -74,7 +77,7 @@ fn make_store(rt: &HostRuntime, words: &[String]) {
 }
 
 // Does what the words ask for, with these threads where there are some to be had, and gives the status.
-fn answer<T: Threads + Sync, K: Sink>(
+fn answer<T: Threads + Wait + Sync, K: Sink>(
     rt: &HostRuntime,
     threads: &T,
     out: &mut K,

@@ -10,7 +10,7 @@ use std::os::unix::fs::{MetadataExt, PermissionsExt, symlink};
 use std::test::Fail;
 
 // A folder that stands for one test, under the system's folder for such.
-fn new_folder(rt: &HostRuntime) -> Result<String, Fail> {
+pub(crate) fn new_folder(rt: &HostRuntime) -> Result<String, Fail> {
     let above = env::temp_dir(rt)?;
     for number in 0..100_000u32 {
         let name = format!(in rt.alloc(); "{}/hg_store-test-{number}", above.as_str())?;
@@ -21,7 +21,7 @@ fn new_folder(rt: &HostRuntime) -> Result<String, Fail> {
     Ok(String::new(rt.alloc()))
 }
 
-fn path(rt: &HostRuntime, name: &str) -> Result<StorePath, Fail> {
+pub(crate) fn path(rt: &HostRuntime, name: &str) -> Result<StorePath, Fail> {
     match StorePath::new(rt.alloc(), name.as_bytes()) {
         Ok(path) => Ok(path),
         Err(_) => Err(Fail::new(name)),

@@ -19,7 +19,7 @@ use std::alloc::Global;
 
 /// Loads the repository. What the end has looked at then is a log that writers make, as what it looked at before; and over each
 /// log that writers make and that begins so, the session is a view of the moments since the call began, none of them before
-/// what the end was told. Damage is never answered, and a fault only where one was met.
+/// what the end was told. Within the limits damage is not answered, and a fault only where one was met.
 pub fn open(alloc: Global, files: &mut HubReader<HgProtocol>) -> Result<Session, ReadAnswer>
     requires { IsLegal (start_by files.old) (seen_by files.old) }
     ensures legal { IsLegal (start_by files.new) (seen_by files.new) }

@@ -9,11 +9,11 @@ use Rattle.hgs_stands.specs.Open.{IsOpen}
 use Rattle.hgs_stands.specs.Stands.{Stands}
 use Rattle.hgs_legal.specs.LegalLog.{Doing, Idle, Leaves, Turn, breaks, breaks_after, breaks_undo, gives_up, is_refused, last_repo, state_at, stays}
 use Rattle.hgs_legal.specs.Numbers.{StopsAt, left_of}
-use Rattle.hgs_legal.specs.Pieces.{LeavesJournal, Piece}
+use Rattle.hgs_legal.specs.Pieces.{Early, Front, LeavesJournal, Piece}
 use Rattle.hgs_files.specs.Stop.{StopLeaves}
 use Rattle.hgs_ops.specs.Stops.{IsBetween}
 use Rattle.hgs_legal.proofs.Below.{Below}
-use Rattle.hgs_legal.proofs.FrontLemmas.{Early, Front, leaves-front, piece-front}
+use Rattle.hgs_legal.proofs.FrontLemmas.{leaves-front, piece-front}
 use Rattle.hgs_legal.proofs.Invariant.{kept_at, less-none}
 use Rattle.hgs_legal.proofs.LegalLemmas.{leaves-left}
 use Rattle.hgs_legal.proofs.PieceLemmas.{leaves-run, piece-run}

@@ -9,7 +9,7 @@ use Rattle.hgs_journal.specs.Names.{journal_path}
 use Rattle.hgs_model.specs.Repo.{Repo}
 use Rattle.hgs_ops.specs.Operations.{lock_path, removals, strays, wlock_path}
 use Rattle.hgs_legal.specs.LegalLog.{IsTurn, Turn, lock_removals, through_publishing, through_removal, to_publishing}
-use Rattle.hgs_legal.specs.Pieces.{AreSome, HasBegun, LeavesJournal, Piece, Refusal, before, behind, dropped, dropped_before, given_up, once, refused, twice, was_undone, whole_list, within}
+use Rattle.hgs_legal.specs.Pieces.{AreSome, Early, Front, HasBegun, LeavesJournal, Piece, Refusal, before, behind, dropped, dropped_before, given_up, once, refused, twice, was_undone, whole_list, within}
 use Rattle.hgs_legal.specs.Theorems.StopLemmas.{does-piece, piece-piece}
 
 -- ---- stops in lists
@@ -110,14 +110,6 @@ stopped-done ops (op ∷ log) d left h (inr (inr more)) =
     (q.0, subst (λ l. IsDone ops l q.0) (sym more.2) (h.0, h.1, q.1))
 
 -- ---- what a stop leaves
-
--- nothing, a piece, or a journal
-abbrev pub Front : Tree → Repo → Repo → List Op → Type 0
-Front t r next d = (d ≡ []) ⊎ (Piece t r d r ⊎ (Piece t r d next ⊎ LeavesJournal t r d))
-
--- the same before publication
-abbrev pub Early : Tree → Repo → List Op → Type 0
-Early t r d = (d ≡ []) ⊎ (Piece t r d r ⊎ LeavesJournal t r d)
 
 early : (t : Tree) (r next : Repo) (d : List Op) → Early t r d → Front t r next d
 early t r next d (inl none) = inl none

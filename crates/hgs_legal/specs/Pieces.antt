@@ -55,6 +55,14 @@ pub data LeavesJournal (t : Tree) (r : Repo) : List Op → Type 0 where
   within : (x : Turn) (a c : List Op) (op : Op) (left : List Op) (o : Op) (rest : List Op) (u : Op) (b : List Op) → HasBegun t r x a (op ∷ left) → IsDone x.ops.undo (u ∷ b) (o ∷ rest) → AreSome lock_removals c → LeavesJournal t r (a ++ (u ∷ b) ++ c)
   behind : (x : Turn) (a b c : List Op) (o : Op) (rest : List Op) → HasBegun t r x a [] → IsDone (through_removal x.ops) b (o ∷ rest) → AreSome lock_removals c → LeavesJournal t r (a ++ b ++ c)
 
+-- What a front of a piece is: nothing, a piece that leads back, one that leads on as the whole does, or one that leaves its journal.
+abbrev pub Front : Tree → Repo → Repo → List Op → Type 0
+Front t r next d = (d ≡ []) ⊎ (Piece t r d r ⊎ (Piece t r d next ⊎ LeavesJournal t r d))
+
+-- The same of a piece that leaves its journal: no front of it leads on.
+abbrev pub Early : Tree → Repo → List Op → Type 0
+Early t r d = (d ≡ []) ⊎ (Piece t r d r ⊎ LeavesJournal t r d)
+
 -- Whole pieces, one after another; after one that leaves the journal, writers that are refused alone.
 pub data Pieces : Tree → Repo → List Op → Type 0 where
   no_pieces : {t : Tree} {r : Repo} → Pieces t r []

@@ -16,7 +16,7 @@ ghost use Rattle.hgs_ops.specs.Operations.{lock_path, operations, removals, stra
 ghost use Rattle.hgs_ops.specs.Stops.{IsBetween};
 ghost use Rattle.hgs_legal.specs.LegalLog.{Goes, Idle, IsLegal, IsRun, IsTurn, Run, State, Turn, last_repo, lock_removals, state_at, through_publishing};
 ghost use Rattle.hgs_legal.specs.Numbers.{StopsAt, acknowledged_of, b_of, n_of, repo_at, w_of};
-ghost use Rattle.hgs_legal.specs.Pieces.{LeavesJournal, Piece, Pieces};
+ghost use Rattle.hgs_legal.specs.Pieces.{Early, Front, LeavesJournal, Piece, Pieces};
 ghost use Rattle.hgs_stands.specs.Open.{IsOpen};
 ghost use Rattle.hgs_legal.specs.Recovers.{Recovers};
 
@@ -110,6 +110,13 @@ pub fn pieces_end()
     open_trees_lead_back();
     standing_trees_show();
 }
+
+/// Where a piece is stopped, what was done of it is nothing, a piece, or one that leaves its journal; and it leads on to the
+/// next repository only as a piece that does.
+pub fn fronts_are_pieces()
+    ensures of_piece { (t : Tree) (r next : Repo) (log d : List Op) → Piece t r log next → IsStopped log d → Front t r next d }
+    ensures of_left { (t : Tree) (r : Repo) (log d : List Op) → LeavesJournal t r log → IsStopped log d → Early t r d }
+{}
 
 /// The number of acknowledged transactions never falls, and the repository after each of them stays.
 pub fn acknowledged_stays()

@@ -12,3 +12,4 @@ pub mod Locking
 pub mod Plans
 pub mod Stopping
 pub mod Going
+pub mod Counting

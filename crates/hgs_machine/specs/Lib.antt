@@ -6,3 +6,4 @@ pub mod Carry
 pub mod Locks
 pub mod Sound
 pub mod Fed
+pub mod Refusals

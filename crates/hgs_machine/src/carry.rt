@@ -9,6 +9,7 @@ ghost use Rattle.hgs_machine.specs.Asked.{Ending, asked};
 ghost use Rattle.hgs_machine.specs.Carry.{CountsReply, IsCausedSince, IsReplied, IsStep, IsUnderWay, reply_of, size_reply_of, tree_now};
 ghost use Rattle.hgs_machine.specs.Course.{CarriedOut};
 ghost use Rattle.hgs_machine.specs.Planned.{HasSource, IsPlanned};
+ghost use Rattle.hgs_machine.specs.Refusals.{WereRefused, refusals_of_ended, refusals_so_far};
 ghost use Rattle.hgs_machine.specs.SoFar.{Fits, Leaves, questions_left};
 
 use crate::ended::Ended;
@@ -83,6 +84,7 @@ fn step<F: Files>(files: &mut F, machine: &mut Machine) -> bool
     ensures plan { machine.new.plan ≡ machine.old.plan }
     ensures same_start { F.start files.new ≡ F.start files.old }
     ensures causes { (faults denied : ℕ) → IsCausedSince faults (F.faults files.old) denied (F.denied files.old) machine.old.outcome machine.old.swept → IsCausedSince faults (F.faults files.new) denied (F.denied files.new) machine.new.outcome machine.new.swept }
+    ensures calls { (faults denied : ℕ) → WereRefused (refusals_so_far machine.old) faults (F.faults files.old) denied (F.denied files.old) → WereRefused (refusals_so_far machine.new) faults (F.faults files.new) denied (F.denied files.new) }
 {
     match call(files, machine) {
         Some(reply) => {
@@ -102,6 +104,7 @@ pub fn carry_out<F: Files>(files: &mut F, plan: Plan) -> Ended
     ensures log { GoesOn (F.log files.old) (F.log files.new) (CarriedOut (tree_now (F.log files.old) (F.start files.old)) plan result.outcome result.swept) }
     ensures same_start { F.start files.new ≡ F.start files.old }
     ensures causes { IsCausedSince (F.faults files.old) (F.faults files.new) (F.denied files.old) (F.denied files.new) result.outcome result.swept }
+    ensures calls { WereRefused (refusals_of_ended result.outcome result.swept) (F.faults files.old) (F.faults files.new) (F.denied files.old) (F.denied files.new) }
 {
     let mut machine = Machine::new(plan);
     while step(files, &mut machine) {}

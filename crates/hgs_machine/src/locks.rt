@@ -1,5 +1,5 @@
 //! The two locks of a writer.
-ghost use Rattle.std.specs.Prelude.{◌≡◌, ◌∷◌, [], ℕ, List, IfSome, IfOk};
+ghost use Rattle.std.specs.Prelude.{◌≡◌, ◌∷◌, [], ℕ, List, None, IfSome, IfOk, IfErr, IsSome, is_some};
 ghost use Rattle.hgs_files.specs.declared.op.Op.{Op};
 ghost use Rattle.hgs_files.specs.Files.{GoesOn};
 ghost use Rattle.hgs_files.specs.Tree.{after_all};
@@ -8,6 +8,7 @@ ghost use Rattle.hgs_ops.specs.Operations.{lock_path, wlock_path};
 ghost use Rattle.hgs_machine.specs.Carry.{tree_now};
 ghost use Rattle.hgs_machine.specs.Course.{lock_removals};
 ghost use Rattle.hgs_machine.specs.Locks.{AreRemoved, CausesLeft, CausesNotLocked, CausesRefusal, IsFrontOf, Looks, Makes, NeverFall, TakesLocks};
+ghost use Rattle.hgs_machine.specs.Refusals.{WereRefused, refusals_of_lock, refusals_of_locks};
 
 use hgs_bytes::bytes::Bytes;
 use hgs_files::files::{Created, FileFault, Files};
@@ -52,6 +53,7 @@ fn holder<F: Files>(alloc: Global, files: &mut F, path: &StorePath) -> Option<By
     ensures bytes { IfSome (F.log files.old) (λ log. IfSome result (λ bytes. IsFrontOf bytes (after_all log (F.start files.old) path.now))) }
     ensures same_start { F.start files.new ≡ F.start files.old }
     ensures counts { NeverFall (F.faults files.old) (F.faults files.new) (F.denied files.old) (F.denied files.new) }
+    ensures unread { IfSome (F.log files.old) (λ log. IsSome (after_all log (F.start files.old) path.now) → result ≡ None → WereRefused 1 (F.faults files.old) (F.faults files.new) (F.denied files.old) (F.denied files.new)) }
 {
     let mut bytes = Vec::new(alloc);
     match files.read(path, 0, 4096, &mut bytes) {
@@ -72,6 +74,7 @@ fn make<F: Files>(
     ensures same_start { F.start files.new ≡ F.start files.old }
     ensures counts { NeverFall (F.faults files.old) (F.faults files.new) (F.denied files.old) (F.denied files.new) }
     ensures causes { CausesRefusal (F.faults files.old) (F.faults files.new) result }
+    ensures calls { IfErr result (λ why. WereRefused (refusals_of_lock (is_some (F.log files.old)) why) (F.faults files.old) (F.faults files.new) (F.denied files.old) (F.denied files.new)) }
 {
     match files.create_new(path, who) {
         Ok(Created::Made) => Ok(()),
@@ -107,6 +110,7 @@ impl Locks {
         ensures same_start { F.start files.new ≡ F.start files.old }
         ensures counts { NeverFall (F.faults files.old) (F.faults files.new) (F.denied files.old) (F.denied files.new) }
         ensures causes { CausesRefusal (F.faults files.old) (F.faults files.new) result }
+        ensures calls { IfErr result (λ why. WereRefused (refusals_of_lock (is_some (F.log files.old)) why) (F.faults files.old) (F.faults files.new) (F.denied files.old) (F.denied files.new)) }
     {
         match files.size(&self.journal) {
             Ok(None) => Ok(()),
@@ -136,6 +140,7 @@ impl Locks {
         ensures same_start { F.start files.new ≡ F.start files.old }
         ensures counts { NeverFall (F.faults files.old) (F.faults files.new) (F.denied files.old) (F.denied files.new) }
         ensures causes { CausesNotLocked (F.faults files.old) (F.faults files.new) (F.denied files.old) (F.denied files.new) result }
+        ensures calls { IfErr result (λ refusal. WereRefused (refusals_of_locks (is_some (F.log files.old)) refusal.why refusal.swept) (F.faults files.old) (F.faults files.new) (F.denied files.old) (F.denied files.new)) }
     {
         if let Err(why) = make(alloc, files, &self.wlock, who) {
             return Err(NotLocked { why, swept: true });
@@ -160,6 +165,7 @@ pub fn take_locks<F: Files>(alloc: Global, files: &mut F, who: &[u8]) -> Result<
     ensures same_start { F.start files.new ≡ F.start files.old }
     ensures counts { NeverFall (F.faults files.old) (F.faults files.new) (F.denied files.old) (F.denied files.new) }
     ensures causes { CausesNotLocked (F.faults files.old) (F.faults files.new) (F.denied files.old) (F.denied files.new) result }
+    ensures calls { IfErr result (λ refusal. WereRefused (refusals_of_locks (is_some (F.log files.old)) refusal.why refusal.swept) (F.faults files.old) (F.faults files.new) (F.denied files.old) (F.denied files.new)) }
 {
     let Ok(locks) = Locks::new(alloc) else {
         return Err(NotLocked {

@@ -13,6 +13,9 @@ use hgs_plan::print::push_number;
 use itoa::Buffer;
 use std::alloc::{AllocError, Global};
 
+/// A line of at most so many bytes takes its memory once.
+const USUAL_LINE: usize = 256;
+
 // Adds a tab and a text.
 fn push_field(into: &mut Vec<u8>, text: &[u8]) -> Result<(), AllocError>
     ensures { OnOk result (into.new.items ≡ into.old.items ++ field text.now) }
@@ -82,7 +85,7 @@ pub fn line_of(
 ) -> Result<Vec<u8>, AllocError>
     ensures { IfOk result (λ line. line.items ≡ line_text rev entry.now (view_change change.now)) }
 {
-    let mut line = Vec::new(alloc);
+    let mut line = Vec::with_capacity(alloc, USUAL_LINE)?;
     push_revision(&mut line, rev, entry)?;
     push_change(&mut line, change)?;
     line.push(b'\n')?;

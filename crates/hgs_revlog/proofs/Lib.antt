@@ -4,3 +4,4 @@ pub mod FormLemmas
 pub mod LoadedLemmas
 pub mod SpanLemmas
 pub mod PlaceFrontLemmas
+pub mod PutLemmas

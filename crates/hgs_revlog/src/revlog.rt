@@ -1,5 +1,8 @@
 //! A loaded index.
-ghost use Rattle.std.specs.Prelude.{◌≡◌, ◌<◌, ◌≤◌, ◌/◌, true, not, [], length, slice_get, IfSome, IfOk, IfErr, IsOk, OnOk, OnErr};
+ghost use Rattle.std.specs.Prelude.{◌≡◌, ◌<◌, ◌≤◌, ◌/◌, true, false, not, ℕ, List, [], length, slice_get, Some, None, IfSome, IfOk, IfErr, IsOk, OnOk, OnErr};
+ghost use Rattle.std.specs.BTreeMap.{get, Updates};
+ghost use Rattle.std.specs.Cmp.Lexicographic.{slice_cmp};
+ghost use Rattle.std.specs.Ordering.{nat_cmp};
 ghost use Rattle.std.specs.Option.{option_map};
 ghost use Rattle.std.specs.Result.{result_map_both};
 ghost use Rattle.hgs_bytes.specs.Answer.{Gives};
@@ -70,6 +73,23 @@ fn ends(tail: &Tail, entry: &Entry) -> bool
     }
 }
 
+// Gives a node its revision and answers true, or answers false where it has one, which it keeps.
+fn put_fresh(revs: &mut BTreeMap<[u8; 20], u32>, node: [u8; 20], rev: u32) -> Result<bool, RevFault>
+    ensures fresh { result ≡ Ok true → get (slice_cmp nat_cmp) revs.old node ≡ None }
+    ensures put { result ≡ Ok true → Updates (slice_cmp nat_cmp) revs.old revs.new node (Some rev) }
+    ensures kept { result ≡ Ok false → (q : List ℕ) → get (slice_cmp nat_cmp) revs.new q ≡ get (slice_cmp nat_cmp) revs.old q }
+    ensures denied { OnErr result ((q : List ℕ) → get (slice_cmp nat_cmp) revs.new q ≡ get (slice_cmp nat_cmp) revs.old q) }
+    ensures err { IfErr result (λ fault. fault ≡ Memory) }
+{
+    match revs.insert(node, rev)? {
+        None => Ok(true),
+        Some(before) => {
+            revs.insert(node, before)?;
+            Ok(false)
+        }
+    }
+}
+
 impl Revlog {
     /// A revlog without revisions. Takes no memory.
     pub fn empty(alloc: Global, inline: bool) -> Revlog
@@ -101,11 +121,10 @@ impl Revlog {
         let mut log = self;
         let mut rest = index;
         while let Some((bytes, behind)) = rest.split_first_chunk::<64>() {
-            let entry = match log.next_entry(bytes) {
+            let entry = match log.take_entry(bytes) {
                 Ok(entry) => entry,
                 Err(fault) => return Err(fault),
             };
-            log.append(entry)?;
             if ends(&tail, &entry) {
                 return Ok(log);
             }
@@ -134,11 +153,10 @@ impl Revlog {
         let mut rest = index;
         while let Some((bytes, behind)) = whole_item(rest) {
             let cell = log.cell(bytes);
-            let entry = match log.next_entry(&cell) {
+            let entry = match log.take_entry(&cell) {
                 Ok(entry) => entry,
                 Err(fault) => return Err(fault),
             };
-            log.append(entry)?;
             if ends(&tail, &entry) {
                 return Ok(log);
             }
@@ -200,6 +218,100 @@ impl Revlog {
             Ok(_) => {
                 self.end += entry.stored as u64;
                 Ok(())
+            }
+            Err(_) => {
+                self.entries.pop();
+                Err(RevFault::Memory)
+            }
+        }
+    }
+
+    // Takes the entry that these bytes are as the next one, or answers its first fault. One without fault costs one search
+    // among the nodes.
+    fn take_entry(&mut self, bytes: &[u8; 64]) -> Result<Entry, RevFault>
+        ensures answer { Gives is_memory (λ entry. entry) result (entry_behind self.old.entries bytes.now) }
+        ensures taken { IfOk result (λ entry. self.new ≡ with_entry self.old entry) }
+    {
+        match self.take_fitting(bytes)? {
+            Some(entry) => Ok(entry),
+            None => {
+                let entry = self.next_entry(bytes)?;
+                match self.append(entry) {
+                    Ok(()) => Ok(entry),
+                    Err(fault) => Err(fault),
+                }
+            }
+        }
+    }
+
+    // Takes the entry that these bytes are as the next one, or answers none where it has a fault.
+    fn take_fitting(&mut self, bytes: &[u8; 64]) -> Result<Option<Entry>, RevFault>
+        ensures behind { IfOk result (λ fitting. IfSome fitting (λ entry. entry_behind self.old.entries bytes.now ≡ Ok entry)) }
+        ensures taken { IfOk result (λ fitting. IfSome fitting (λ entry. self.new ≡ with_entry self.old entry)) }
+        ensures kept { result ≡ Ok None → self.new ≡ self.old }
+        ensures err { IfErr result (λ fault. fault ≡ Memory) }
+    {
+        match self.fitting_entry(bytes) {
+            Some(entry) => {
+                if self.append_fresh(entry)? {
+                    Ok(Some(entry))
+                } else {
+                    Ok(None)
+                }
+            }
+            None => Ok(None),
+        }
+    }
+
+    // The entry that these bytes are as the next one, where all is right with it but that a revision may have its node.
+    fn fitting_entry(&self, bytes: &[u8; 64]) -> Option<Entry>
+        ensures few { IfSome result (λ entry. length self.now.entries < most_revisions) }
+        ensures faultless { IfSome result (λ entry. place_of self.now.entries entry.node.0 ≡ None → fault_of self.now.entries entry ≡ None) }
+        ensures behind { IfSome result (λ entry. place_of self.now.entries entry.node.0 ≡ None → entry_behind self.now.entries bytes.now ≡ Ok entry) }
+    {
+        let rev = self.len();
+        if rev >= MOST_REVISIONS {
+            return None;
+        }
+        match separate_entry(bytes, rev) {
+            Ok(entry) => { if self.fits(&entry) { Some(entry) } else { None } }
+            Err(_) => None,
+        }
+    }
+
+    // Whether an entry has no fault as the next one where no revision has its node.
+    fn fits(&self, entry: &Entry) -> bool
+        ensures { result ≡ true → place_of self.now.entries entry.now.node.0 ≡ None → fault_of self.now.entries entry.now ≡ None }
+    {
+        let rev = self.len();
+        if entry.offset != self.end || entry.size > MOST_TEXT {
+            return false;
+        }
+        if above(rev, entry.p1) || above(rev, entry.p2) || Node([0; 20]) == entry.node {
+            return false;
+        }
+        entry.offset + entry.stored as u64 <= MOST_DATA
+    }
+
+    // Takes an entry as the next one and answers true, or answers false where a revision has its node. Changes nothing else.
+    fn append_fresh(&mut self, entry: Entry) -> Result<bool, RevFault>
+        requires few { length self.old.entries < most_revisions }
+        requires faultless { place_of self.old.entries entry.node.0 ≡ None → fault_of self.old.entries entry ≡ None }
+        ensures fresh { result ≡ Ok true → place_of self.old.entries entry.node.0 ≡ None }
+        ensures taken { result ≡ Ok true → self.new ≡ with_entry self.old entry }
+        ensures kept { result ≡ Ok false → self.new ≡ self.old }
+        ensures err { IfErr result (λ fault. fault ≡ Memory) }
+    {
+        let rev = self.entries.len() as u32;
+        self.entries.push(entry)?;
+        match put_fresh(&mut self.revs, entry.node.0, rev) {
+            Ok(true) => {
+                self.end += entry.stored as u64;
+                Ok(true)
+            }
+            Ok(false) => {
+                self.entries.pop();
+                Ok(false)
             }
             Err(_) => {
                 self.entries.pop();

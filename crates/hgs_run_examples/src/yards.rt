@@ -4,7 +4,9 @@ use hgs_files::yard::{Left, Yard};
 use hgs_hub::hub::Hub;
 use hgs_mem::mem::MemFiles;
 use hgs_mem::streams::{MemSink, MemSource};
-use hgs_top::run::{Ran, run};
+use hgs_run::alone::run_alone;
+use hgs_run::ran::Ran;
+use hgs_top::words::asks_session;
 use hgs_verify::progress::Unseen;
 use std::alloc::Global;
 use std::sync::Wait;
@@ -33,8 +35,11 @@ pub(crate) fn run_over<R: Threads + Wait + Sync>(
     input: &mut MemSource,
     out: &mut MemSink,
 ) -> Result<(u8, MemFiles), Fail> {
+    if asks_session(words) {
+        return Err(Fail::new("these words are for workers"));
+    }
     let yard: Hub<Free, &R> = Hub::new(rt, files);
-    let Ran { status, left } = run(rt, alloc, words, yard, input, out, &mut Unseen);
+    let Ran { status, left } = run_alone(rt, alloc, words, yard, input, out, &mut Unseen);
     match left {
         Left::Whole(yard) => Ok((status, yard.alone().0)),
         Left::Parts(_, _) => Err(Fail::new("the ends are apart")),

@@ -1,0 +1,5 @@
+pub mod Calls
+pub mod Rules
+pub mod Desk
+pub mod Jobs
+pub mod Session

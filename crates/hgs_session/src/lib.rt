@@ -1,4 +1,13 @@
-//! Ends of shared files for workers that commit and ask at the same time.
+//! Sessions: workers that commit to a repository and ask it at the same time, over shared files.
 #![tactic(auto)]
 
+pub mod call;
+mod close;
+pub mod desk;
+pub mod gate;
+pub mod history;
 pub mod named;
+pub mod naming;
+mod room;
+pub mod session;
+pub mod worker;

@@ -1,29 +1,12 @@
 //! Ends of one start, which a type names: so what no call changes is known of an end wherever it comes back from.
-ghost use Rattle.std.specs.Prelude.{◌≡◌, List, ℕ, Option};
-ghost use Rattle.hgs_files.specs.declared.op.Op.{Op};
+ghost use Rattle.std.specs.Prelude.{◌≡◌};
 ghost use Rattle.hgs_files.specs.Ties.{told_of};
-ghost use Rattle.hgs_files.specs.Tree.{Tree};
 
+use crate::naming::Naming;
 use hgs_files::ends::{Follows, Leads, Told};
 use hgs_files::files::{Created, FileFault, Files, Reads};
 use hgs_files::path::StorePath;
 use std::marker::PhantomData;
-
-/// Names a start of shared files.
-pub trait Naming {
-    ghost use Rattle.std.specs.Prelude.{List, ℕ, Option};
-    ghost use Rattle.hgs_files.specs.declared.op.Op.{Op};
-    ghost use Rattle.hgs_files.specs.Tree.{Tree};
-
-    /// Which start it is.
-    ghost home: { List ℕ };
-
-    /// The log at rest before it, where that is told.
-    ghost earlier: { Option (List Op) };
-
-    /// The tree that this log starts from.
-    ghost earlier_start: { Tree };
-}
 
 /// A reading end of this start.
 #[derive(Drop)]

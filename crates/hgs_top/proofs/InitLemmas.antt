@@ -22,10 +22,15 @@ named = Rename new_requires_path requires_path
 begun : (done left : List Op) → IsDone (written ∷ []) done left → IsDone init_operations done (left ++ named ∷ [])
 begun done left h = done-behind (written ∷ []) (named ∷ []) done left h
 
+-- of what is left and the last operation behind it one is the next
+one_left : (done left : List Op) → IsDone init_operations done (left ++ named ∷ []) → (next : Op) × (rest : List Op) × IsDone init_operations done (next ∷ rest)
+one_left done [] h = (named, [], h)
+one_left done (next ∷ left) h = (next, left ++ named ∷ [], h)
+
 -- its first call was refused
 not_written : (fault : FileFault) (done : List Op) → LeavesPieces written (Err fault) done → LeavesInit (Err fault) done
-not_written Failed done h = (h.0 ++ named ∷ [], begun done h.0 h.1)
-not_written Memory done h = let P : List Op → Type 0 = λ d. (rest : List Op) × IsDone init_operations d rest in subst P (sym h) (init_operations, refl)
+not_written Failed done h = one_left done h.0 (begun done h.0 h.1)
+not_written Memory done h = let P : List Op → Type 0 = λ d. LeavesInit (Err Memory) d in subst P (sym h) (written, named ∷ [], refl)
 
 pub put_refused : (old new : Option (List Op)) (fault : FileFault) (put : Result Unit FileFault) → put ≡ Err fault → GoesOn old new (LeavesPieces written put) → GoesOn old new (LeavesInit (Err fault))
 put_refused None new fault put p h = h
@@ -50,8 +55,8 @@ ends put (Ok x) done h w =
     let P : List Op → Type 0 = λ d. IsDone init_operations (put ++ d) [] in
     subst P (sym w) (done-append init_operations put (named ∷ []) (named ∷ []) [] (begun put [] h) (done-whole named))
 ends put (Err e) done h w =
-    let P : List Op → Type 0 = λ d. (rest : List Op) × IsDone init_operations d rest in
-    subst P (sym (ap (λ d. put ++ d) w ∙ append-nil put)) (named ∷ [], begun put [] h)
+    let P : List Op → Type 0 = λ d. LeavesInit (Err e) d in
+    subst P (sym (ap (λ d. put ++ d) w ∙ append-nil put)) (named, [], begun put [] h)
 
 pub renamed_behind : (old mid new : Option (List Op)) (put renamed : Result Unit FileFault) → put ≡ Ok tt → GoesOn old mid (LeavesPieces written put) → GoesOn mid new (LeavesWhole named renamed) → GoesOn old new (LeavesInit renamed)
 renamed_behind None mid new put renamed p h w = let P : Option (List Op) → Type 0 = λ m. GoesOn m new (LeavesWhole named renamed) in subst P h w

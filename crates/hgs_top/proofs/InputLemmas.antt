@@ -1,8 +1,6 @@
 -- Bytes that are taken from an input, read after read.
-use Rattle.std.proofs.Common.{◌≡◌, ◌⊎◌, inl, inr, true, false, ℕ, ◌+◌, ◌<◌, ◌≤◌, List, [], ◌∷◌, ◌++◌, length, take, drop, Option, Some, None, IfSome, Result, refl, sym, ◌∙◌, ap, subst, arith, append_assoc, length-append}
-use Rattle.std.proofs.lemmas.List.{take_all, take_at, take-append-drop, length-take}
-use Rattle.std.proofs.Math.Dec.{leb}
-use Rattle.std.proofs.lemmas.Bool.Decides.{leb_tells}
+use Rattle.std.proofs.Common.{◌≡◌, ℕ, ◌+◌, ◌<◌, ◌≤◌, List, [], ◌∷◌, ◌++◌, length, take, Option, Some, None, IfSome, Result, refl, sym, ◌∙◌, ap, subst, arith, append_assoc, length-append}
+use Rattle.std.proofs.lemmas.List.{take_all, take_at}
 use Rattle.hgs_files.specs.Streams.{IsTaken}
 use Rattle.hgs_input.specs.Record.{most_input}
 use Rattle.hgs_bytes.specs.Answer.{Gives}
@@ -13,6 +11,7 @@ use Rattle.hgs_schedule.specs.Read.{read_schedule}
 use Rattle.hgs_schedule.specs.declared.event.Schedule.{Schedule}
 use Rattle.hgs_top.specs.Orders.{Gave}
 use Rattle.hgs_top.specs.Play.{GaveSchedule}
+use Rattle.hgs_top.specs.Theorems.Inputs.{looked_at_decides}
 
 -- all of these bytes were taken from what was left at first
 abbrev pub AreTaken : Option (List ℕ) → Option (List ℕ) → List ℕ → Type 0
@@ -49,17 +48,6 @@ all_taken (Some all) now next bytes front more most h t e z some few =
     let whole : all ≡ more = h.2 ∙ ap (λ l. bytes ++ l) (u.3 some f ∙ sym f) ∙ sym e in
     let size = ap length e ∙ length-append bytes front in
     sym (ap (take (most_input + 1)) whole ∙ take_all (most_input + 1) more (omega (arith, size, z, few)))
-
--- what is looked at of an input decides what it is read as
-pub looked_at_decides : {A : Type 0} (read : List ℕ → A) → ((front more : List ℕ) → most_input < length front → read (front ++ more) ≡ read front) → (bytes : List ℕ) → read (take (most_input + 1) bytes) ≡ read bytes
-looked_at_decides read long bytes = by (leb_tells (length bytes) (most_input + 1))
-  where
-    by : ((leb (length bytes) (most_input + 1) ≡ true) × (length bytes ≤ most_input + 1)) ⊎ ((leb (length bytes) (most_input + 1) ≡ false) × (most_input + 1 < length bytes)) → read (take (most_input + 1) bytes) ≡ read bytes
-    by (inl few) = ap read (take_all (most_input + 1) bytes few.1)
-    by (inr many) =
-        let l = length-take (most_input + 1) bytes in
-        let some = many.1 in
-        sym (ap read (sym (take-append-drop (most_input + 1) bytes)) ∙ long (take (most_input + 1) bytes) (drop (most_input + 1) bytes) (omega (arith, l, some)))
 
 pub gave : ((front more : List ℕ) → most_input < length front → read_record (front ++ more) ≡ read_record front) → (left : Option (List ℕ)) (bytes : List ℕ) (given : Result NewChange InputFault) → IfSome left (λ all. bytes ≡ take (most_input + 1) all) → Gives is_memory (λ change. change) given (read_record bytes) → Gave left given
 gave long None bytes given e h = tt

@@ -9,6 +9,7 @@ pub mod HistoryLemmas
 pub mod IndexLemmas
 pub mod InitLemmas
 pub mod InputLemmas
+pub mod LeftLemmas
 pub mod ListingLemmas
 pub mod LogLemmas
 pub mod OpenLemmas

@@ -32,19 +32,19 @@ module _ (taken : Taken) (words : List (List ℕ)) (job : Job) (bytes : List ℕ
   by-end (NotMade fault) comes = absurd (subst IsWriting comes.0 writing)
   by-end NoInput comes = unchanged comes.1
   by-end (NoRecord fault) comes = unchanged comes.2
-  by-end (Refused refusal) comes = unchanged comes.1
+  by-end (Refused refusal) comes = unchanged comes.3
   by-end (Answered command answer) comes =
       let history = taken.answered job (Some bytes) log new start r command answer stands (taken.valid words job bytes command asked comes.0) (needs command comes.0) comes in
       (history.0, history.1, history.2.pieces)
   by-end (Recovered done) comes = absurd (subst IsWriting comes.0 writing)
 
-obeyed : (taken : Taken) (words : List (List ℕ)) (bytes : List ℕ) (log : List Op) (new : Option (List Op)) (start : Tree) (request : Result Request ℕ) (status : ℕ) (written_old written_new : Option (List ℕ)) → request_of_words words ≡ request
-    → Obeys request (Some bytes) (Some log) new start status written_old written_new → (job : Job) → request ≡ Ok (to_do job) → IsWriting job → MakesPieces job bytes log new start
-obeyed taken words bytes log new start request status written_old written_new is obeys job e writing = λ r stands needs.
-    let does = subst (λ (q : Result Request ℕ). Obeys q (Some bytes) (Some log) new start status written_old written_new) e obeys in
+obeyed : (taken : Taken) (words : List (List ℕ)) (bytes : List ℕ) (log : List Op) (new : Option (List Op)) (start : Tree) (request : Result Request ℕ) (status : ℕ) (written_old written_new : Option (List ℕ)) (Cause : Type 0) → request_of_words words ≡ request
+    → Obeys Cause request (Some bytes) (Some log) new start status written_old written_new → (job : Job) → request ≡ Ok (to_do job) → IsWriting job → MakesPieces job bytes log new start
+obeyed taken words bytes log new start request status written_old written_new Cause is obeys job e writing = λ r stands needs.
+    let does = subst (λ (q : Result Request ℕ). Obeys Cause q (Some bytes) (Some log) new start status written_old written_new) e obeys in
     by-end taken words job bytes log new start (is ∙ e) writing r stands needs does.0 does.1
 
-pub made : (taken : Taken) (words : List (List ℕ)) (left : Option (List ℕ)) (old new : Option (List Op)) (start : Tree) (status : ℕ) (written_old written_new : Option (List ℕ)) → Obeys (request_of_words words) left old new start status written_old written_new → MakesHistory words left old new start
-made taken words None old new start status written_old written_new obeys = tt
-made taken words (Some bytes) None new start status written_old written_new obeys = tt
-made taken words (Some bytes) (Some log) new start status written_old written_new obeys = obeyed taken words bytes log new start (request_of_words words) status written_old written_new refl obeys
+pub made : (taken : Taken) (words : List (List ℕ)) (left : Option (List ℕ)) (old new : Option (List Op)) (start : Tree) (status : ℕ) (written_old written_new : Option (List ℕ)) (Cause : Type 0) → Obeys Cause (request_of_words words) left old new start status written_old written_new → MakesHistory words left old new start
+made taken words None old new start status written_old written_new Cause obeys = tt
+made taken words (Some bytes) None new start status written_old written_new Cause obeys = tt
+made taken words (Some bytes) (Some log) new start status written_old written_new Cause obeys = obeyed taken words bytes log new start (request_of_words words) status written_old written_new Cause refl obeys

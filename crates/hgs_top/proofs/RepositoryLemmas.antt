@@ -22,7 +22,7 @@ use Rattle.hgs_top.specs.declared.listing.Listing.TheVariants.{Heads, Bookmarks,
 use Rattle.hgs_top.specs.Outcome.{Outcome, Reply, Subject, told, its_files, its_file, its_phase, line_then, lines_down, log_of_view, log_outcome, listing_of_load, contents_of_load, contents_of_rev, contents_reply, phase_text as text_of_phase, text_outcome}
 use Rattle.hgs_top.specs.Repository.{body_reply, of_named, reply_of, said, SaysOfRepository}
 use Rattle.hgs_top.specs.Run.{OfReply, Replied, Says, reply_to}
-use Rattle.hgs_top.specs.Words.{Request, to_answer, to_do, to_play, to_verify, to_generate, Question, ask_page, ask_log, ask_heads, ask_bookmarks, ask_parents, ask_files, ask_cat, ask_phase}
+use Rattle.hgs_top.specs.Words.{Request, to_answer, to_do, to_play, to_session, to_verify, to_generate, Question, ask_page, ask_log, ask_heads, ask_bookmarks, ask_parents, ask_files, ask_cat, ask_phase}
 
 -- what the crates below say of the answers
 pub record Laws : Type 0 where
@@ -153,6 +153,7 @@ pub says-of : ((t : Tree) (r : Repo) → IsReadable t r → (question : Question
 says-of law Faulted (Err place) log start status old new h = tt
 says-of law Faulted (Ok (to_do job)) log start status old new h = tt
 says-of law Faulted (Ok to_play) log start status old new h = tt
+says-of law Faulted (Ok to_session) log start status old new h = tt
 says-of law Faulted (Ok (to_verify jobs)) log start status old new h = tt
 says-of law Faulted (Ok (to_generate seed count)) log start status old new h = tt
 says-of law Faulted (Ok (to_answer question)) None start status old new h = tt

@@ -64,4 +64,4 @@ pub told-whole : (Faulted : Type 0) (log : List Op) (start : Tree) (status : ℕ
 told-whole Faulted log start status old new (inl t) h =
     let whole = line-whole status (report_text t.1 t.2 t.3) (report_status t.1) old new h t.5 in
     (t.1, t.2, t.3, t.4, whole.0, whole.1)
-told-whole Faulted log start status old new (inr r) h = absurd (not-refused status r.0 h (line-whole status (refusal_line r.0) (status_of r.0) old new h r.3).0)
+told-whole Faulted log start status old new (inr r) h = absurd (not-refused status r.0 h (line-whole status (refusal_line r.0) (status_of r.0) old new h r.4).0)

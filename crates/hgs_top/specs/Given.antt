@@ -10,7 +10,7 @@ use Rattle.hgs_load.specs.View.{View}
 use Rattle.hgs_reader.specs.Names.{named}
 use Rattle.hgs_top.specs.Outcome.{Subject, its_files, its_file, its_phase, contents_asks}
 use Rattle.hgs_top.specs.Windows.{lines_reads}
-use Rattle.hgs_top.specs.Words.{Question, ask_page, ask_log, ask_heads, ask_bookmarks, ask_parents, ask_files, ask_cat, ask_phase, Request, to_answer, to_do, to_play, to_verify, to_generate}
+use Rattle.hgs_top.specs.Words.{Question, ask_page, ask_log, ask_heads, ask_bookmarks, ask_parents, ask_files, ask_cat, ask_phase, Request, to_answer, to_do, to_play, to_session, to_verify, to_generate}
 
 abbrev pub log_reads : Asks (Result Unit ReadAnswer)
 log_reads = then_asks open_asks (λ view. lines_reads view (length view.changelog.entries))
@@ -45,6 +45,7 @@ abbrev pub ReadsAsked : Result Request ℕ → ℕ → ℕ → Option (List Op) 
 ReadsAsked (Ok (to_answer question)) given_old given_new before start after = ReadsOnly given_old given_new before start after (question_reads question)
 ReadsAsked (Ok (to_do job)) given_old given_new before start after = ⊤
 ReadsAsked (Ok to_play) given_old given_new before start after = given_new ≡ given_old
+ReadsAsked (Ok to_session) given_old given_new before start after = ⊤
 ReadsAsked (Ok (to_verify jobs)) given_old given_new before start after = ⊤
 ReadsAsked (Ok (to_generate seed count)) given_old given_new before start after = ⊤
 ReadsAsked (Err place) given_old given_new before start after = given_new ≡ given_old

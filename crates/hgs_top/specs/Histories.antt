@@ -2,7 +2,7 @@
 use Rattle.std.specs.Prelude.{◌≡◌, ◌++◌, List, Option, Some, ℕ, Ok, IfSome, ⊤}
 use Rattle.hgs_answers.specs.declared.outcome.Outcome.{Outcome}
 use Rattle.hgs_files.specs.declared.op.Op.{Op}
-use Rattle.hgs_files.specs.Stop.{StopLeaves}
+use Rattle.hgs_files.specs.Stop.{IsStopped}
 use Rattle.hgs_files.specs.Tree.{Tree, after_all}
 use Rattle.hgs_legal.specs.Pieces.{Pieces}
 use Rattle.hgs_model.specs.Repo.{Repo}
@@ -14,11 +14,11 @@ use Rattle.hgs_top.specs.Orders.{IsCommandOf}
 use Rattle.hgs_top.specs.Words.{Job, do_init, do_commit, do_recover, do_move, do_mark, do_unmark, request_of_words, to_do}
 
 -- The operations are pieces of a legal log; behind them the tree stands for what the answer says; and wherever they are stopped it
--- stands for the repository before, or is open for it, or stands for the next one.
+-- stands for the repository before or is open for it, or, where what was done leads on, it stands for the next one.
 pub record IsHistoryOf (t : Tree) (r : Repo) (command : Command) (outcome : Outcome) (done : List Op) : Type 0 where
   pub pieces : Pieces t r done
   pub answered : IsAnswered r (step r command) outcome (after_all done t)
-  pub stops : (u : Tree) → StopLeaves t done u → IsStopOf r (step r command) u
+  pub stops : (d : List Op) → IsStopped done d → IsStopOf t r (step r command) d
 
 -- The log went on by such operations.
 abbrev pub GoesOnAs : List Op → Option (List Op) → Tree → Repo → Command → Outcome → Type 0

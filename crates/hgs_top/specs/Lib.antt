@@ -11,3 +11,4 @@ pub mod Run
 pub mod Verified
 pub mod Windows
 pub mod Words
+pub mod Theorems

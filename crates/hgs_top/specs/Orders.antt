@@ -1,5 +1,5 @@
 -- What a command that changes files comes to, and what it leaves.
-use Rattle.std.specs.Prelude.{◌≡◌, ◌≤◌, ◌⊎◌, ℕ, List, [], ◌∷◌, ◌++◌, Option, None, Result, Ok, Err, IfSome, IsSome, codes, decimal, ⊤, true}
+use Rattle.std.specs.Prelude.{◌≡◌, ◌≤◌, ◌⊎◌, ℕ, false, List, [], ◌∷◌, ◌++◌, Option, None, Result, Ok, Err, IfSome, IsSome, codes, decimal, ⊤, true}
 use Rattle.hgs_answers.specs.Answer.{answer_text, status_of as answer_status}
 use Rattle.hgs_answers.specs.declared.answer.Answer.{Answer}
 use Rattle.hgs_answers.specs.declared.outcome.Outcome.{Outcome}
@@ -48,7 +48,7 @@ use Rattle.hgs_index.specs.declared.node.Node.{Node}
 use Rattle.hgs_load.specs.Requirements.{requires_answer}
 use Rattle.hgs_top.specs.Run.{EndsLine, OfTree, RefusesReport, memory_line}
 use Rattle.hgs_top.specs.Verified.{report_status, summary_text}
-use Rattle.hgs_top.specs.Words.{Job, do_init, do_commit, do_recover, do_move, do_mark, do_unmark, Request, to_answer, to_do, to_play, to_verify, to_generate}
+use Rattle.hgs_top.specs.Words.{Job, do_init, do_commit, do_recover, do_move, do_mark, do_unmark, Request, to_answer, to_do, to_play, to_session, to_verify, to_generate}
 
 -- a bookmark's name is one that a bookmark can have
 abbrev pub IsFit : Order → Type 0
@@ -63,6 +63,7 @@ abbrev pub IsFitting : Asked → Type 0
 IsFitting (asked.Question command) = ⊤
 IsFitting (asked.Order order) = IsFit order
 IsFitting asked.Play = ⊤
+IsFitting asked.Session = ⊤
 IsFitting (asked.Verify jobs) = (1 ≤ jobs) × (jobs ≤ 64)
 IsFitting (asked.Generate seed count) = (1 ≤ count) × (count ≤ 5000)
 
@@ -116,10 +117,10 @@ new_requires_path = codes "journal.new.requires"
 abbrev pub init_operations : List Op
 init_operations = Create new_requires_path new_requires ∷ Rename new_requires_path requires_path ∷ []
 
--- what making a repository leaves: all of it, or a part where a call was refused
+-- what making a repository leaves: all of it, or what was done before a call that was refused
 abbrev pub LeavesInit : Result Unit FileFault → List Op → Type 0
 LeavesInit (Ok x) done = IsDone init_operations done []
-LeavesInit (Err e) done = (rest : List Op) × IsDone init_operations done rest
+LeavesInit (Err e) done = (next : Op) × (rest : List Op) × IsDone init_operations done (next ∷ rest)
 
 -- ---- what a command comes to
 
@@ -145,15 +146,15 @@ abbrev pub IsAllowed : Command → Option (List Op) → Option (List Op) → Tre
 IsAllowed command old new start (Ok answer) = OfTree old start (λ t. required_in t ≡ Ok tt) × GoesOn old new (IsWritten lock_text command (tree_now old start) answer)
 IsAllowed command old new start (Err refusal) = OfTree old start (λ t. Gives is_of_outside (λ x. x) (Err refusal) (required_in t)) × (new ≡ old)
 
--- What a command came to of these files, and what it did to them. A repository is made only where none stands. An input that failed or is no record, and
--- what `requires` says, are looked at before a file is changed. What a writer does, and what recovering does, is what the contracts of these calls say.
+-- What a command came to of these files, and what it did to them. A repository is made only where none stands, and where it is not
+-- made, not all was done. An input that failed or is no record, and then what `requires` says, are looked at before a file is changed. What a writer does, and what recovering does, is what the contracts of these calls say.
 abbrev pub ComesTo : Job → Option (List ℕ) → Option (List Op) → Option (List Op) → Tree → Ended → Type 0
 ComesTo job left old new start Made = (job ≡ do_init) × OfTree old start (λ t. t requires_path ≡ None) × GoesOn old new (λ ops. IsDone init_operations ops [])
 ComesTo job left old new start Exists = (job ≡ do_init) × OfTree old start (λ t. IsSome (t requires_path)) × (new ≡ old)
-ComesTo job left old new start (NotMade fault) = (job ≡ do_init) × GoesOn old new (λ ops. (rest : List Op) × IsDone init_operations ops rest)
+ComesTo job left old new start (NotMade fault) = (job ≡ do_init) × ((new ≡ old) ⊎ (OfTree old start (λ t. t requires_path ≡ None) × GoesOn old new (LeavesInit (Err fault))))
 ComesTo job left old new start NoInput = (job ≡ do_commit) × (new ≡ old)
 ComesTo job left old new start (NoRecord fault) = (job ≡ do_commit) × Gave left (Err fault) × (new ≡ old)
-ComesTo job left old new start (Refused refusal) = OfTree old start (λ t. Gives is_of_outside (λ x. x) (Err refusal) (required_in t)) × (new ≡ old)
+ComesTo job left old new start (Refused refusal) = (command : Command) × IsCommandOf job left command × OfTree old start (λ t. Gives is_of_outside (λ x. x) (Err refusal) (required_in t)) × (new ≡ old)
 ComesTo job left old new start (Answered command answer) = IsCommandOf job left command × OfTree old start (λ t. required_in t ≡ Ok tt) × GoesOn old new (IsWritten lock_text command (tree_now old start) answer)
 ComesTo job left old new start (Recovered r) =
     (job ≡ do_recover) × IfSome old (λ log. Answers (answer_in (after_all log start)) r.outcome) × GoesOn old new (RecoversBy (tree_now old start) r.outcome r.swept)
@@ -184,10 +185,16 @@ HasCause faults_old faults_new denied_old denied_new input_old input_new (Refuse
 HasCause faults_old faults_new denied_old denied_new input_old input_new (Answered command answer) = AnswerHasCause faults_old faults_new denied_old denied_new answer.outcome
 HasCause faults_old faults_new denied_old denied_new input_old input_new (Recovered r) = RecoveredHasCause faults_old faults_new denied_old denied_new r.outcome
 
+-- A command that says that files are left over does so only where this was so.
+abbrev pub LeftHasCause : Type 0 → Ended → Type 0
+LeftHasCause Cause (Answered command answer) = answer.swept ≡ false → Cause
+LeftHasCause Cause (Recovered r) = r.swept ≡ false → Cause
+LeftHasCause Cause ended = ⊤
+
 -- a run that does a job says what it came to
-abbrev pub Does : Job → Option (List ℕ) → Option (List Op) → Option (List Op) → Tree → ℕ → Option (List ℕ) → Option (List ℕ) → Type 0
-Does job left old new start status written_old written_new =
-    (ended : Ended) × ComesTo job left old new start ended × EndsLine (ended_text ended) (ended_status ended) status written_old written_new
+abbrev pub Does : Type 0 → Job → Option (List ℕ) → Option (List Op) → Option (List Op) → Tree → ℕ → Option (List ℕ) → Option (List ℕ) → Type 0
+Does Cause job left old new start status written_old written_new =
+    (ended : Ended) × ComesTo job left old new start ended × LeftHasCause Cause ended × EndsLine (ended_text ended) (ended_status ended) status written_old written_new
 
 -- ---- a generated repository
 
@@ -198,7 +205,7 @@ TellsSummary tip status written_old written_new t =
     × (findings : List Finding) × (changesets : ℕ) × (filelogs : ℕ) × IsReport t findings changesets filelogs × EndsLine (summary_text findings changesets filelogs tip) (report_status findings) status written_old written_new
 
 abbrev pub Summarizes : Node → Option (List Op) → Tree → ℕ → Option (List ℕ) → Option (List ℕ) → Type 0
-Summarizes tip log start status written_old written_new = OfTree log start (TellsSummary tip status written_old written_new) ⊎ RefusesReport ⊤ status written_old written_new
+Summarizes tip log start status written_old written_new = OfTree log start (TellsSummary tip status written_old written_new) ⊎ RefusesReport ⊤ log start status written_old written_new
 
 -- what is said of the commits: where all are done, what they came to; else the answer of the one that is not
 abbrev pub TellsGrown : Result Node Stop → Option (List Op) → Tree → ℕ → Option (List ℕ) → Option (List ℕ) → Type 0
@@ -221,14 +228,16 @@ Generates seed count old new start status written_old written_new =
     ((ended : Ended) × ComesTo do_init None old new start ended × IsNotMade ended × EndsLine (ended_text ended) (ended_status ended) status written_old written_new)
     ⊎ ((made : Option (List Op)) × ComesTo do_init None old made start Made × Grows seed count made new start status written_old written_new)
 
--- A run that has something to do does it; a question, and words that don't fit, change no file.
-abbrev pub Obeys : Result Request ℕ → Option (List ℕ) → Option (List Op) → Option (List Op) → Tree → ℕ → Option (List ℕ) → Option (List ℕ) → Type 0
-Obeys (Ok (to_do job)) left old new start status written_old written_new = Does job left old new start status written_old written_new
-Obeys (Ok (to_answer question)) left old new start status written_old written_new = new ≡ old
-Obeys (Ok to_play) left old new start status written_old written_new = new ≡ old
-Obeys (Ok (to_verify jobs)) left old new start status written_old written_new = new ≡ old
-Obeys (Ok (to_generate seed count)) left old new start status written_old written_new = Generates seed count old new start status written_old written_new
-Obeys (Err place) left old new start status written_old written_new = new ≡ old
+-- A run that has something to do does it; a question, and words that don't fit, change no file. Files are left over only where this
+-- cause was there.
+abbrev pub Obeys : Type 0 → Result Request ℕ → Option (List ℕ) → Option (List Op) → Option (List Op) → Tree → ℕ → Option (List ℕ) → Option (List ℕ) → Type 0
+Obeys Cause (Ok (to_do job)) left old new start status written_old written_new = Does Cause job left old new start status written_old written_new
+Obeys Cause (Ok (to_answer question)) left old new start status written_old written_new = new ≡ old
+Obeys Cause (Ok to_play) left old new start status written_old written_new = new ≡ old
+Obeys Cause (Ok to_session) left old new start status written_old written_new = ⊤
+Obeys Cause (Ok (to_verify jobs)) left old new start status written_old written_new = new ≡ old
+Obeys Cause (Ok (to_generate seed count)) left old new start status written_old written_new = Generates seed count old new start status written_old written_new
+Obeys Cause (Err place) left old new start status written_old written_new = new ≡ old
 
 -- only a commit reads the input
 abbrev pub LeavesInput : Job → Option (List ℕ) → Option (List ℕ) → ℕ → ℕ → Type 0
@@ -239,6 +248,7 @@ abbrev pub KeepsInput : Result Request ℕ → Option (List ℕ) → Option (Lis
 KeepsInput (Ok (to_do job)) old new faults_old faults_new = LeavesInput job old new faults_old faults_new
 KeepsInput (Ok (to_answer question)) old new faults_old faults_new = (new ≡ old) × (faults_new ≡ faults_old)
 KeepsInput (Ok to_play) old new faults_old faults_new = ⊤
+KeepsInput (Ok to_session) old new faults_old faults_new = ⊤
 KeepsInput (Ok (to_verify jobs)) old new faults_old faults_new = (new ≡ old) × (faults_new ≡ faults_old)
 KeepsInput (Ok (to_generate seed count)) old new faults_old faults_new = (new ≡ old) × (faults_new ≡ faults_old)
 KeepsInput (Err place) old new faults_old faults_new = (new ≡ old) × (faults_new ≡ faults_old)

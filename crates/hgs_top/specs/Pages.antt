@@ -28,6 +28,7 @@ page_lines Help =
     codes "  gen SEED COUNT             makes a repository of changesets that a number gives, and verifies it" ∷
     codes "  recover                    undoes a transaction that was left unfinished" ∷
     codes "  play                       plays the schedule on standard input, in memory" ∷
+    codes "  session                    runs the script on standard input, with its workers at the same time" ∷
     codes "  --help                     this page" ∷
     codes "  --version                  the program, and the kit that it is proved with" ∷
     codes "" ∷
@@ -41,7 +42,7 @@ page_lines Help =
     codes "  11  an earlier transaction was left unfinished" ∷
     codes "  12  no changeset has the name" ∷
     codes "  13  nothing would change" ∷
-    codes "  14  the input is no record, or no schedule" ∷
+    codes "  14  the input is no record, no schedule or no script" ∷
     codes "  15  a file does not hold what it should" ∷
     codes "  16  the system failed a call on a file" ∷
     codes "  17  the transaction was left unfinished: see recover" ∷
@@ -61,7 +62,7 @@ page_lines Help =
     codes "  34  a file that is not the store's is in the way" ∷
     codes "" ∷
     codes "More: man hg_store, and docs/ANSWERS.md." ∷ []
-page_lines Version = codes "hg_store 0.1, proved with rattle-kit-13b logic dac8208d650f15bf" ∷ []
+page_lines Version = codes "hg_store 0.1, proved with rattle-kit-13f logic dac8208d650f15bf" ∷ []
 
 abbrev pub page_text : Page → List ℕ
 page_text page = lines (page_lines page)

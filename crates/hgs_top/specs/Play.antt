@@ -9,7 +9,7 @@ use Rattle.hgs_schedule.specs.declared.event.Event.{Event}
 use Rattle.hgs_schedule.specs.declared.event.Schedule.{Schedule}
 use Rattle.hgs_top.specs.Orders.{ended_status, ended_text}
 use Rattle.hgs_top.specs.Run.{EndsLine, IsCut, memory_line}
-use Rattle.hgs_top.specs.Words.{Request, to_answer, to_do, to_play, to_verify, to_generate}
+use Rattle.hgs_top.specs.Words.{Request, to_answer, to_do, to_play, to_session, to_verify, to_generate}
 use Rattle.hgs_top.specs.declared.ended.Ended.TheVariants.{NoInput, NoRecord}
 use Rattle.hgs_world.specs.Plays.{PlaysTo}
 
@@ -46,6 +46,7 @@ PlaysInput left status old new =
 -- A run that plays writes what the schedule on its input gives.
 abbrev pub PlaysAsked : Result Request ℕ → Option (List ℕ) → ℕ → Option (List ℕ) → Option (List ℕ) → Type 0
 PlaysAsked (Ok to_play) left status old new = PlaysInput left status old new
+PlaysAsked (Ok to_session) left status old new = ⊤
 PlaysAsked (Ok (to_answer question)) left status old new = ⊤
 PlaysAsked (Ok (to_do job)) left status old new = ⊤
 PlaysAsked (Ok (to_verify jobs)) left status old new = ⊤

@@ -9,7 +9,7 @@ use Rattle.hgs_shown.specs.Answers.{IsReadable, body_at, bookmarks_text, files_t
 use Rattle.hgs_top.specs.Outcome.{Reply, told, unknown_revision, refused}
 use Rattle.hgs_top.specs.Pages.{page_outcome}
 use Rattle.hgs_top.specs.Run.{OfTree, Replied}
-use Rattle.hgs_top.specs.Words.{Question, ask_page, ask_log, ask_heads, ask_bookmarks, ask_parents, ask_files, ask_cat, ask_phase, Request, to_answer, to_do, to_play, to_verify, to_generate}
+use Rattle.hgs_top.specs.Words.{Question, ask_page, ask_log, ask_heads, ask_bookmarks, ask_parents, ask_files, ask_cat, ask_phase, Request, to_answer, to_do, to_play, to_session, to_verify, to_generate}
 
 -- the whole of a text
 abbrev pub said : List ℕ → Reply
@@ -39,6 +39,7 @@ abbrev pub SaysOfRepository : Type 0 → Result Request ℕ → Option (List Op)
 SaysOfRepository Faulted (Ok (to_answer question)) log start status old new = OfTree log start (λ t. (r : Repo) → IsReadable t r → Replied Faulted (reply_of r question) status old new)
 SaysOfRepository Faulted (Ok (to_do job)) log start status old new = ⊤
 SaysOfRepository Faulted (Ok to_play) log start status old new = ⊤
+SaysOfRepository Faulted (Ok to_session) log start status old new = ⊤
 SaysOfRepository Faulted (Ok (to_verify jobs)) log start status old new = ⊤
 SaysOfRepository Faulted (Ok (to_generate seed count)) log start status old new = ⊤
 SaysOfRepository Faulted (Err place) log start status old new = ⊤

@@ -16,11 +16,11 @@ use Rattle.hgs_top.specs.declared.stopped.Said.TheVariants.{Whole, UnknownRevisi
 use Rattle.hgs_top.specs.Outcome.{Outcome, Reply, told, unknown_revision, its_files, its_file, its_phase, log_outcome, listing_outcome, contents_reply}
 use Rattle.hgs_top.specs.declared.listing.Listing.TheVariants.{Heads, Bookmarks, Parents}
 use Rattle.hgs_top.specs.Pages.{page_outcome}
-use Rattle.hgs_top.specs.Words.{Question, ask_page, ask_log, ask_heads, ask_bookmarks, ask_parents, ask_files, ask_cat, ask_phase, Request, to_answer, to_do, to_play, to_verify, to_generate}
+use Rattle.hgs_top.specs.Words.{Question, ask_page, ask_log, ask_heads, ask_bookmarks, ask_parents, ask_files, ask_cat, ask_phase, Request, to_answer, to_do, to_play, to_session, to_verify, to_generate}
 use Rattle.hgs_findings.specs.Findings.{Finding, IsReport}
 use Rattle.hgs_load.specs.Open.{requires_path}
 use Rattle.hgs_load.specs.Requirements.{requires_answer}
-use Rattle.hgs_verify.specs.Refusal.{is_refusal}
+use Rattle.hgs_verify.specs.Refusal.{is_refusal, IsWhy}
 use Rattle.hgs_top.specs.Verified.{report_status, report_text}
 
 -- a front of these bytes was written at the end
@@ -166,18 +166,20 @@ TellsReport status old new t =
     × (findings : List Finding) × (changesets : ℕ) × (filelogs : ℕ) × IsReport t findings changesets filelogs × EndsLine (report_text findings changesets filelogs) (report_status findings) status old new
 
 -- No report was made: the files failed, one passes a limit, no repository of the profile stands here, or there was no memory.
-abbrev pub RefusesReport : Type 0 → ℕ → Option (List ℕ) → Option (List ℕ) → Type 0
-RefusesReport Faulted status old new = (refusal : ReadAnswer) × (is_refusal refusal ≡ true) × (refusal ≡ Fault → Faulted) × EndsLine (refusal_line refusal) (status_of refusal) status old new
+abbrev pub RefusesReport : Type 0 → Option (List Op) → Tree → ℕ → Option (List ℕ) → Option (List ℕ) → Type 0
+RefusesReport Faulted log start status old new =
+    (refusal : ReadAnswer) × (is_refusal refusal ≡ true) × (refusal ≡ Fault → Faulted) × OfTree log start (IsWhy refusal) × EndsLine (refusal_line refusal) (status_of refusal) status old new
 
 -- A run that verifies tells the report of the tree that the log leads to, where it is told, or why there is none.
 abbrev pub Verifies : Type 0 → Option (List Op) → Tree → ℕ → Option (List ℕ) → Option (List ℕ) → Type 0
-Verifies Faulted log start status old new = OfTree log start (TellsReport status old new) ⊎ RefusesReport Faulted status old new
+Verifies Faulted log start status old new = OfTree log start (TellsReport status old new) ⊎ RefusesReport Faulted log start status old new
 
 -- What a run leaves in the sink that answers a question or verifies, or whose words don't fit, by whether the files failed.
 abbrev pub Says : Type 0 → Result Request ℕ → Option (List Op) → Tree → ℕ → Option (List ℕ) → Option (List ℕ) → Type 0
 Says Faulted (Ok (to_answer question)) log start status old new = OfReply question log start (λ reply. Replied Faulted reply status old new)
 Says Faulted (Ok (to_do job)) log start status old new = ⊤
 Says Faulted (Ok to_play) log start status old new = ⊤
+Says Faulted (Ok to_session) log start status old new = ⊤
 Says Faulted (Ok (to_verify jobs)) log start status old new = Verifies Faulted log start status old new
 Says Faulted (Ok (to_generate seed count)) log start status old new = ⊤
 Says Faulted (Err place) log start status old new = SaysBadWord place status old new

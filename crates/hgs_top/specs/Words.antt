@@ -96,6 +96,7 @@ pub data Request : Type 0 where
   to_answer : Question → Request
   to_do : Job → Request
   to_play : Request
+  to_session : Request
   to_verify : ℕ → Request
   to_generate : ℕ → ℕ → Request
 
@@ -121,8 +122,14 @@ abbrev pub request_of : Asked → Request
 request_of (asked.Question command) = to_answer (question_of command)
 request_of (asked.Order order) = to_do (job_of order)
 request_of asked.Play = to_play
+request_of asked.Session = to_session
 request_of (asked.Verify jobs) = to_verify jobs
 request_of (asked.Generate seed count) = to_generate seed count
+
+-- whether workers are asked for, who need more than files at rest
+abbrev pub is_session : Result Request ℕ → Bool
+is_session (Ok to_session) = true
+is_session asked = false
 
 -- the request with these operands
 abbrev pub asked_with : (List (List ℕ) → Request) → Result (List (List ℕ)) ℕ → Result Request ℕ
@@ -143,6 +150,7 @@ alone_named name =
     else if same name (codes "commit") then Some (to_do do_commit)
     else if same name (codes "recover") then Some (to_do do_recover)
     else if same name (codes "play") then Some to_play
+    else if same name (codes "session") then Some to_session
     else None
 
 -- the words behind this one, where it stands first

@@ -22,8 +22,8 @@ use hgs_load::answer::ReadAnswer;
 use hgs_plan::print::push_number;
 use std::alloc::{AllocError, Global};
 
-// The line of want of memory, which takes none.
-pub(crate) const OUT_OF_MEMORY: &[u8; 21] = b"abort: out of memory\n";
+/// The line of want of memory, which takes none.
+pub const OUT_OF_MEMORY: &[u8; 21] = b"abort: out of memory\n";
 
 // The status of a sink that takes no more.
 pub(crate) fn status_of_fault(fault: IoFault) -> u8
@@ -36,7 +36,7 @@ pub(crate) fn status_of_fault(fault: IoFault) -> u8
 }
 
 /// Writes the last line of a run, and gives the status.
-pub(crate) fn end_with<K: Sink>(out: &mut K, line: &[u8], status: u8) -> u8
+pub fn end_with<K: Sink>(out: &mut K, line: &[u8], status: u8) -> u8
     ensures line { EndsLine line.now status result (K.written out.old) (K.written out.new) }
     ensures later { K.faults out.old ≤ K.faults out.new }
     ensures sink { status ≢ 19 → result ≡ 19 → Rose (K.faults out.old) (K.faults out.new) }
@@ -69,8 +69,8 @@ pub fn refuse_words<K: Sink>(alloc: Global, place: usize, out: &mut K) -> u8
     }
 }
 
-// Writes the line of a refusal, and gives the status.
-pub(crate) fn refuse<K: Sink>(alloc: Global, refusal: &ReadAnswer, out: &mut K) -> u8
+/// Writes the line of a refusal, and gives the status.
+pub fn refuse<K: Sink>(alloc: Global, refusal: &ReadAnswer, out: &mut K) -> u8
     ensures line { EndsLine (refusal_line refusal.now) (status_of refusal.now) result (K.written out.old) (K.written out.new) }
     ensures later { K.faults out.old ≤ K.faults out.new }
     ensures sink { result ≡ 19 → Rose (K.faults out.old) (K.faults out.new) }

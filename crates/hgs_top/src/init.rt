@@ -6,7 +6,7 @@ ghost use Rattle.hgs_files.specs.declared.files.FileFault.TheVariants.{Failed};
 ghost use Rattle.hgs_files.specs.declared.op.Op.{Op};
 ghost use Rattle.hgs_load.specs.Open.{requires_path};
 ghost use Rattle.hgs_machine.specs.Locks.{NeverFall};
-ghost use Rattle.hgs_top.specs.Orders.{ComesTo, HasCause, LeavesInit, new_requires_path};
+ghost use Rattle.hgs_top.specs.Orders.{ComesTo, HasCause, LeavesInit, LeftHasCause, new_requires_path};
 ghost use Rattle.hgs_top.specs.Words.{do_init};
 
 use crate::ended::Ended;
@@ -48,6 +48,7 @@ pub fn init<F: Files>(alloc: Global, files: &mut F) -> Ended
     requires { (log : List Op) → F.allows (F.start files.old) log }
     ensures comes { (left : Option (List ℕ)) → ComesTo do_init left (F.log files.old) (F.log files.new) (F.start files.old) result }
     ensures counts { NeverFall (F.faults files.old) (F.faults files.new) (F.denied files.old) (F.denied files.new) }
+    ensures left { LeftHasCause ⊥ result }
     ensures cause { (denied_old denied_new input_old input_new : ℕ) → HasCause (F.faults files.old) (F.faults files.new) denied_old denied_new input_old input_new result }
     ensures same_start { F.start files.new ≡ F.start files.old }
 {

@@ -98,7 +98,7 @@ pub fn answered_commands_make_histories()
 /// So a run that did what its words ask for, if that is a command whose operations are those of a transaction, made pieces of a
 /// legal log of the repository that the files stood for, or nothing.
 pub fn runs_make_histories()
-    ensures { (words : List (List ℕ)) (left : Option (List ℕ)) (old new : Option (List Op)) (start : Tree) (status : ℕ) (written_old written_new : Option (List ℕ)) → Obeys (request_of_words words) left old new start status written_old written_new → MakesHistory words left old new start }
+    ensures { (words : List (List ℕ)) (left : Option (List ℕ)) (old new : Option (List Op)) (start : Tree) (status : ℕ) (written_old written_new : Option (List ℕ)) (faults_old faults_new denied_old denied_new : ℕ) → Obeys (Rose faults_old faults_new ⊎ Rose denied_old denied_new) (request_of_words words) left old new start status written_old written_new → MakesHistory words left old new start }
 {
     commands_are_valid();
     answered_commands_make_histories();

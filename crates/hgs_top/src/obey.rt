@@ -1,10 +1,17 @@
 //! Doing what a command asks for that changes files.
-ghost use Rattle.std.specs.Prelude.{◌≡◌, ℕ, List, Option, IfOk, IfErr, true};
+ghost use Rattle.std.specs.Prelude.{◌≡◌, ◌≤◌, ◌⊎◌, ℕ, List, Option, IfOk, IfErr, false, true};
+ghost use Rattle.hgs_answers.specs.declared.outcome.Outcome.TheVariants.{Fault, Unfinished};
+ghost use Rattle.hgs_answers.specs.declared.outcome.Published.{Published};
+ghost use Rattle.hgs_files.specs.Files.{GoesOn};
+ghost use Rattle.hgs_files.specs.Reads.{Rose};
 ghost use Rattle.hgs_files.specs.Tree.{Tree};
 ghost use Rattle.hgs_files.specs.declared.op.Op.{Op};
 ghost use Rattle.hgs_index.specs.MarkName.{is_mark_name};
+ghost use Rattle.hgs_machine.specs.Carry.{tree_now};
 ghost use Rattle.hgs_model.specs.Valid.{IsValid};
-ghost use Rattle.hgs_top.specs.Orders.{AllowedHasCause, ComesTo, HasCause, IsAllowed, IsCommandOf, IsFit, LeavesInput};
+ghost use Rattle.hgs_model.specs.declared.command.Command.{Command as ModelCommand};
+ghost use Rattle.hgs_top.specs.Orders.{AllowedHasCause, ComesTo, HasCause, IsAllowed, IsCommandOf, IsFit, LeavesInput, LeftHasCause, lock_text};
+ghost use Rattle.hgs_writer.specs.Written.{IsWritten};
 ghost use Rattle.hgs_top.specs.Words.{Job, do_commit, do_mark, do_move, do_unmark, job_of};
 
 use crate::ended::Ended;
@@ -34,6 +41,7 @@ fn commit_from<S: Source>(alloc: Global, input: &mut S) -> Result<Command, Ended
     ensures valid { IfOk result (λ command. IsValid command) }
     ensures command { IfOk result (λ command. IsCommandOf do_commit (S.left input.old) command) }
     ensures refused { IfErr result (λ ended. (log : Option (List Op)) (start : Tree) → ComesTo do_commit (S.left input.old) log log start ended) }
+    ensures left { IfErr result (λ ended. LeftHasCause ⊥ ended) }
     ensures cause { IfErr result (λ ended. (faults_old faults_new denied_old denied_new : ℕ) → HasCause faults_old faults_new denied_old denied_new (S.faults input.old) (S.faults input.new) ended) }
 {
     let bytes = match read_input(alloc, input) {
@@ -80,6 +88,21 @@ fn unmark_of(alloc: Global, name: &[u8]) -> Result<Command, AllocError>
     })
 }
 
+// What a writer answers.
+fn written<F: Files>(alloc: Global, files: &mut F, command: &Command) -> Answer
+    requires valid { IsValid command.now }
+    requires allows { (log : List Op) → F.allows (F.start files.old) log }
+    ensures log { GoesOn (F.log files.old) (F.log files.new) (IsWritten lock_text command.now (tree_now (F.log files.old) (F.start files.old)) result) }
+    ensures fault { result.outcome ≡ Fault → Rose (F.faults files.old) (F.faults files.new) }
+    ensures unfinished { (published : Published) → result.outcome ≡ Unfinished published → Rose (F.faults files.old) (F.faults files.new) ⊎ Rose (F.denied files.old) (F.denied files.new) }
+    ensures left { result.swept ≡ false → Rose (F.faults files.old) (F.faults files.new) ⊎ Rose (F.denied files.old) (F.denied files.new) }
+    ensures later { F.faults files.old ≤ F.faults files.new }
+    ensures denied { F.denied files.old ≤ F.denied files.new }
+    ensures same_start { F.start files.new ≡ F.start files.old }
+{
+    write(alloc, files, command, WHO)
+}
+
 // What a writer answers, where `requires` is of the profile.
 fn answer_to<F: Files>(
     alloc: Global,
@@ -89,11 +112,12 @@ fn answer_to<F: Files>(
     requires valid { IsValid command.now }
     requires allows { (log : List Op) → F.allows (F.start files.old) log }
     ensures comes { IsAllowed command.now (F.log files.old) (F.log files.new) (F.start files.old) result }
+    ensures left { IfOk result (λ answer. answer.swept ≡ false → Rose (F.faults files.old) (F.faults files.new) ⊎ Rose (F.denied files.old) (F.denied files.new)) }
     ensures cause { AllowedHasCause (F.faults files.old) (F.faults files.new) (F.denied files.old) (F.denied files.new) result }
     ensures same_start { F.start files.new ≡ F.start files.old }
 {
     match test_requires(alloc, files) {
-        Ok(()) => Ok(write(alloc, files, command, WHO)),
+        Ok(()) => Ok(written(alloc, files, command)),
         Err(refusal) => Err(refusal),
     }
 }
@@ -103,6 +127,7 @@ fn obey<F: Files>(alloc: Global, files: &mut F, command: Command) -> Ended
     requires valid { IsValid command }
     requires allows { (log : List Op) → F.allows (F.start files.old) log }
     ensures comes { (job : Job) (left : Option (List ℕ)) → IsCommandOf job left command → ComesTo job left (F.log files.old) (F.log files.new) (F.start files.old) result }
+    ensures left { LeftHasCause (Rose (F.faults files.old) (F.faults files.new) ⊎ Rose (F.denied files.old) (F.denied files.new)) result }
     ensures cause { (input_old input_new : ℕ) → HasCause (F.faults files.old) (F.faults files.new) (F.denied files.old) (F.denied files.new) input_old input_new result }
     ensures same_start { F.start files.new ≡ F.start files.old }
 {
@@ -116,7 +141,8 @@ fn obey<F: Files>(alloc: Global, files: &mut F, command: Command) -> Ended
 fn obey_named<F: Files>(alloc: Global, files: &mut F, command: Result<Command, AllocError>) -> Ended
     requires valid { IfOk command (λ command. IsValid command) }
     requires allows { (log : List Op) → F.allows (F.start files.old) log }
-    ensures comes { (job : Job) → IfOk command (λ command. (left : Option (List ℕ)) → IsCommandOf job left command) → (left : Option (List ℕ)) → ComesTo job left (F.log files.old) (F.log files.new) (F.start files.old) result }
+    ensures comes { (job : Job) → ((left : Option (List ℕ)) → (c : ModelCommand) × IsCommandOf job left c) → IfOk command (λ command. (left : Option (List ℕ)) → IsCommandOf job left command) → (left : Option (List ℕ)) → ComesTo job left (F.log files.old) (F.log files.new) (F.start files.old) result }
+    ensures left { LeftHasCause (Rose (F.faults files.old) (F.faults files.new) ⊎ Rose (F.denied files.old) (F.denied files.new)) result }
     ensures cause { (input_old input_new : ℕ) → HasCause (F.faults files.old) (F.faults files.new) (F.denied files.old) (F.denied files.new) input_old input_new result }
     ensures same_start { F.start files.new ≡ F.start files.old }
 {
@@ -130,6 +156,7 @@ fn obey_named<F: Files>(alloc: Global, files: &mut F, command: Result<Command, A
 fn commit<F: Files, S: Source>(alloc: Global, files: &mut F, input: &mut S) -> Ended
     requires { (log : List Op) → F.allows (F.start files.old) log }
     ensures comes { ComesTo do_commit (S.left input.old) (F.log files.old) (F.log files.new) (F.start files.old) result }
+    ensures left { LeftHasCause (Rose (F.faults files.old) (F.faults files.new) ⊎ Rose (F.denied files.old) (F.denied files.new)) result }
     ensures cause { HasCause (F.faults files.old) (F.faults files.new) (F.denied files.old) (F.denied files.new) (S.faults input.old) (S.faults input.new) result }
     ensures same_start { F.start files.new ≡ F.start files.old }
 {
@@ -149,6 +176,7 @@ pub fn do_order<F: Files, S: Source>(
     requires fit { IsFit order }
     requires allows { (log : List Op) → F.allows (F.start files.old) log }
     ensures comes { ComesTo (job_of order.entry) (S.left input.old) (F.log files.old) (F.log files.new) (F.start files.old) result }
+    ensures left { LeftHasCause (Rose (F.faults files.old) (F.faults files.new) ⊎ Rose (F.denied files.old) (F.denied files.new)) result }
     ensures cause { HasCause (F.faults files.old) (F.faults files.new) (F.denied files.old) (F.denied files.new) (S.faults input.old) (S.faults input.new) result }
     ensures input { LeavesInput (job_of order.entry) (S.left input.old) (S.left input.new) (S.faults input.old) (S.faults input.new) }
     ensures same_start { F.start files.new ≡ F.start files.old }

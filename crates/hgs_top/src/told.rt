@@ -14,8 +14,8 @@ use hgs_files::files::Files;
 use hgs_files::streams::{Sink, Source};
 use std::alloc::Global;
 
-// Says what a command came to, and gives the status.
-pub(crate) fn say<K: Sink>(alloc: Global, ended: &Ended, out: &mut K) -> u8
+/// Says what a command came to, and gives the status.
+pub fn say<K: Sink>(alloc: Global, ended: &Ended, out: &mut K) -> u8
     ensures line { EndsLine (ended_text ended.now) (ended_status ended.now) result (K.written out.old) (K.written out.new) }
     ensures sink { result ≡ 19 → Rose (K.faults out.old) (K.faults out.new) }
     ensures statuses { IsOneOf (19 ∷ 30 ∷ ended_status ended.now ∷ []) result }
@@ -37,7 +37,7 @@ pub fn run_order<F: Files, S: Source, K: Sink>(
 ) -> u8
     requires fit { IsFit order }
     requires allows { (log : List Op) → F.allows (F.start files.old) log }
-    ensures does { Does (job_of order.entry) (S.left input.old) (F.log files.old) (F.log files.new) (F.start files.old) result (K.written out.old) (K.written out.new) }
+    ensures does { Does (Rose (F.faults files.old) (F.faults files.new) ⊎ Rose (F.denied files.old) (F.denied files.new)) (job_of order.entry) (S.left input.old) (F.log files.old) (F.log files.new) (F.start files.old) result (K.written out.old) (K.written out.new) }
     ensures fault { result ≡ 16 → Rose (F.faults files.old) (F.faults files.new) }
     ensures unfinished { result ≡ 17 → Rose (F.faults files.old) (F.faults files.new) ⊎ Rose (F.denied files.old) (F.denied files.new) }
     ensures failed { result ≡ 18 → Rose (S.faults input.old) (S.faults input.new) }

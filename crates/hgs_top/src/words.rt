@@ -4,7 +4,7 @@ ghost use Rattle.hgs_top.specs.Orders.{IsFitting};
 ghost use Rattle.std.specs.Option.{option_map};
 ghost use Rattle.std.specs.Result.{result_map_both};
 ghost use Rattle.std.specs.String.{string_bytes};
-ghost use Rattle.hgs_top.specs.Words.{operands_in, operand, operands, asked_with, ask_files, ask_cat, ask_phase, moved_with, phase_with, bookmark_with, behind_word, to_answer, to_do, do_mark, do_unmark, to_generate, seed_of, count_of, verify_by, verify_with, request_of, request_named, alone_named, about_named, page_named, request_of_words};
+ghost use Rattle.hgs_top.specs.Words.{operands_in, operand, operands, asked_with, ask_files, ask_cat, ask_phase, moved_with, phase_with, bookmark_with, behind_word, to_answer, to_do, do_mark, do_unmark, to_generate, seed_of, count_of, verify_by, verify_with, request_of, request_named, alone_named, about_named, is_session, page_named, request_of_words};
 ghost use Rattle.hgs_top.specs.declared.operands.Operand.TheVariants as operand_kinds;
 
 use crate::operands::{
@@ -35,6 +35,8 @@ pub enum Asked<'a> {
     Order(Order<'a>),
     /// Plays the schedule that stands on the input, in memory.
     Play,
+    /// Runs the script that stands on the input, with its workers at the same time.
+    Session,
     /// Says what is wrong with the repository, by so many jobs.
     Verify { jobs: u32 },
     /// Makes a repository of so many changesets that a number gives.
@@ -218,6 +220,9 @@ fn alone_named(name: &String) -> Option<Asked<'static>>
     if equal(name, b"play") {
         return Some(Asked::Play);
     }
+    if equal(name, b"session") {
+        return Some(Asked::Session);
+    }
     None
 }
 
@@ -288,4 +293,11 @@ pub fn asked_by(words: &[String]) -> Result<Asked<'_>, usize>
             Some(_) => Err(1),
         },
     }
+}
+
+/// Whether the words ask for workers.
+pub fn asks_session(words: &[String]) -> bool
+    ensures { result ≡ is_session (request_of_words (map string_bytes words.now)) }
+{
+    matches!(asked_by(words), Ok(Asked::Session))
 }

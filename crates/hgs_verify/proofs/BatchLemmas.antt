@@ -7,7 +7,7 @@ use Rattle.hgs_findings.specs.Reading.{data_in, index_in, the_filelog}
 use Rattle.hgs_report.specs.declared.store.Store.{Store}
 use Rattle.hgs_verify.specs.declared.task.Task.{Task}
 use Rattle.hgs_verify.specs.Parts.{AreBytes}
-use Rattle.hgs_verify.specs.Task.{AreJudged, AreReadOf, AreRightIn, IsJudgedAs, IsReadOf, paths_of}
+use Rattle.hgs_verify.specs.Task.{AreJudged, AreReadOf, AreRefusedIn, AreRightIn, IsJudgedAs, IsReadOf, paths_of}
 use Rattle.hgs_verify.specs.Walk.{AddPaths}
 
 -- some paths after others
@@ -32,6 +32,13 @@ tasks-right s t [] [] j read = tt
 tasks-right s t [] (y ∷ ys) j read = absurd (let c = j.count in omega (arith, c))
 tasks-right s t (x ∷ xs) [] j read = absurd (let c = j.count in omega (arith, c))
 tasks-right s t (x ∷ xs) (y ∷ ys) j read = ((read-still s t x y (first s x y xs ys j) read.0, (first s x y xs ys j).right), tasks-right s t xs ys (rest s x y xs ys j) read.1)
+
+-- each refusal has its cause in the tree that they were read of
+pub tasks-caused : (s : Store) (t : Tree) (tasks judged : List Task) → AreJudged s tasks judged → AreReadOf tasks t → AreRefusedIn t judged
+tasks-caused s t [] [] j read = tt
+tasks-caused s t [] (y ∷ ys) j read = absurd (let c = j.count in omega (arith, c))
+tasks-caused s t (x ∷ xs) [] j read = absurd (let c = j.count in omega (arith, c))
+tasks-caused s t (x ∷ xs) (y ∷ ys) j read = ((read-still s t x y (first s x y xs ys j) read.0, (first s x y xs ys j).cause), tasks-caused s t xs ys (rest s x y xs ys j) read.1)
 
 pub same-paths : (s : Store) (tasks judged : List Task) → AreJudged s tasks judged → paths_of judged ≡ paths_of tasks
 same-paths s [] [] j = refl

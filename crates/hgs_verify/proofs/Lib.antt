@@ -4,5 +4,6 @@ pub mod FileLemmas
 pub mod InlineLemmas
 pub mod PathAdded
 pub mod ProfileLemmas
+pub mod RefusalLemmas
 pub mod TextLemmas
 pub mod WalkLemmas

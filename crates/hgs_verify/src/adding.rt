@@ -1,12 +1,12 @@
 //! What is found of some paths, which is added to what was found before.
-ghost use Rattle.std.specs.Prelude.{◌≡◌, ◌++◌, IfErr, IfOk, OnOk, true, false};
+ghost use Rattle.std.specs.Prelude.{◌≡◌, ◌++◌, IfErr, IfOk, OnOk, true, false, [], unwrap_or};
 ghost use Rattle.hgs_files.specs.Tree.{Tree};
 ghost use Rattle.hgs_judge.specs.Report.{findings_in, of_path};
 ghost use Rattle.hgs_load.specs.Answer.{is_fault};
 ghost use Rattle.hgs_report.specs.Store.{IsStoreOf};
 ghost use Rattle.hgs_verify.specs.Added.{AddsPath};
-ghost use Rattle.hgs_verify.specs.Refusal.{is_refusal};
-ghost use Rattle.hgs_verify.specs.Task.{AreRightIn, IsReadOf, IsRight, paths_of};
+ghost use Rattle.hgs_verify.specs.Refusal.{is_refusal, IsOfIndex, IsOfPaths};
+ghost use Rattle.hgs_verify.specs.Task.{AreRightIn, IsReadOf, IsRight, paths_of, AreRefusedIn, HasCause};
 ghost use Rattle.hgs_verify.specs.Walk.{AddPaths, AreMarked};
 
 use crate::revlog::of_refusal;
@@ -54,6 +54,7 @@ fn add_task(alloc: Global, task: Task, into: &mut Vec<Finding>) -> Result<Vec<bo
     ensures added { IfOk result (λ wrong. (s : Store) (t : Tree) → IsStoreOf s t → IsReadOf task t → IsRight s task → AddsPath task.path (findings_in into.old.items) (findings_in into.new.items) wrong.items t) }
     ensures fault { IfErr result (λ e. is_fault e ≡ false) }
     ensures refused { IfErr result (λ e. is_refusal e ≡ true) }
+    ensures index { IfErr result (λ e. HasCause task → IsOfIndex (unwrap_or task.parts.index []) e) }
 {
     added_findings();
     let Task {
@@ -92,6 +93,7 @@ pub fn add_all(
     ensures added { OnOk result ((s : Store) (t : Tree) → IsStoreOf s t → AreRightIn s t tasks.items → AddPaths (paths_of tasks.items) (findings_in into.old.items) (findings_in into.new.items) marks.old marks.new t) }
     ensures fault { IfErr result (λ e. is_fault e ≡ false) }
     ensures refused { IfErr result (λ e. is_refusal e ≡ true) }
+    ensures index { IfErr result (λ e. (t : Tree) → AreRefusedIn t tasks.items → IsOfPaths (paths_of tasks.items) e t) }
 {
     for task in tasks {
         let wrong = add_task(alloc, task, into)?;

@@ -1,7 +1,7 @@
 //! The filelog of a path.
 ghost use Rattle.std.specs.Prelude.{◌≡◌, IfErr, IfOk, true};
 ghost use Rattle.hgs_files.specs.Reads.{Grows};
-ghost use Rattle.hgs_load.specs.Answer.{HasFaultCause};
+ghost use Rattle.hgs_load.specs.Answer.{HasFaultCause, is_of_outside};
 ghost use Rattle.hgs_verify.specs.Looked.{OfTree};
 ghost use Rattle.hgs_verify.specs.Refusal.{is_refusal};
 ghost use Rattle.hgs_verify.specs.Task.{IsReadOf};
@@ -24,6 +24,7 @@ pub fn read_task<R: Reads>(alloc: Global, files: &mut R, path: Bytes) -> Result<
     ensures still { R.alone ≡ true → R.seen files.new ≡ R.seen files.old }
     ensures cause { HasFaultCause (R.faults files.old) (R.faults files.new) (R.denied files.old) (R.denied files.new) result }
     ensures refused { IfErr result (λ e. is_refusal e ≡ true) }
+    ensures outside { IfErr result (λ e. is_of_outside e ≡ true) }
 {
     let index = store_name(alloc, path.as_slice(), Ext::I)?;
     let chunks = store_name(alloc, path.as_slice(), Ext::D)?;

@@ -3,7 +3,7 @@ ghost use Rattle.std.specs.Prelude.{◌≡◌, ◌&&◌, ◌||◌, List, ℕ, If
 ghost use Rattle.hgs_bytes.specs.Bytes.{same};
 ghost use Rattle.hgs_files.specs.Tree.{bytes_at};
 ghost use Rattle.hgs_index.specs.Inline.{is_inline};
-ghost use Rattle.hgs_load.specs.Answer.{HasFaultCause};
+ghost use Rattle.hgs_load.specs.Answer.{HasFaultCause, is_of_outside};
 ghost use Rattle.hgs_path.specs.declared.name.Ext.TheVariants.{I};
 ghost use Rattle.hgs_path.specs.StoreName.{store_name};
 ghost use Rattle.hgs_report.specs.Lines.{has_key};
@@ -31,6 +31,7 @@ fn has_inline<R: Reads>(alloc: Global, files: &mut R, path: &[u8]) -> Result<boo
     ensures still { R.alone ≡ true → R.seen files.new ≡ R.seen files.old }
     ensures cause { HasFaultCause (R.faults files.old) (R.faults files.new) (R.denied files.old) (R.denied files.new) result }
     ensures refused { IfErr result (λ e. is_refusal e ≡ true) }
+    ensures outside { IfErr result (λ e. is_of_outside e ≡ true) }
 {
     let index = store_name(alloc, path, Ext::I)?;
     let part = read_part(alloc, files, &index, 0, ENTRY)?;
@@ -64,6 +65,7 @@ fn enter_inline<R: Reads>(
     ensures still { R.alone ≡ true → R.seen files.new ≡ R.seen files.old }
     ensures cause { HasFaultCause (R.faults files.old) (R.faults files.new) (R.denied files.old) (R.denied files.new) result }
     ensures refused { IfErr result (λ e. is_refusal e ≡ true) }
+    ensures outside { IfErr result (λ e. is_of_outside e ≡ true) }
 {
     let is = has_inline(alloc, files, path)?;
     enter_if(alloc, is, path, inline)?;
@@ -81,6 +83,7 @@ pub fn inline_filelogs<R: Reads>(
     ensures still { R.alone ≡ true → R.seen files.new ≡ R.seen files.old }
     ensures cause { HasFaultCause (R.faults files.old) (R.faults files.new) (R.denied files.old) (R.denied files.new) result }
     ensures refused { IfErr result (λ e. is_refusal e ≡ true) }
+    ensures outside { IfErr result (λ e. is_of_outside e ≡ true) }
 {
     let mut inline = BTreeSet::new(alloc);
     for path in paths {

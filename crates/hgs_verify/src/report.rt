@@ -1,6 +1,6 @@
 //! The report of a store.
 ghost use Rattle.std.specs.Prelude.{◌≡◌, ◌≤◌, IfOk, OnOk, Ok, true, length, IfErr};
-ghost use Rattle.hgs_verify.specs.Refusal.{is_refusal};
+ghost use Rattle.hgs_verify.specs.Refusal.{is_refusal, IsLimited, IsWhy, required_in};
 ghost use Rattle.hgs_load.specs.Open.{requires_path};
 ghost use Rattle.hgs_load.specs.Requirements.{requires_answer};
 ghost use Rattle.hgs_findings.specs.Reading.{sight_of};
@@ -65,6 +65,7 @@ fn add_small<R: Reads>(
     ensures still { R.alone ≡ true → R.seen files.new ≡ R.seen files.old }
     ensures cause { HasFaultCause (R.faults files.old) (R.faults files.new) (R.denied files.old) (R.denied files.new) result }
     ensures refused { IfErr result (λ e. is_refusal e ≡ true) }
+    ensures why { IfErr result (λ e. OfTree R.alone (R.seen files.new) (R.start files.new) (IsLimited e)) }
 {
     add_roots_file(alloc, files, store, into)?;
     add_bookmarks_file(alloc, files, store, into)?;
@@ -84,6 +85,7 @@ fn add_listed<R: Reads>(
     ensures still { R.alone ≡ true → R.seen files.new ≡ R.seen files.old }
     ensures cause { HasFaultCause (R.faults files.old) (R.faults files.new) (R.denied files.old) (R.denied files.new) result }
     ensures refused { IfErr result (λ e. is_refusal e ≡ true) }
+    ensures why { IfErr result (λ e. OfTree R.alone (R.seen files.new) (R.start files.new) (IsLimited e)) }
 {
     unused_that_stand();
     let inline = inline_filelogs(alloc, files, used)?;
@@ -108,6 +110,7 @@ fn add_paths<T: Threads + Sync, R: Reads, P: Progress>(
     ensures still { R.alone ≡ true → R.seen files.new ≡ R.seen files.old }
     ensures cause { HasFaultCause (R.faults files.old) (R.faults files.new) (R.denied files.old) (R.denied files.new) result }
     ensures refused { IfErr result (λ e. is_refusal e ≡ true) }
+    ensures why { IfErr result (λ e. OfTree R.alone (R.seen files.new) (R.start files.new) (λ t. used.keys ≡ used_paths (sight_of t) → IsLimited e t)) }
 {
     one_path();
     path_findings();
@@ -133,6 +136,7 @@ fn gather<T: Threads + Sync, R: Reads, P: Progress>(
     ensures still { R.alone ≡ true → R.seen files.new ≡ R.seen files.old }
     ensures cause { HasFaultCause (R.faults files.old) (R.faults files.new) (R.denied files.old) (R.denied files.new) result }
     ensures refused { IfErr result (λ e. is_refusal e ≡ true) }
+    ensures why { IfErr result (λ e. OfTree R.alone (R.seen files.new) (R.start files.new) (λ t. used.keys ≡ used_paths (sight_of t) → IsLimited e t)) }
 {
     let paths = LogPaths::new(alloc)?;
     let mut found = Vec::new(alloc);
@@ -169,6 +173,7 @@ fn report_of<T: Threads + Sync, R: Reads, P: Progress>(
     ensures still { R.alone ≡ true → R.seen files.new ≡ R.seen files.old }
     ensures cause { HasFaultCause (R.faults files.old) (R.faults files.new) (R.denied files.old) (R.denied files.new) result }
     ensures refused { IfErr result (λ e. is_refusal e ≡ true) }
+    ensures why { IfErr result (λ e. OfTree R.alone (R.seen files.new) (R.start files.new) (λ t. IsStoreOf store.now t → IsLimited e t)) }
 {
     parts_make_report();
     let used = used_paths(alloc, &store.trees, &store.changesets)?;
@@ -199,10 +204,12 @@ pub fn verify<T: Threads + Sync, R: Reads, P: Progress>(
     ensures report { IfOk result (λ report. OfTree R.alone (R.seen files.new) (R.start files.new) (IsReportOf report)) }
     ensures short { OnOk result (OfTree R.alone (R.seen files.new) (R.start files.new) HaveShortLogs) }
     ensures required { OnOk result (OfTree R.alone (R.seen files.new) (R.start files.new) (λ t. requires_answer (t requires_path) ≡ Ok tt)) }
+    ensures profile { OnOk result (OfTree R.alone (R.seen files.new) (R.start files.new) (λ t. required_in t ≡ Ok tt)) }
     ensures same_start { R.start files.new ≡ R.start files.old }
     ensures still { R.alone ≡ true → R.seen files.new ≡ R.seen files.old }
     ensures cause { HasFaultCause (R.faults files.old) (R.faults files.new) (R.denied files.old) (R.denied files.new) result }
     ensures refused { IfErr result (λ e. is_refusal e ≡ true) }
+    ensures why { IfErr result (λ e. OfTree R.alone (R.seen files.new) (R.start files.new) (IsWhy e)) }
 {
     test_requires(alloc, files)?;
     let store = read_store(alloc, files)?;

@@ -1,5 +1,8 @@
 //! The bytes of a revlog, as a separate one has them.
-ghost use Rattle.std.specs.Prelude.{◌≡◌, IfErr, IfOk, OnOk, true, false};
+ghost use Rattle.std.specs.Prelude.{◌≡◌, IfErr, IfOk, OnOk, true, false, List, ℕ, ◌<◌, ◌^◌};
+ghost use Rattle.hgs_index.specs.declared.kinds.Which.TheVariants.{Part};
+ghost use Rattle.hgs_load.specs.declared.answer.ReadAnswer.TheVariants.{Limit};
+ghost use Rattle.hgs_judge.specs.Read.{IsRefused};
 ghost use Rattle.hgs_index.specs.Either.{chunks_either};
 ghost use Rattle.hgs_index.specs.Inline.{index_apart};
 ghost use Rattle.hgs_files.specs.Reads.{Grows};
@@ -7,7 +10,7 @@ ghost use Rattle.hgs_files.specs.Tree.{bytes_at};
 ghost use Rattle.hgs_load.specs.Answer.{HasFaultCause, is_fault, is_of_outside};
 ghost use Rattle.hgs_verify.specs.Looked.{OfTree};
 ghost use Rattle.hgs_verify.specs.Parts.{AreBytes, is_long_inline};
-ghost use Rattle.hgs_verify.specs.Refusal.{is_refusal};
+ghost use Rattle.hgs_verify.specs.Refusal.{is_refusal, IsOfIndex};
 
 use crate::whole::read_file;
 use hgs_bytes::bytes::Bytes;
@@ -32,6 +35,7 @@ pub struct Parts {
 pub(crate) fn of_refusal(fault: RevFault) -> ReadAnswer
     ensures fault { is_fault result ≡ false }
     ensures refused { is_refusal result ≡ true }
+    ensures index { (index : List ℕ) → IsRefused index fault → IsOfIndex index result }
 {
     match fault {
         RevFault::Limit(which) => ReadAnswer::Limit(which),
@@ -63,6 +67,8 @@ pub fn read_either<R: Reads>(
     ensures still { R.alone ≡ true → R.seen files.new ≡ R.seen files.old }
     ensures cause { HasFaultCause (R.faults files.old) (R.faults files.new) (R.denied files.old) (R.denied files.new) result }
     ensures refused { IfErr result (λ e. is_refusal e ≡ true) }
+    ensures few { IfErr result (λ e. is_of_outside e ≡ false → most < 2 ^ 62) }
+    ensures part { IfErr result (λ e. is_of_outside e ≡ false → e ≡ Limit Part) }
 {
     let index = read_file(alloc, files, index)?;
     if is_long(bytes_of(&index), most) {

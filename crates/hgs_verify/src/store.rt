@@ -1,6 +1,6 @@
 //! What is read of a store before its filelogs: the changelog, the manifest, and what their texts say.
 ghost use Rattle.std.specs.Prelude.{◌≡◌, [], unwrap_or, IfErr, IfOk, OnOk, true, false};
-ghost use Rattle.hgs_verify.specs.Refusal.{is_refusal};
+ghost use Rattle.hgs_verify.specs.Refusal.{is_refusal, IsLimited, IsOfIndex, IsOfLog};
 ghost use Rattle.hgs_files.specs.Reads.{Grows};
 ghost use Rattle.hgs_load.specs.Answer.{HasFaultCause, is_fault};
 ghost use Rattle.hgs_files.specs.Tree.{Tree, bytes_at};
@@ -32,6 +32,7 @@ fn log_of(alloc: Global, parts: Parts) -> Result<ReadLog, ReadAnswer>
     ensures read { IfOk result (λ log. AreRead log.reading.log.entries (unwrap_or log.chunks [])) }
     ensures fault { IfErr result (λ e. is_fault e ≡ false) }
     ensures refused { IfErr result (λ e. is_refusal e ≡ true) }
+    ensures index { IfErr result (λ e. IsOfIndex (unwrap_or parts.index []) e) }
 {
     let Parts { index, chunks } = parts;
     match read(alloc, bytes_of(&index), bytes_of(&chunks)) {
@@ -60,6 +61,7 @@ fn read_log<R: Reads>(
     ensures still { R.alone ≡ true → R.seen files.new ≡ R.seen files.old }
     ensures cause { HasFaultCause (R.faults files.old) (R.faults files.new) (R.denied files.old) (R.denied files.new) result }
     ensures refused { IfErr result (λ e. is_refusal e ≡ true) }
+    ensures why { IfErr result (λ e. OfTree R.alone (R.seen files.new) (R.start files.new) (λ t. (which : Log) → index.now ≡ index_path which → IsOfLog which e t)) }
 {
     let parts = read_either(alloc, files, index, chunks, MOST_INLINE)?;
     let log = log_of(alloc, parts)?;
@@ -98,6 +100,7 @@ pub fn read_store<R: Reads>(alloc: Global, files: &mut R) -> Result<Store, ReadA
     ensures still { R.alone ≡ true → R.seen files.new ≡ R.seen files.old }
     ensures cause { HasFaultCause (R.faults files.old) (R.faults files.new) (R.denied files.old) (R.denied files.new) result }
     ensures refused { IfErr result (λ e. is_refusal e ≡ true) }
+    ensures why { IfErr result (λ e. OfTree R.alone (R.seen files.new) (R.start files.new) (IsLimited e)) }
 {
     let paths = LogPaths::new(alloc)?;
     let changelog = read_log(alloc, files, &paths.changelog, &paths.changelog_chunks)?;

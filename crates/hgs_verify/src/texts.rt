@@ -1,12 +1,13 @@
 //! The small files of a store, and what is found of them.
 ghost use Rattle.std.specs.Prelude.{◌≡◌, ◌++◌, IfOk, OnOk, Ok, true, option_map, IfErr};
-ghost use Rattle.hgs_verify.specs.Refusal.{is_refusal};
+ghost use Rattle.hgs_bytes.specs.Answer.{Gives};
+ghost use Rattle.hgs_verify.specs.Refusal.{is_refusal, IsLimited, required_in};
 ghost use Rattle.hgs_load.specs.Open.{requires_path};
 ghost use Rattle.hgs_load.specs.Requirements.{requires_answer};
 ghost use Rattle.hgs_findings.specs.Reading.{sight_of};
 ghost use Rattle.hgs_findings.specs.Regular.{used_paths};
 ghost use Rattle.hgs_judge.specs.Report.{findings_in};
-ghost use Rattle.hgs_load.specs.Answer.{HasFaultCause};
+ghost use Rattle.hgs_load.specs.Answer.{HasFaultCause, is_of_outside};
 ghost use Rattle.hgs_report.specs.Adds.{Adds};
 ghost use Rattle.hgs_report.specs.Names.{AreInline, IsOfNames, unused_in};
 ghost use Rattle.hgs_report.specs.Parts.{IsOfCalls};
@@ -54,6 +55,7 @@ pub fn add_roots_file<R: Reads>(
     ensures still { R.alone ≡ true → R.seen files.new ≡ R.seen files.old }
     ensures cause { HasFaultCause (R.faults files.old) (R.faults files.new) (R.denied files.old) (R.denied files.new) result }
     ensures refused { IfErr result (λ e. is_refusal e ≡ true) }
+    ensures why { IfErr result (λ e. OfTree R.alone (R.seen files.new) (R.start files.new) (IsLimited e)) }
 {
     let path = path_of(alloc, b"store/phaseroots")?;
     let text = read_text(alloc, files, &path, MOST_ROOTS)?;
@@ -73,6 +75,7 @@ pub fn add_bookmarks_file<R: Reads>(
     ensures still { R.alone ≡ true → R.seen files.new ≡ R.seen files.old }
     ensures cause { HasFaultCause (R.faults files.old) (R.faults files.new) (R.denied files.old) (R.denied files.new) result }
     ensures refused { IfErr result (λ e. is_refusal e ≡ true) }
+    ensures why { IfErr result (λ e. OfTree R.alone (R.seen files.new) (R.start files.new) (IsLimited e)) }
 {
     let path = path_of(alloc, b"bookmarks")?;
     let text = read_text(alloc, files, &path, MOST_BOOKMARKS)?;
@@ -92,6 +95,7 @@ pub fn add_dirstate_file<R: Reads>(
     ensures still { R.alone ≡ true → R.seen files.new ≡ R.seen files.old }
     ensures cause { HasFaultCause (R.faults files.old) (R.faults files.new) (R.denied files.old) (R.denied files.new) result }
     ensures refused { IfErr result (λ e. is_refusal e ≡ true) }
+    ensures why { IfErr result (λ e. OfTree R.alone (R.seen files.new) (R.start files.new) (IsLimited e)) }
 {
     let path = path_of(alloc, b"dirstate")?;
     let text = read_text(alloc, files, &path, MOST_DIRSTATE)?;
@@ -113,6 +117,7 @@ pub fn add_names_file<R: Reads>(
     ensures still { R.alone ≡ true → R.seen files.new ≡ R.seen files.old }
     ensures cause { HasFaultCause (R.faults files.old) (R.faults files.new) (R.denied files.old) (R.denied files.new) result }
     ensures refused { IfErr result (λ e. is_refusal e ≡ true) }
+    ensures why { IfErr result (λ e. OfTree R.alone (R.seen files.new) (R.start files.new) (IsLimited e)) }
 {
     let path = path_of(alloc, b"store/fncache")?;
     let text = read_text(alloc, files, &path, MOST_FNCACHE)?;
@@ -133,6 +138,7 @@ fn add_standing<R: Reads>(
     ensures still { R.alone ≡ true → R.seen files.new ≡ R.seen files.old }
     ensures cause { HasFaultCause (R.faults files.old) (R.faults files.new) (R.denied files.old) (R.denied files.new) result }
     ensures refused { IfErr result (λ e. is_refusal e ≡ true) }
+    ensures outside { IfErr result (λ e. is_of_outside e ≡ true) }
 {
     let size = size_of(files, path)?;
     add_file(alloc, size.is_some(), path, kind, into)?;
@@ -151,6 +157,7 @@ fn add_unused_file<R: Reads>(
     ensures still { R.alone ≡ true → R.seen files.new ≡ R.seen files.old }
     ensures cause { HasFaultCause (R.faults files.old) (R.faults files.new) (R.denied files.old) (R.denied files.new) result }
     ensures refused { IfErr result (λ e. is_refusal e ≡ true) }
+    ensures outside { IfErr result (λ e. is_of_outside e ≡ true) }
 {
     let size = size_of(files, path)?;
     add_file(alloc, size.unwrap_or(0) != 0, path, 12, into)?;
@@ -169,6 +176,7 @@ pub fn add_unused<R: Reads>(
     ensures still { R.alone ≡ true → R.seen files.new ≡ R.seen files.old }
     ensures cause { HasFaultCause (R.faults files.old) (R.faults files.new) (R.denied files.old) (R.denied files.new) result }
     ensures refused { IfErr result (λ e. is_refusal e ≡ true) }
+    ensures outside { IfErr result (λ e. is_of_outside e ≡ true) }
 {
     for path in unused {
         add_unused_file(alloc, files, path, into)?;
@@ -187,6 +195,7 @@ pub fn add_calls<R: Reads>(
     ensures still { R.alone ≡ true → R.seen files.new ≡ R.seen files.old }
     ensures cause { HasFaultCause (R.faults files.old) (R.faults files.new) (R.denied files.old) (R.denied files.new) result }
     ensures refused { IfErr result (λ e. is_refusal e ≡ true) }
+    ensures outside { IfErr result (λ e. is_of_outside e ≡ true) }
 {
     calls_that_stand();
     let journal = path_of(alloc, b"store/journal")?;
@@ -215,6 +224,7 @@ pub fn test_requires<R: Reads>(alloc: Global, files: &mut R) -> Result<(), ReadA
     ensures still { R.alone ≡ true → R.seen files.new ≡ R.seen files.old }
     ensures cause { HasFaultCause (R.faults files.old) (R.faults files.new) (R.denied files.old) (R.denied files.new) result }
     ensures refused { IfErr result (λ e. is_refusal e ≡ true) }
+    ensures given { OfTree R.alone (R.seen files.new) (R.start files.new) (λ t. Gives is_of_outside (λ x. x) result (required_in t)) }
 {
     let path = path_of(alloc, b"requires")?;
     let text = read_text(alloc, files, &path, MOST_REQUIRES)?;

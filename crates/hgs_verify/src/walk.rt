@@ -1,12 +1,14 @@
 //! The paths of a store, one batch after another.
 ghost use Rattle.std.specs.Prelude.{◌≡◌, IfErr, IfOk, OnOk, true};
+ghost use Rattle.hgs_findings.specs.Regular.{used_paths};
+ghost use Rattle.hgs_findings.specs.Reading.{sight_of};
 ghost use Rattle.hgs_files.specs.Reads.{Grows};
 ghost use Rattle.hgs_files.specs.Tree.{Tree};
 ghost use Rattle.hgs_judge.specs.Report.{findings_in};
-ghost use Rattle.hgs_load.specs.Answer.{HasFaultCause};
+ghost use Rattle.hgs_load.specs.Answer.{HasFaultCause, is_of_outside};
 ghost use Rattle.hgs_report.specs.Store.{IsStoreOf};
 ghost use Rattle.hgs_verify.specs.Looked.{OfTree};
-ghost use Rattle.hgs_verify.specs.Refusal.{is_refusal};
+ghost use Rattle.hgs_verify.specs.Refusal.{is_refusal, IsLimited};
 ghost use Rattle.hgs_verify.specs.Task.{AreJudged, AreNext, AreReadOf};
 ghost use Rattle.hgs_verify.specs.Walk.{AddPaths};
 
@@ -41,6 +43,7 @@ fn judge_and_read<T: Threads + Sync, R: Reads>(
     ensures still { R.alone ≡ true → R.seen files.new ≡ R.seen files.old }
     ensures cause { HasFaultCause (R.faults files.old) (R.faults files.new) (R.denied files.old) (R.denied files.new) result }
     ensures refused { IfErr result (λ e. is_refusal e ≡ true) }
+    ensures outside { IfErr result (λ e. is_of_outside e ≡ true) }
 {
     workers.judge_beside(alloc, store, tasks, &mut || read_batch(alloc, files, paths))
 }
@@ -65,6 +68,7 @@ pub fn judge_paths<T: Threads + Sync, R: Reads, P: Progress>(
     ensures still { R.alone ≡ true → R.seen files.new ≡ R.seen files.old }
     ensures cause { HasFaultCause (R.faults files.old) (R.faults files.new) (R.denied files.old) (R.denied files.new) result }
     ensures refused { IfErr result (λ e. is_refusal e ≡ true) }
+    ensures why { IfErr result (λ e. OfTree R.alone (R.seen files.new) (R.start files.new) (λ t. paths.keys ≡ used_paths (sight_of t) → IsLimited e t)) }
 {
     let all = paths.len();
     let mut tasks = read_batch(alloc, files, &mut paths)?.tasks;

@@ -1,5 +1,8 @@
 //! Files that are read whole, however long they are.
-ghost use Rattle.std.specs.Prelude.{◌≡◌, ◌<◌, ◌^◌, IfOk, IfSome, true, IfErr};
+ghost use Rattle.std.specs.Prelude.{◌≡◌, ◌<◌, ◌^◌, IfOk, IfSome, true, IfErr, length, unwrap_or, [], Ok};
+ghost use Rattle.hgs_verify.specs.Looked.{OfTree};
+ghost use Rattle.hgs_load.specs.Whole.{within};
+ghost use Rattle.hgs_bytes.specs.Answer.{Gives};
 ghost use Rattle.hgs_verify.specs.Refusal.{is_refusal};
 ghost use Rattle.hgs_files.specs.Reads.{Grows, IsSizeOf};
 ghost use Rattle.hgs_files.specs.Tree.{after_all};
@@ -29,6 +32,7 @@ pub fn read_file<R: Reads>(
     ensures cause { HasFaultCause (R.faults files.old) (R.faults files.new) (R.denied files.old) (R.denied files.new) result }
     ensures outside { IfErr result (λ e. is_of_outside e ≡ true) }
     ensures refused { IfErr result (λ e. is_refusal e ≡ true) }
+    ensures few { IfOk result (λ bytes. length (unwrap_or bytes []) < 2 ^ 62) }
 {
     let part = read_part(alloc, files, path, 0, MOST)?;
     if bytes_of(&part).len() as u64 >= MOST {
@@ -50,6 +54,7 @@ pub fn read_text<R: Reads>(
     ensures still { R.alone ≡ true → R.seen files.new ≡ R.seen files.old }
     ensures cause { HasFaultCause (R.faults files.old) (R.faults files.new) (R.denied files.old) (R.denied files.new) result }
     ensures refused { IfErr result (λ e. is_refusal e ≡ true) }
+    ensures given { OfTree R.alone (R.seen files.new) (R.start files.new) (λ t. Gives is_of_outside (λ bytes. bytes) result (within most Ok (t path.now))) }
 {
     let part = read_part(alloc, files, path, 0, most + 1)?;
     if bytes_of(&part).len() as u64 > most {
@@ -65,6 +70,7 @@ pub fn size_of<R: Reads>(files: &mut R, path: &StorePath) -> Result<Option<u64>,
     ensures still { R.alone ≡ true → R.seen files.new ≡ R.seen files.old }
     ensures cause { HasFaultCause (R.faults files.old) (R.faults files.new) (R.denied files.old) (R.denied files.new) result }
     ensures refused { IfErr result (λ e. is_refusal e ≡ true) }
+    ensures outside { IfErr result (λ e. is_of_outside e ≡ true) }
 {
     match files.size(path) {
         Ok(size) => Ok(size),

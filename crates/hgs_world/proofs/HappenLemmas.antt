@@ -224,7 +224,7 @@ begins_keep l command old new text valid needs keeps h = by old.writer keeps ref
     come : (begun : Begun) (done : List Op) → AtRest (tree_of old) old.book → Begins who command (tree_of old) begun done → HasBegun command begun old new done text → Keeps new
     come (Ready planned) done k b (can, now, said) =
         subst Keeps (sym now) (subst (λ (u : Tree). AtWork u (new_writer planned) (with_pending command old.book)) (sym (after_append old.log done old.start)) (sets_out l (tree_of old) old.book command done planned k valid needs b can))
-    come (Refused answer) done k b (swept, now, said) =
+    come (Refused answer) done k b (given, swept, now, said) =
         subst Keeps (sym now) (subst (λ (u : Tree). AtRest u old.book) (sym (after_append old.log done old.start)) (rests_refused l (tree_of old) old.book command answer done k swept b))
 
     by : (o : Option Working) → KeepsAt (tree_of old) o old.book → old.writer ≡ o → IfRunning o (BeginsIn command old new text) (λ w. OnlySays old new (codes "busy") text) → Keeps new

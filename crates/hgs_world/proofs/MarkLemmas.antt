@@ -130,7 +130,7 @@ begins command old new text k h = by old.writer h
   where
     come : (begun : Begun) (done : List Op) → HasBegun command begun old new done text → GoesOn old.book new.book
     come (Ready planned) done h = of old new (with_pending command old.book) (record { counted = k; more = []; whole = sym (append-nil (acknowledged_of old.book)) }) (ap (λ (s : Scene). s.book) h.1)
-    come (Refused answer) done h = still old new k (ap (λ (s : Scene). s.book) h.1)
+    come (Refused answer) done (given, swept, now, text) = still old new k (ap (λ (s : Scene). s.book) now)
 
     by : (o : Option Working) → IfRunning o (BeginsIn command old new text) (λ w. OnlySays old new (codes "busy") text) → GoesOn old.book new.book
     by None (begun, done, b, h) = come begun done h

@@ -16,9 +16,9 @@ pub if_ok : {T E : Type 0} {P Q : T → Type 0} (r : Result T E) → ((x : T) �
 if_ok (Ok x) f h = f x h
 if_ok (Err e) f h = tt
 
-pub if_ok_both : {T E : Type 0} {P Q R : T → Type 0} (r : Result T E) → ((x : T) → P x → Q x → R x) → IfOk r P → IfOk r Q → IfOk r R
-if_ok_both (Ok x) f h k = f x h k
-if_ok_both (Err e) f h k = tt
+pub if_ok_all : {T E : Type 0} {P Q R S : T → Type 0} (r : Result T E) → ((x : T) → P x → Q x → R x → S x) → IfOk r P → IfOk r Q → IfOk r R → IfOk r S
+if_ok_all (Ok x) f h k l = f x h k l
+if_ok_all (Err e) f h k l = tt
 
 pub if_ok_on : {T E X : Type 0} {P Q : T → Type 0} (r : Result T E) → (X → (x : T) → P x → Q x) → OnOk r X → IfOk r P → IfOk r Q
 if_ok_on (Ok x) f k h = f k x h

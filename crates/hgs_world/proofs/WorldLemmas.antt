@@ -15,7 +15,7 @@ use Rattle.hgs_writer.specs.declared.plan.Planned.{Planned}
 use Rattle.hgs_world.specs.Book.{with_pending}
 use Rattle.hgs_world.specs.Texts.{begun_line, word_line}
 use Rattle.hgs_world.specs.Working.{Acts, RunsTo, line_at, writer_left}
-use Rattle.hgs_world.specs.World.{ActsIn, BeginsIn, Happens, IfRunning, LeavesWriter, OnlySays, RunsIn, Scene, book_at, book_left, new_writer, tree_of, who}
+use Rattle.hgs_world.specs.World.{ActsIn, BeginsIn, Happens, IfRunning, IsGivenByFiles, LeavesWriter, OnlySays, RunsIn, Scene, book_at, book_left, new_writer, tree_of, who}
 use Rattle.hgs_world.specs.declared.working.Deed.{Deed}
 use Rattle.hgs_world.specs.declared.working.Goal.{Goal}
 use Rattle.hgs_world.specs.declared.working.Working.{Working}
@@ -56,14 +56,15 @@ begun_ready command old new text planned start log none e h can n t =
     )
 
 pub begun_refused : (command : Command) (old new : Scene) (text : List ℕ) (answer : Answer) (start : Tree) (log : List Op) → old.writer ≡ None → start ≡ old.start → GoesOn (Some old.log) (Some log) (Begins who command (tree_of old) (Refused answer))
-    → new ≡ record old { start = start; log = log } → answer.swept ≡ true → text ≡ begun_line answer.outcome → Happens (Begin command) old new text
-begun_refused command old new text answer start log none e h n swept t =
+    → new ≡ record old { start = start; log = log } → IsGivenByFiles answer.outcome → answer.swept ≡ true → text ≡ begun_line answer.outcome → Happens (Begin command) old new text
+begun_refused command old new text answer start log none e h n given swept t =
     let is : log ≡ old.log ++ h.0 = cc in
     subst (λ o. IfRunning o (BeginsIn command old new text) (λ w. OnlySays old new (codes "busy") text)) (sym none) (
       Refused answer,
       h.0,
       h.2,
       (
+        given,
         swept,
         n ∙ ap (λ (s : Tree). record old { start = s; log = log }) e ∙ ap (λ l. record old { log = l }) is ∙ ap (λ o. record old { log = old.log ++ h.0; writer = o }) none,
         t,

@@ -1,5 +1,7 @@
 -- A repository with one writer and some readers, and what each event does to it and writes.
 use Rattle.std.specs.Prelude.{◌≡◌, ℕ, List, [], ◌++◌, Bool, true, false, Option, Some, None, codes, map, length, replicate, slice_get, slice_set}
+use Rattle.hgs_answers.specs.declared.outcome.Outcome.{Outcome}
+use Rattle.hgs_answers.specs.declared.outcome.Outcome.TheVariants as outcomes
 use Rattle.hgs_files.specs.declared.op.Op.{Op}
 use Rattle.hgs_files.specs.Tree.{Tree, after_all}
 use Rattle.hgs_machine.specs.Asked.{Question, Doing, Sizing, Ending, asked}
@@ -79,10 +81,18 @@ IfRunning (Some w) Idle Holds = Holds w
 abbrev pub new_writer : Planned → Working
 new_writer p = record { machine = new_machine p.plan; part = 0; rev = p.rev; node = p.node }
 
--- both locks are made and a transaction is planned that can be carried out from there, or the command is refused and no lock is left
+-- what the repository and its files give: no call failed, and memory was there
+abbrev pub IsGivenByFiles : Outcome → Type 0
+IsGivenByFiles outcomes.Fault = ⊥
+IsGivenByFiles (outcomes.Unfinished p) = ⊥
+IsGivenByFiles outcomes.Memory = ⊥
+IsGivenByFiles _ = Unit {0}
+
+-- both locks are made and a transaction is planned that can be carried out from there; or the command is refused, by what the
+-- files give, and no lock is left
 abbrev pub HasBegun : Command → Begun → Scene → Scene → List Op → List ℕ → Type 0
 HasBegun command (Ready planned) old new done text = IsPlanned (after_all done (tree_of old)) planned.plan × (new ≡ record (with_writer old done (Some (new_writer planned))) { book = with_pending command old.book }) × (text ≡ word_line (codes "begin ok"))
-HasBegun command (Refused a) old new done text = (a.swept ≡ true) × (new ≡ with_writer old done None) × (text ≡ begun_line a.outcome)
+HasBegun command (Refused a) old new done text = IsGivenByFiles a.outcome × (a.swept ≡ true) × (new ≡ with_writer old done None) × (text ≡ begun_line a.outcome)
 
 abbrev pub BeginsIn : Command → Scene → Scene → List ℕ → Type 0
 BeginsIn command old new text = (begun : Begun) × (done : List Op) × Begins who command (tree_of old) begun done × HasBegun command begun old new done text

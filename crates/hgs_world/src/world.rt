@@ -13,7 +13,7 @@ ghost use Rattle.hgs_world.specs.Questions.{body_text, no_sight, phase_text, sig
 ghost use Rattle.hgs_world.specs.Start.{new_tree};
 ghost use Rattle.hgs_world.specs.Texts.{begun_line, recovered_line, word_line};
 ghost use Rattle.hgs_world.specs.Working.{HasBytes, CanGoOn, writer_left};
-ghost use Rattle.hgs_world.specs.World.{ActsIn, Answers, Happens, HasEnded, IsFirst, IsSeen, RecoversIn, RunsIn, StopsIn, book_at, book_left, forgotten, new_writer, scene_of, tree_of};
+ghost use Rattle.hgs_world.specs.World.{ActsIn, Answers, Happens, HasEnded, IsFirst, IsGivenByFiles, IsSeen, RecoversIn, RunsIn, StopsIn, book_at, book_left, forgotten, new_writer, scene_of, tree_of};
 
 use crate::book::Book;
 use crate::questions::{body_text, bookmarks_text, log_text, phase_text};
@@ -82,13 +82,14 @@ fn writer_of(planned: Planned) -> Working
     }
 }
 
-// The line of a refused beginning, if it is not for want of memory.
+// The line of a refused beginning, if no call failed and memory was there.
 fn refused(alloc: Global, answer: &Answer) -> Result<Vec<u8>, NoMemory>
     ensures line { IfOk result (λ line. line.items ≡ begun_line answer.now.outcome) }
+    ensures given { IfOk result (λ line. IsGivenByFiles answer.now.outcome) }
     ensures swept { IfOk result (λ line. answer.now.swept ≡ true) }
 {
     match answer.outcome {
-        Outcome::Memory | Outcome::Fault => Err(NoMemory),
+        Outcome::Memory | Outcome::Fault | Outcome::Unfinished(_) => Err(NoMemory),
         _ if !answer.swept => Err(NoMemory),
         _ => refused_line(alloc, answer),
     }

@@ -9,8 +9,8 @@ use Rattle.hgs_commit.specs.declared.fault.CommitFault.TheVariants as commits
 use Rattle.hgs_files.specs.declared.op.Op.{Op}
 use Rattle.hgs_files.specs.Tree.{Tree, after_all}
 use Rattle.hgs_index.specs.declared.node.Node.{Node}
-use Rattle.hgs_files.specs.Stop.{IsStopped, StopLeaves}
-use Rattle.hgs_legal.specs.Pieces.{LeavesJournal, Piece, Pieces, and_then, at_last, no_more, no_pieces}
+use Rattle.hgs_files.specs.Stop.{IsStopped}
+use Rattle.hgs_legal.specs.Pieces.{Early, Front, LeavesJournal, Piece, Pieces, and_then, at_last, no_more, no_pieces}
 use Rattle.hgs_machine.specs.Course.{lock_removals}
 use Rattle.hgs_machine.specs.Locks.{AreLocked, AreRemoved, IsTurnedAway}
 use Rattle.hgs_machine.specs.declared.ended.Published.TheVariants.{No, Yes, Unknown}
@@ -27,7 +27,6 @@ use Rattle.hgs_model.specs.declared.command.NewChange.{NewChange}
 use Rattle.hgs_model.specs.declared.command.Refusal.{Refusal}
 use Rattle.hgs_model.specs.declared.command.Refusal.TheVariants as refusals
 use Rattle.hgs_ops.specs.Operations.{strays}
-use Rattle.hgs_ops.specs.Stops.{IsBetween}
 use Rattle.hgs_ops.specs.Unhindered.{IsReady}
 use Rattle.hgs_planned.specs.Commits.{AnswersWith}
 use Rattle.hgs_pieces.specs.Made.{IsPieceOf}
@@ -69,30 +68,31 @@ pieces-of t r stepped log (inr (inr (inl left))) = subst (Pieces t r) (append-ni
 pieces-of t r stepped log (inr (inr (inr (next, accepted, piece)))) = one-piece t r next.0 log piece
 
 -- where it is stopped
-pub stops-of : ((t : Tree) (r next : Repo) (log : List Op) (u : Tree) → Stands t r → Piece t r log next → StopLeaves t log u → IsBetween u r next)
-    → ((t : Tree) (r : Repo) (log : List Op) (u : Tree) → Stands t r → LeavesJournal t r log → StopLeaves t log u → Stands u r ⊎ IsOpen strays u r)
-    → (t : Tree) (r : Repo) (stepped : Result Next Refusal) (log : List Op) (u : Tree) → Stands t r → IsMadeOf t r stepped log → StopLeaves t log u → IsStopOf r stepped u
-stops-of between left_between t r stepped log u s (inl none) stop =
-    let nothing : stop.0 ≡ [] = subst (λ l. IsStopped l stop.0) none stop.1 in
-    inl (subst (λ v. Stands v r) (sym (stop.2 ∙ ap (λ l. after_all l t) nothing)) s)
-stops-of between left_between t r stepped log u s (inr (inl piece)) stop = elim (between t r r log u s piece stop) [
-  | inl h ↦ inl h
-  | inr h ↦ elim h [
-    | inl is_open ↦ inr (inl is_open)
-    | inr k ↦ inl k
-  ]
-]
-stops-of between left_between t r stepped log u s (inr (inr (inl left))) stop = elim (left_between t r log u s left stop) [
-  | inl h ↦ inl h
-  | inr h ↦ inr (inl h)
-]
-stops-of between left_between t r stepped log u s (inr (inr (inr (next, accepted, piece)))) stop = elim (between t r next.0 log u s piece stop) [
-  | inl h ↦ inl h
-  | inr h ↦ elim h [
-    | inl is_open ↦ inr (inl is_open)
-    | inr k ↦ inr (inr (next, accepted, k))
-  ]
-]
+module _ (ends : (t : Tree) (r next : Repo) (log : List Op) → Stands t r → Piece t r log next → Stands (after_all log t) next) (left_open : (t : Tree) (r : Repo) (log : List Op) → Stands t r → LeavesJournal t r log → IsOpen strays (after_all log t) r)
+    (of_piece : (t : Tree) (r next : Repo) (log d : List Op) → Piece t r log next → IsStopped log d → Front t r next d) (of_left : (t : Tree) (r : Repo) (log d : List Op) → LeavesJournal t r log → IsStopped log d → Early t r d)
+    (t : Tree) (r : Repo) (stepped : Result Next Refusal) (s : Stands t r) where
+  stopped-early : (d : List Op) → Early t r d → IsStopOf t r stepped d
+  stopped-early d (inl none) = inl (inl none, subst (λ l. Stands (after_all l t) r) (sym none) s)
+  stopped-early d (inr (inl piece)) = inl (inr piece, ends t r r d s piece)
+  stopped-early d (inr (inr left)) = inr (inl (left, left_open t r d s left))
+
+  stopped-back : (d : List Op) → Front t r r d → IsStopOf t r stepped d
+  stopped-back d (inl none) = stopped-early d (inl none)
+  stopped-back d (inr (inl piece)) = stopped-early d (inr (inl piece))
+  stopped-back d (inr (inr (inl piece))) = stopped-early d (inr (inl piece))
+  stopped-back d (inr (inr (inr left))) = stopped-early d (inr (inr left))
+
+  stopped-on : (d : List Op) (next : Next) → stepped ≡ Ok next → Front t r next.0 d → IsStopOf t r stepped d
+  stopped-on d next accepted (inl none) = stopped-early d (inl none)
+  stopped-on d next accepted (inr (inl piece)) = stopped-early d (inr (inl piece))
+  stopped-on d next accepted (inr (inr (inl piece))) = inr (inr (next, accepted, piece, ends t r next.0 d s piece))
+  stopped-on d next accepted (inr (inr (inr left))) = stopped-early d (inr (inr left))
+
+  pub stops-of : (log d : List Op) → IsMadeOf t r stepped log → IsStopped log d → IsStopOf t r stepped d
+  stops-of log d (inl none) stop = stopped-early d (inl (subst (λ l. IsStopped l d) none stop))
+  stops-of log d (inr (inl piece)) stop = stopped-back d (of_piece t r r log d piece stop)
+  stops-of log d (inr (inr (inl left))) stop = stopped-early d (of_left t r log d left stop)
+  stops-of log d (inr (inr (inr (next, accepted, piece)))) stop = stopped-on d next accepted (of_piece t r next.0 log d piece stop)
 
 -- ---- what the repository makes of a command, and what is planned
 

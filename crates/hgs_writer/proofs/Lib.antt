@@ -9,3 +9,4 @@ pub mod AloneLemmas
 pub mod CleanLemmas
 pub mod StandingLemmas
 pub mod OutcomeLemmas
+pub mod RefusalLemmas

@@ -1,13 +1,15 @@
 -- What a call that was alone leaves of a tree that stands for a repository, by its answer.
-use Rattle.std.specs.Prelude.{◌≡◌, ◌⊎◌, ℕ, Bool, true, false, Result, Ok, Err, IsOk}
+use Rattle.std.specs.Prelude.{◌≡◌, ◌⊎◌, ℕ, List, [], Bool, true, false, Result, Ok, Err, IsOk}
 use Rattle.hgs_answers.specs.declared.outcome.Outcome.{Outcome}
 use Rattle.hgs_answers.specs.declared.outcome.Outcome.TheVariants.{Done, LockHeld, Abandoned, UnknownRevision, NothingChanged, Fault, Unfinished, Limit, NameClash, InTheWay, Collision, NeedsForce, Memory}
 use Rattle.hgs_answers.specs.declared.outcome.Published.{Published}
 use Rattle.hgs_answers.specs.declared.outcome.Published.TheVariants.{No, Yes, Unknown}
-use Rattle.hgs_files.specs.Tree.{Tree}
+use Rattle.hgs_files.specs.declared.op.Op.{Op}
+use Rattle.hgs_files.specs.Tree.{Tree, after_all}
 use Rattle.hgs_index.specs.declared.kinds.Which.{Which}
 use Rattle.hgs_index.specs.declared.kinds.Which.TheVariants.{Bookmarks, Inline}
 use Rattle.hgs_index.specs.declared.node.Node.{Node}
+use Rattle.hgs_legal.specs.Pieces.{LeavesJournal, Piece}
 use Rattle.hgs_model.specs.Repo.{Repo}
 use Rattle.hgs_model.specs.Step.{Next, step}
 use Rattle.hgs_model.specs.Valid.{IsNewChange}
@@ -56,9 +58,12 @@ IsAnswered r stepped (Unfinished published) u = IsOk stepped × IsLeftOpen r pub
 IsAnswered r stepped Abandoned u = ⊥
 IsAnswered r stepped _ u = Stands u r
 
--- What a stop within the call leaves: the repository before, or a tree that is open for it, or the next one.
-abbrev pub IsStopOf : Repo → Result Next Refusal → Tree → Type 0
-IsStopOf r stepped u = Stands u r ⊎ (IsOpen strays u r ⊎ ((next : Next) × (stepped ≡ Ok next) × Stands u next.0))
+-- What a stop within the call leaves, by what was done until then: where that is nothing or a piece that leads back, the
+-- repository before; where it leaves its journal, a tree that is open for that; and where it leads on, the next repository.
+abbrev pub IsStopOf : Tree → Repo → Result Next Refusal → List Op → Type 0
+IsStopOf t r stepped d =
+    (((d ≡ []) ⊎ Piece t r d r) × Stands (after_all d t) r)
+    ⊎ ((LeavesJournal t r d × IsOpen strays (after_all d t) r) ⊎ ((next : Next) × (stepped ≡ Ok next) × Piece t r d next.0 × Stands (after_all d t) next.0))
 
 -- no transaction is left unfinished
 abbrev pub IsFinished : Outcome → Type 0

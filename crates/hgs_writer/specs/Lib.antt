@@ -4,4 +4,5 @@ pub mod Below
 pub mod Limits
 pub mod Outcomes
 pub mod Planning
+pub mod Refusals
 pub mod Written

@@ -1,15 +1,17 @@
 -- What a call leaves in the log of the files, by its answer.
-use Rattle.std.specs.Prelude.{◌≡◌, ℕ, List, ◌++◌, Ok, Err}
+use Rattle.std.specs.Prelude.{◌≡◌, ℕ, List, ◌++◌, Option, Some, None, Ok, Err}
 use Rattle.hgs_answers.specs.declared.answer.Answer.{Answer}
 use Rattle.hgs_commit.specs.declared.fault.CommitFault.{CommitFault}
 use Rattle.hgs_files.specs.declared.op.Op.{Op}
 use Rattle.hgs_files.specs.Tree.{Tree, after_all}
+use Rattle.hgs_index.specs.declared.node.Node.{Node}
 use Rattle.hgs_machine.specs.Course.{CarriedOut, lock_removals}
 use Rattle.hgs_machine.specs.Locks.{AreLocked, AreRemoved, IsTurnedAway}
 use Rattle.hgs_machine.specs.declared.ended.Short.{Short}
 use Rattle.hgs_machine.specs.declared.locks.LockRefusal.{LockRefusal}
 use Rattle.hgs_model.specs.declared.command.Command.{Command}
 use Rattle.hgs_writer.specs.Outcomes.{outcome_of_commit, outcome_of_ended, outcome_of_lock}
+use Rattle.hgs_writer.specs.Begun.{IsRefused}
 use Rattle.hgs_writer.specs.Planning.{Plans}
 use Rattle.hgs_writer.specs.declared.plan.Planned.{Planned}
 
@@ -27,3 +29,10 @@ pub data IsWritten (who : List ℕ) (command : Command) (t : Tree) (answer : Ans
       → answer.outcome ≡ outcome_of_commit fault → done ≡ locking ++ releasing → IsWritten who command t answer done
   is_carried_out : (planned : Planned) (locking carrying : List Op) → AreLocked who t locking → Plans command (after_all locking t) (Ok planned) → IsCarriedOut (after_all locking t) planned answer carrying
       → done ≡ locking ++ carrying → IsWritten who command t answer done
+
+-- The same where the changeset is told that the transaction makes or names: none where the command was refused before it had a
+-- plan, else that of the plan, however it ended.
+pub data IsWrittenFor (who : List ℕ) (command : Command) (t : Tree) (answer : Answer) : Option (ℕ × Node) → List Op → Type 0 where
+  has_no_plan : (done : List Op) → IsRefused who command t answer done → IsWrittenFor who command t answer None done
+  has_plan : (planned : Planned) (locking carrying done : List Op) → AreLocked who t locking → Plans command (after_all locking t) (Ok planned) → IsCarriedOut (after_all locking t) planned answer carrying
+      → done ≡ locking ++ carrying → IsWrittenFor who command t answer (Some (planned.rev, planned.node)) done

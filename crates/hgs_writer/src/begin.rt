@@ -1,5 +1,5 @@
 //! The beginning of a command that writes: up to its plan.
-ghost use Rattle.std.specs.Prelude.{◌≡◌, ◌≤◌, List, length};
+ghost use Rattle.std.specs.Prelude.{◌≡◌, ◌≤◌, List, length, is_some};
 ghost use Rattle.std.specs.Option.{ForSome};
 ghost use Rattle.hgs_answers.specs.declared.outcome.Outcome.TheVariants.{Fault, Unfinished};
 ghost use Rattle.hgs_answers.specs.declared.outcome.Published.{Published};
@@ -9,8 +9,10 @@ ghost use Rattle.hgs_files.specs.Reads.{Rose};
 ghost use Rattle.hgs_files.specs.Tree.{after_all};
 ghost use Rattle.hgs_machine.specs.Carry.{tree_now};
 ghost use Rattle.hgs_machine.specs.Planned.{IsPlanned};
+ghost use Rattle.hgs_machine.specs.Refusals.{WereRefused};
 ghost use Rattle.hgs_model.specs.Valid.{IsValid};
 ghost use Rattle.hgs_writer.specs.Begun.{Begins, IfReady, IfRefused};
+ghost use Rattle.hgs_writer.specs.Refusals.{refusals_of};
 
 use crate::answers::{of_commit, of_locks};
 use crate::plan::{Planned, plan};
@@ -40,6 +42,7 @@ pub fn begin<F: Files>(alloc: Global, files: &mut F, command: &Command, who: &[u
     ensures planned { IfReady result (λ planned. ForSome (F.log files.new) (λ log. IsPlanned (after_all log (F.start files.new)) planned.plan)) }
     ensures fault { IfRefused result (λ answer. answer.outcome ≡ Fault → Rose (F.faults files.old) (F.faults files.new)) }
     ensures finished { IfRefused result (λ answer. (published : Published) → answer.outcome ≡ Unfinished published → ⊥) }
+    ensures calls { IfRefused result (λ answer. WereRefused (refusals_of (is_some (F.log files.old)) answer) (F.faults files.old) (F.faults files.new) (F.denied files.old) (F.denied files.new)) }
     ensures later { F.faults files.old ≤ F.faults files.new }
     ensures refused { F.denied files.old ≤ F.denied files.new }
     ensures same_start { F.start files.new ≡ F.start files.old }

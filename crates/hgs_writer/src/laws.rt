@@ -5,7 +5,7 @@ ghost use Rattle.hgs_answers.specs.declared.answer.Answer.{Answer};
 ghost use Rattle.hgs_answers.specs.declared.outcome.Outcome.TheVariants.{Done, LockHeld};
 ghost use Rattle.hgs_commit.specs.OfCommit.{ArePartsOfCommit};
 ghost use Rattle.hgs_files.specs.declared.op.Op.{Op};
-ghost use Rattle.hgs_files.specs.Stop.{StopLeaves};
+ghost use Rattle.hgs_files.specs.Stop.{IsStopped};
 ghost use Rattle.hgs_files.specs.Tree.{Tree, after_all, bytes_at};
 ghost use Rattle.hgs_index.specs.declared.node.Node.{Node};
 ghost use Rattle.hgs_journal.specs.Names.{journal_path};
@@ -39,7 +39,7 @@ ghost use Rattle.hgs_writer.specs.Written.{IsCarriedOut, IsWritten};
 ghost use Rattle.hgs_writer.specs.declared.plan.Planned.{Planned};
 
 use hgs_index::laws::held_index_length;
-use hgs_legal::laws::pieces_end;
+use hgs_legal::laws::{fronts_are_pieces, pieces_end};
 use hgs_loading::laws::indexes_are_read_whole;
 use hgs_path::laws::filelogs_have_their_own_names;
 use hgs_pieces::laws::{
@@ -75,14 +75,15 @@ pub fn stores_are_loaded()
 }
 
 /// A call that was alone, whatever it answers, where the tree has what a commit needs of it that no test tells: the tree stands
-/// for what the answer says, what was done is a piece of a legal log, and wherever it is stopped the tree stands for the
-/// repository before, or is open for it, or stands for the next one.
+/// for what the answer says, and what was done is a piece of a legal log. Wherever it is stopped the tree stands for the
+/// repository before or is open for it, or, where what was done leads on, it stands for the next one.
 pub fn calls_leave_what_they_answer()
     ensures answered { (t : Tree) (r : Repo) (command : Command) (who : List ℕ) (answer : Answer) (done : List Op) → Stands t r → IsValid command → HasWhatItNeeds t r command → IsWritten who command t answer done → IsAnswered r (step r command) answer.outcome (after_all done t) }
     ensures pieces { (t : Tree) (r : Repo) (command : Command) (who : List ℕ) (answer : Answer) (done : List Op) → Stands t r → IsValid command → HasWhatItNeeds t r command → IsWritten who command t answer done → Pieces t r done }
-    ensures stops { (t : Tree) (r : Repo) (command : Command) (who : List ℕ) (answer : Answer) (done : List Op) (u : Tree) → Stands t r → IsValid command → HasWhatItNeeds t r command → IsWritten who command t answer done → StopLeaves t done u → IsStopOf r (step r command) u }
+    ensures stops { (t : Tree) (r : Repo) (command : Command) (who : List ℕ) (answer : Answer) (done d : List Op) → Stands t r → IsValid command → HasWhatItNeeds t r command → IsWritten who command t answer done → IsStopped done d → IsStopOf t r (step r command) d }
 {
     pieces_end();
+    fronts_are_pieces();
     laws_below();
 }
 
@@ -91,9 +92,10 @@ pub fn calls_leave_what_they_answer()
 pub fn transactions_leave_what_they_answer()
     ensures answered { (t : Tree) (r : Repo) (command : Command) (next : Next) (who : List ℕ) (p : Parts) (planned : Planned) (answer : Answer) (locking carrying : List Op) → Stands t r → IsValid command → step r command ≡ Ok next → IsReady (after_all locking t) r command next.0 → ArePartsOf (after_all locking t) r command next.0 p → IsPlanOf p planned.plan → planned.rev ≡ next.1.rev → planned.node.0 ≡ next.1.node → AreLocked who t locking → IsCarriedOut (after_all locking t) planned answer carrying → IsAnswered r (step r command) answer.outcome (after_all (locking ++ carrying) t) }
     ensures pieces { (t : Tree) (r : Repo) (command : Command) (next : Next) (who : List ℕ) (p : Parts) (planned : Planned) (answer : Answer) (locking carrying : List Op) → Stands t r → IsValid command → step r command ≡ Ok next → IsReady (after_all locking t) r command next.0 → ArePartsOf (after_all locking t) r command next.0 p → IsPlanOf p planned.plan → planned.rev ≡ next.1.rev → planned.node.0 ≡ next.1.node → AreLocked who t locking → IsCarriedOut (after_all locking t) planned answer carrying → Pieces t r (locking ++ carrying) }
-    ensures stops { (t : Tree) (r : Repo) (command : Command) (next : Next) (who : List ℕ) (p : Parts) (planned : Planned) (answer : Answer) (locking carrying : List Op) (u : Tree) → Stands t r → IsValid command → step r command ≡ Ok next → IsReady (after_all locking t) r command next.0 → ArePartsOf (after_all locking t) r command next.0 p → IsPlanOf p planned.plan → planned.rev ≡ next.1.rev → planned.node.0 ≡ next.1.node → AreLocked who t locking → IsCarriedOut (after_all locking t) planned answer carrying → StopLeaves t (locking ++ carrying) u → IsStopOf r (step r command) u }
+    ensures stops { (t : Tree) (r : Repo) (command : Command) (next : Next) (who : List ℕ) (p : Parts) (planned : Planned) (answer : Answer) (locking carrying d : List Op) → Stands t r → IsValid command → step r command ≡ Ok next → IsReady (after_all locking t) r command next.0 → ArePartsOf (after_all locking t) r command next.0 p → IsPlanOf p planned.plan → planned.rev ≡ next.1.rev → planned.node.0 ≡ next.1.node → AreLocked who t locking → IsCarriedOut (after_all locking t) planned answer carrying → IsStopped (locking ++ carrying) d → IsStopOf t r (step r command) d }
 {
     pieces_end();
+    fronts_are_pieces();
     laws_below();
 }
 

@@ -1,5 +1,6 @@
 use Rattle.std.proofs.Common.{◌∙◌}
 use Rattle.hgs_machine.specs.Carry.{tree_now}
+use Rattle.hgs_machine.proofs.Counting.{carried-refused}
 use Rattle.hgs_machine.proofs.Carrying.{ends-carried, goes-on-step, is-under-way}
 use Rattle.hgs_machine.proofs.carry.carry_out.Goals as goal
 
@@ -15,6 +16,7 @@ loop-preserved g c =
       same_start = c.step.ensures.same_start ∙ i.same_start;
       plan = c.step.ensures.plan ∙ i.plan;
       causes = c.step.ensures.causes (g.F.Reads.faults c.args.files.now) (g.F.Reads.denied c.args.files.now) i.causes;
+      calls = c.step.ensures.calls (g.F.Reads.faults c.args.files.now) (g.F.Reads.denied c.args.files.now) i.calls;
     }
 
 pub returns-clause-log : goal.returns-clause-log
@@ -23,3 +25,10 @@ returns-clause-log g c =
     ends-carried (g.F.Files.log c.args.files.now) (g.F.Files.log c.step.new.files) (tree_now (g.F.Files.log c.args.files.now) (g.F.Reads.start c.args.files.now)) c.step.new.machine c.args.plan c.ended.result
     (c.step.ensures.plan ∙ i.plan) c.ended.ensures (c.step.ensures.ended c.loop-test.false)
     (goes-on-step (g.F.Files.log c.args.files.now) (g.F.Files.log c.loop.files) (g.F.Files.log c.step.new.files) (g.F.Reads.start c.args.files.now) (g.F.Reads.start c.loop.files) c.loop.machine c.step.new.machine i.same_start i.log c.step.ensures.log)
+
+pub returns-clause-calls : goal.returns-clause-calls
+returns-clause-calls g c =
+    let before = c.args.files.now in
+    let after = c.step.new.files in
+    carried-refused (g.F.Reads.faults before) (g.F.Reads.faults after) (g.F.Reads.denied before) (g.F.Reads.denied after) c.step.new.machine c.ended.result c.ended.ensures
+    (c.step.ensures.calls (g.F.Reads.faults before) (g.F.Reads.denied before) c.loop.invariant.calls)

@@ -1,7 +1,14 @@
 use Rattle.hgs_machine.specs.Carry.{tree_now}
+use Rattle.hgs_machine.proofs.Counting.{fed-refused}
 use Rattle.hgs_machine.proofs.Carrying.{steps-on}
 use Rattle.hgs_machine.proofs.carry.step.Goals as goal
 
 pub returns-in-Some-clause-log : goal.returns-in-Some-clause-log
 returns-in-Some-clause-log g c =
     steps-on (g.F.Files.log c.args.files.now) (g.F.Files.log c.call.new.files) (tree_now (g.F.Files.log c.args.files.now) (g.F.Reads.start c.args.files.now)) c.args.machine.now c.feed.new.self c.in-Some.reply c.feed.ensures.steps c.in-Some.ensures.log
+
+pub returns-in-Some-clause-calls : goal.returns-in-Some-clause-calls
+returns-in-Some-clause-calls g c = λ faults denied before.
+    let old = c.args.files.now in
+    let new = c.call.new.files in
+    fed-refused faults (g.F.Reads.faults old) (g.F.Reads.faults new) denied (g.F.Reads.denied old) (g.F.Reads.denied new) c.args.machine.now c.feed.new.self c.in-Some.reply c.feed.ensures.exact c.in-Some.ensures.counts before

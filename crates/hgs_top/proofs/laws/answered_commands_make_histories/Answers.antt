@@ -12,6 +12,6 @@ returns c = λ job left log new start r command answer stands valid needs comes.
       record {
         pieces = laws.pieces t r command _ answer done stands valid needs written;
         answered = laws.answered t r command _ answer done stands valid needs written;
-        stops = λ u stop. laws.stops t r command _ answer done u stands valid needs written stop;
+        stops = λ d stop. laws.stops t r command _ answer done d stands valid needs written stop;
       },
     )

@@ -17,10 +17,10 @@ returns-in-Ok-clause-comes g c =
     let alone = g.met.F.Files.only_writer in
     let old = g.F.Files.log c.args.files.now in
     let same = sym (g.met.F.Files.latest c.test_requires.new.files) ∙ e.still alone ∙ g.met.F.Files.latest c.args.files.now in
-    let P : Option (List Op) → Tree → Type 0 = λ log start. GoesOn log (g.F.Files.log c.write.new.files) (IsWritten lock_text c.args.command.now (tree_now log start) c.write.result) in (
+    let P : Option (List Op) → Tree → Type 0 = λ log start. GoesOn log (g.F.Files.log c.written.new.files) (IsWritten lock_text c.args.command.now (tree_now log start) c.written.result) in (
       of_found (g.F.Reads.seen c.test_requires.new.files) old (g.F.Reads.start c.test_requires.new.files) (g.F.Reads.start c.args.files.now) (λ t. required_in t ≡ Ok tt)
           (e.still alone ∙ g.met.F.Files.latest c.args.files.now) e.same_start (e.found alone),
-      subst (λ start. P old start) e.same_start (subst (λ log. P log (g.F.Reads.start c.test_requires.new.files)) same c.write.ensures.log),
+      subst (λ start. P old start) e.same_start (subst (λ log. P log (g.F.Reads.start c.test_requires.new.files)) same c.written.ensures.log),
     )
 
 pub returns-in-Err-clause-comes : goal.returns-in-Err-clause-comes

@@ -2,7 +2,7 @@ use Rattle.hgs_top.proofs.EndedLemmas.{says_fault, says_unfinished, says_no_inpu
 use Rattle.hgs_top.proofs.told.run_order.Goals as goal
 
 pub returns-clause-does : goal.returns-clause-does
-returns-clause-does g c = (c.do_order-ended.result, c.do_order-ended.ensures.comes, c.say.ensures.line)
+returns-clause-does g c = (c.do_order-ended.result, c.do_order-ended.ensures.comes, c.do_order-ended.ensures.left, c.say.ensures.line)
 
 pub returns-clause-statuses : goal.returns-clause-statuses
 returns-clause-statuses g c = says_status c.say.result c.do_order-ended.result c.say.ensures.statuses

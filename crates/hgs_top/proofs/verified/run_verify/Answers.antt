@@ -1,6 +1,7 @@
 use Rattle.std.proofs.Common.{List, Option, Err, ap, ◌∙◌, inl, inr, subst}
 use Rattle.hgs_files.specs.declared.op.Op.{Op}
 use Rattle.hgs_files.specs.Tree.{Tree}
+use Rattle.hgs_verify.specs.Refusal.{IsWhy}
 use Rattle.hgs_top.specs.Run.{OfTree, TellsReport}
 use Rattle.hgs_top.proofs.VerifiedLemmas.{tells}
 use Rattle.hgs_top.proofs.verified.run_verify.Goals as goal
@@ -18,4 +19,11 @@ returns-in-Ok-clause-verifies g c =
     inl (subst L (e.still alone ∙ g.met.F.Files.latest c.args.files.now) (subst S e.same_start (tells seen (g.F.Reads.start c.verify-verified.new.files) c.in-Ok.report c.tell.result old new (e.required alone) (e.report alone) c.tell.ensures.line)))
 
 pub returns-in-Err-clause-verifies : goal.returns-in-Err-clause-verifies
-returns-in-Err-clause-verifies g c = inr (c.in-Err.refusal, c.in-Err.ensures.refused, (λ e. c.in-Err.ensures.cause.fault (ap (λ refusal. Err refusal) e)), c.refuse.ensures.line)
+returns-in-Err-clause-verifies g c =
+    let e = c.in-Err.ensures in
+    let alone = g.met.F.Files.only_writer in
+    let seen = g.F.Reads.seen c.verify-verified.new.files in
+    let L : Option (List Op) → Type 0 = λ log. OfTree log (g.F.Reads.start c.args.files.now) (IsWhy c.in-Err.refusal) in
+    let S : Tree → Type 0 = λ start. OfTree seen start (IsWhy c.in-Err.refusal) in
+    let why = subst L (e.still alone ∙ g.met.F.Files.latest c.args.files.now) (subst S e.same_start (e.why alone)) in
+    inr (c.in-Err.refusal, e.refused, (λ f. e.cause.fault (ap (λ refusal. Err refusal) f)), why, c.refuse.ensures.line)

@@ -1,7 +1,11 @@
-use Rattle.std.proofs.Common.{◌≡◌, ◌∷◌, sym, subst}
+use Rattle.std.proofs.Common.{◌≡◌, ◌∷◌, true, sym, subst}
+use Rattle.hgs_bytes.specs.Bytes.{among, same}
+use Rattle.hgs_files.specs.Tree.{Tree}
 use Rattle.hgs_judge.specs.Report.{findings_in}
-use Rattle.hgs_verify.specs.Task.{AreRightIn, paths_of}
+use Rattle.hgs_verify.specs.Refusal.{IsOfPaths}
+use Rattle.hgs_verify.specs.Task.{AreRefusedIn, AreRightIn, paths_of}
 use Rattle.hgs_verify.specs.Walk.{AddPaths, AreMarked}
+use Rattle.hgs_verify.proofs.RefusalLemmas.{at-err, first-among, one-of-paths, on-right}
 use Rattle.hgs_verify.proofs.adding.add_all.Goals as goal
 
 pub loop-task-preserved : goal.loop-task-preserved
@@ -18,4 +22,19 @@ loop-task-preserved c = record {
         here.1,
         λ new marked more. before.1 new marked (subst (λ l. AddPaths (paths_of l) (findings_in at.into.items) new at.marks marked t) (sym steps) (findings_in c.add_task.new.into.items, wrong, c.mark.new.marks, adds, marks, more)),
       );
+  read = λ t are. (subst (AreRefusedIn t) c.in-Some.ensures.steps.0 (c.loop-task.invariant.read t are)).1;
+  front = λ path h. c.loop-task.invariant.front path (subst (λ l. among path (paths_of l) ≡ true) (sym c.in-Some.ensures.steps.0) (on-right (same path c.in-Some.task.path) (among path (paths_of c.next.new.self.rest.items)) h));
 }
+
+pub returns-in_err-wrong-clause-index : goal.returns-in_err-wrong-clause-index
+returns-in_err-wrong-clause-index c =
+    let at = c.loop-task in
+    let task = c.in-Some.task in
+    let rest = c.next.new.self.rest.items in
+    let steps : at.task-iterator.rest.items ≡ task ∷ rest = c.in-Some.ensures.steps.0 in
+    at-err c.from_residual.result c.in_err-wrong.field-0.0 (λ e. (t : Tree) → AreRefusedIn t c.args.tasks.items → IsOfPaths (paths_of c.args.tasks.items) e t) c.from_residual.ensures.0 c.from_residual.ensures.1
+    (λ t are.
+    let here = subst (AreRefusedIn t) steps (at.invariant.read t are) in
+    one-of-paths (paths_of c.args.tasks.items) task c.in_err-wrong.field-0.0 t here.0.0
+    (at.invariant.front task.path (subst (λ l. among task.path (paths_of l) ≡ true) (sym steps) (first-among task.path (paths_of rest))))
+    (c.in_err-wrong.ensures.index here.0.1))

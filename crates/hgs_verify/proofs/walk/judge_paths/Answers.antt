@@ -1,13 +1,20 @@
-use Rattle.std.proofs.Common.{◌≡◌, [], ◌++◌, Bool, List, refl, sym, ◌∙◌, ap, subst, arith}
+use Rattle.std.proofs.Common.{◌≡◌, [], ◌++◌, Bool, true, List, refl, sym, ◌∙◌, ap, subst, arith}
+use Rattle.std.specs.Prelude.{⊤}
 use Rattle.std.proofs.lemmas.Bool.Decides.{nat_tests}
+use Rattle.hgs_bytes.specs.Bytes.{among}
 use Rattle.hgs_files.specs.Tree.{Tree}
 use Rattle.hgs_findings.specs.Findings.{Finding}
+use Rattle.hgs_findings.specs.Reading.{sight_of}
+use Rattle.hgs_findings.specs.Regular.{used_paths}
 use Rattle.hgs_judge.specs.Report.{findings_in}
 use Rattle.hgs_report.specs.Store.{IsStoreOf}
-use Rattle.hgs_verify.specs.Task.{AreJudged, AreReadOf, AreRightIn, paths_of}
+use Rattle.hgs_verify.specs.Looked.{OfTree}
+use Rattle.hgs_verify.specs.Refusal.{IsLimited, IsOfPaths}
+use Rattle.hgs_verify.specs.Task.{AreJudged, AreReadOf, AreRefusedIn, AreRightIn, paths_of}
 use Rattle.hgs_verify.specs.Walk.{AddPaths}
-use Rattle.hgs_verify.proofs.BatchLemmas.{add-both, no-tasks, same-paths, tasks-right}
+use Rattle.hgs_verify.proofs.BatchLemmas.{add-both, no-tasks, same-paths, tasks-caused, tasks-right}
 use Rattle.hgs_verify.proofs.FileLemmas.{grows-on, two-looks}
+use Rattle.hgs_verify.proofs.RefusalLemmas.{among-before, among-behind, at-err, of-all, paths-limited}
 use Rattle.hgs_verify.proofs.WalkLemmas.{take-front}
 use Rattle.hgs_verify.proofs.walk.judge_paths.Goals as goal
 
@@ -16,6 +23,30 @@ returns-in_err-add_all-clause-seen g c = grows-on (g.R.Reads.seen c.args.files.n
 
 pub returns-in_err-tasks-2-clause-seen : goal.returns-in_err-tasks-2-clause-seen
 returns-in_err-tasks-2-clause-seen g c = grows-on (g.R.Reads.seen c.args.files.now) (g.R.Reads.seen c.loop-alloc.files) (g.R.Reads.seen c.judge_and_read-next.new.files) c.loop-alloc.invariant.grown c.judge_and_read-next.ensures.seen
+
+pub returns-in_err-add_all-clause-why : goal.returns-in_err-add_all-clause-why
+returns-in_err-add_all-clause-why g c =
+    let i = c.loop-alloc.invariant in
+    let both = c.judge_and_read-next.ensures in
+    let store = c.args.store.now in
+    let tasks = c.loop-alloc.tasks.items in
+    let keys = c.loop-alloc.paths.keys in
+    let judged = c.judge_and_read-next.new.tasks in
+    let e = c.in_err-add_all.field-0.0 in
+    let seen = g.R.Reads.seen c.judge_and_read-next.new.files in
+    let start = g.R.Reads.start c.judge_and_read-next.new.files in
+    let are : AreJudged store tasks judged = subst (λ l. AreJudged store l judged) c.deref_mut.ensures.value both.judged in
+    let same = take-front c.loop-alloc.tasks.len judged _ (c.loop-alloc.tasks.ok.0 ∙ sym are.count) in
+    let of : (t : Tree) → AreReadOf tasks t → IsOfPaths (paths_of tasks) e t =
+    λ t read.
+    subst (λ l. IsOfPaths l e t) (ap paths_of same ∙ same-paths store tasks judged are)
+    (c.in_err-add_all.ensures.index t (subst (AreRefusedIn t) (sym same) (tasks-caused store t tasks judged are read))) in
+    at-err c.from_residual-in_err-add_all.result e (λ x. OfTree g.R.Reads.alone seen start (λ t. c.args.paths.keys ≡ used_paths (sight_of t) → IsLimited x t)) c.from_residual-in_err-add_all.ensures.0 c.from_residual-in_err-add_all.ensures.1
+    (λ alone.
+    two-looks (g.R.Reads.seen c.loop-alloc.files) seen (g.R.Reads.start c.loop-alloc.files) start (AreReadOf tasks) (λ t. ⊤) (λ t. c.args.paths.keys ≡ used_paths (sight_of t) → IsLimited e t)
+    (both.still alone) both.same_start
+    (λ t read u used. paths-limited (paths_of tasks) e t (λ path h. ap (among path) (sym used) ∙ i.front path (among-before path (paths_of tasks) keys h)) (of t read))
+    (i.read alone) (of-all seen (λ log. ⊤) (λ log. tt)))
 
 pub loop-alloc-preserved : goal.loop-alloc-preserved
 loop-alloc-preserved g c =
@@ -52,6 +83,7 @@ loop-alloc-preserved g c =
           (two-looks (g.R.Reads.seen c.loop-alloc.files) seen (g.R.Reads.start c.loop-alloc.files) start (AreReadOf tasks) (AreReadOf next) (AreReadOf tasks) (both.still alone) both.same_start (λ t p q. p) (i.read alone) (both.read alone));
       read = both.read;
       some = both.next.some;
+      front = λ path h. i.front path (among-behind path (paths_of tasks) keys (subst (λ l. among path l ≡ true) both.next.order h));
       grown = grows-on (g.R.Reads.seen c.args.files.now) (g.R.Reads.seen c.loop-alloc.files) seen i.grown both.seen;
       same_start = both.same_start ∙ i.same_start;
       still = λ alone. both.still alone ∙ i.still alone;

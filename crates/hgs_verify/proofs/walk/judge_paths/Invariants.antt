@@ -1,5 +1,6 @@
-use Rattle.std.proofs.Common.{◌≡◌, ◌≤◌, ◌++◌, [], true, List, length}
+use Rattle.std.proofs.Common.{◌≡◌, ◌≤◌, ◌++◌, [], ℕ, true, List, length}
 use Rattle.std.specs.Prelude.{Bool}
+use Rattle.hgs_bytes.specs.Bytes.{among}
 use Rattle.hgs_files.specs.Reads.{Grows}
 use Rattle.hgs_findings.specs.Findings.{Finding}
 use Rattle.hgs_judge.specs.Report.{findings_in}
@@ -15,6 +16,7 @@ invariant-loop-alloc g l = record {
       → AddPaths (paths_of l.tasks.items ++ l.paths.keys) (findings_in l.into.items) new l.marks marked t → AddPaths l.fn.paths.keys (findings_in l.initial.into.items) new l.initial.marks marked t);
   read : OfTree g.R.Reads.alone (g.R.Reads.seen l.files) (g.R.Reads.start l.files) (AreReadOf l.tasks.items);
   some : l.tasks.items ≡ [] → l.paths.keys ≡ [];
+  front : (path : List ℕ) → among path (paths_of l.tasks.items ++ l.paths.keys) ≡ true → among path l.fn.paths.keys ≡ true;
   grown : Grows (g.R.Reads.seen l.fn.files) (g.R.Reads.seen l.files);
   same_start : g.R.Reads.start l.files ≡ g.R.Reads.start l.fn.files;
   still : g.R.Reads.alone ≡ true → g.R.Reads.seen l.files ≡ g.R.Reads.seen l.fn.files;

@@ -1,6 +1,7 @@
-use Rattle.std.proofs.Common.{Ok, Err, sym, ◌∙◌, refl, subst}
-use Rattle.std.specs.Prelude.{IfSome}
+use Rattle.std.proofs.Common.{Ok, Err, ap, sym, ◌∙◌, refl, subst}
+use Rattle.std.specs.Prelude.{IfSome, is_some}
 use Rattle.hgs_answers.specs.declared.answer.Answer.{Answer}
+use Rattle.hgs_commit.specs.declared.fault.CommitFault.{CommitFault}
 use Rattle.hgs_files.specs.Tree.{after_all}
 use Rattle.hgs_machine.specs.Carry.{tree_now}
 use Rattle.hgs_machine.specs.Course.{lock_removals}
@@ -8,6 +9,7 @@ use Rattle.hgs_machine.specs.Locks.{AreLocked, AreRemoved, IsTurnedAway}
 use Rattle.hgs_writer.specs.Begun.{Begins, IsRefused, has_no_locks, has_no_plan}
 use Rattle.hgs_writer.specs.declared.begin.Begun.TheVariants.{Ready}
 use Rattle.hgs_writer.specs.Planning.{Plans}
+use Rattle.hgs_writer.proofs.RefusalLemmas.{not-planned, turned-away}
 use Rattle.hgs_writer.proofs.WrittenLemmas.{and_told, as_well, in_turn}
 use Rattle.hgs_writer.proofs.begin.begin.Goals as goal
 
@@ -50,3 +52,24 @@ returns-clause-log g c =
     (λ t. AreLocked who t) (λ t. AreRemoved lock_removals swept) (λ t. IsRefused who command t answer) (λ t. Plans command t (Err fault))
     (sym (latest planned_files) ∙ (c.plan.ensures.still g.met.F.Files.only_writer ∙ latest locked_files)) (c.plan.ensures.same_start ∙ c.take_locks.ensures.same_start)
     (λ t a b locked plans removed. has_no_plan fault a b locked plans removed c.of_commit-outcome.ensures refl) c.in-Ok.ensures.log told c.release-swept.ensures.log
+
+pub returns-in-Err-clause-calls : goal.returns-in-Err-clause-calls
+returns-in-Err-clause-calls g c =
+    let before = c.args.files.now in
+    let after = c.take_locks.new.files in
+    let refusal = c.in-Err.refusal in
+    turned-away (g.F.Reads.faults before) (g.F.Reads.faults after) (g.F.Reads.denied before) (g.F.Reads.denied after) (is_some (g.F.Files.log before)) refusal.why refusal.swept c.of_locks.result c.of_locks.ensures.outcome c.of_locks.ensures.swept
+    c.in-Err.ensures.calls
+
+pub returns-clause-calls : goal.returns-clause-calls
+returns-clause-calls g c =
+    let before = c.args.files.now in
+    let locked = c.take_locks.new.files in
+    let planned = c.plan.new.files in
+    let after = c.release-swept.new.files in
+    let fault = c.in-Err-plan.fault in
+    let swept = c.release-swept.result in
+    let answer : Answer = record { outcome = c.of_commit-outcome.result; swept = swept } in
+    not-planned (g.F.Reads.faults before) (g.F.Reads.faults locked) (g.F.Reads.faults planned) (g.F.Reads.faults after) (g.F.Reads.denied before) (g.F.Reads.denied locked) (g.F.Reads.denied planned) (g.F.Reads.denied after)
+    (is_some (g.F.Files.log before)) fault swept answer c.of_commit-outcome.ensures refl c.take_locks.ensures.counts c.plan.ensures.later c.plan.ensures.refused
+    (λ e. c.in-Err-plan.ensures.cause.rose (ap (λ (x : CommitFault). Err x) e)) c.release-swept.ensures.counts c.release-swept.ensures.causes

@@ -9,7 +9,7 @@ returns c = record {
       (carried c.laws_below.ensures t r command next who p planned answer locking carrying s valid accepted ready are is rev node locks done).0;
   pieces = λ t r command next who p planned answer locking carrying s valid accepted ready are is rev node locks done.
       pieces-of t r (step r command) (locking ++ carrying) (carried c.laws_below.ensures t r command next who p planned answer locking carrying s valid accepted ready are is rev node locks done).1;
-  stops = λ t r command next who p planned answer locking carrying u s valid accepted ready are is rev node locks done.
-      stops-of c.pieces_end.ensures.stops c.pieces_end.ensures.left_stops t r (step r command) (locking ++ carrying) u s
+  stops = λ t r command next who p planned answer locking carrying d s valid accepted ready are is rev node locks done.
+      stops-of c.pieces_end.ensures.stands c.pieces_end.ensures.left_open c.fronts_are_pieces.ensures.of_piece c.fronts_are_pieces.ensures.of_left t r (step r command) s (locking ++ carrying) d
       (carried c.laws_below.ensures t r command next who p planned answer locking carrying s valid accepted ready are is rev node locks done).1;
 }

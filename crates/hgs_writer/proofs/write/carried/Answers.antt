@@ -1,7 +1,9 @@
+use Rattle.std.proofs.Common.{refl}
 use Rattle.hgs_answers.specs.declared.answer.Answer.{Answer}
 use Rattle.hgs_machine.specs.Carry.{tree_now}
 use Rattle.hgs_machine.specs.Course.{CarriedOut}
 use Rattle.hgs_writer.specs.Written.{IsCarriedOut}
+use Rattle.hgs_writer.proofs.RefusalLemmas.{carried-out}
 use Rattle.hgs_writer.proofs.WrittenLemmas.{as_well}
 use Rattle.hgs_writer.proofs.write.carried.Goals as goal
 
@@ -11,3 +13,12 @@ returns-clause-log g c =
     let answer : Answer = record { outcome = c.of_ended.result; swept = c.carry_out-ended.result.swept } in
     as_well (g.F.Files.log c.args.files.now) (g.F.Files.log c.carry_out-ended.new.files) (CarriedOut t c.args.planned.plan c.carry_out-ended.result.outcome c.carry_out-ended.result.swept) (IsCarriedOut t c.args.planned answer)
     (λ done h. record { ended = c.carry_out-ended.result.outcome; carried = h; outcome = c.of_ended.ensures }) c.carry_out-ended.ensures.log
+
+pub returns-clause-calls : goal.returns-clause-calls
+returns-clause-calls g c = λ told.
+    let before = c.args.files.now in
+    let after = c.carry_out-ended.new.files in
+    let ended = c.carry_out-ended.result in
+    let answer : Answer = record { outcome = c.of_ended.result; swept = ended.swept } in
+    carried-out (g.F.Reads.faults before) (g.F.Reads.faults after) (g.F.Reads.denied before) (g.F.Reads.denied after) told ended.outcome ended.swept c.args.planned.rev c.args.planned.node answer c.of_ended.ensures refl
+    c.carry_out-ended.ensures.calls

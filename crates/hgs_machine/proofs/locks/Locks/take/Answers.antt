@@ -1,9 +1,11 @@
-use Rattle.std.proofs.Common.{true, [], ◌∷◌, Ok, Err}
+use Rattle.std.proofs.Common.{true, [], ◌∷◌, Ok, Err, ◌∙◌}
+use Rattle.std.specs.Prelude.{is_some}
 use Rattle.hgs_files.specs.declared.op.Op.TheVariants.{Remove}
 use Rattle.hgs_ops.specs.Operations.{wlock_path}
 use Rattle.hgs_machine.specs.Carry.{tree_now}
 use Rattle.hgs_machine.specs.Course.{lock_removals}
 use Rattle.hgs_machine.specs.Locks.{AreLocked, AreRemoved, Looks, Makes, TakesLocks}
+use Rattle.hgs_machine.proofs.Counting.{falls-never, first-barred, lock-refused, told-on}
 use Rattle.hgs_machine.proofs.Locking.{Pair, as-well, barred-first, lock-abandoned, lock-barred, locks-made, named, pair, then}
 use Rattle.hgs_machine.proofs.locks.Locks.take.Goals as goal
 
@@ -50,3 +52,31 @@ returns-clause-log g c =
     (λ t a d h k. locks-made who locks.wlock locks.lock t a d locks.wlock_is locks.lock_is h k) c.in_default.ensures.log
     (pair (g.F.Files.log c.make.new.files) (g.F.Files.log c.make-2.new.files) (g.F.Files.log c.look.new.files) (g.F.Reads.start c.make.new.files) (g.F.Reads.start c.make-2.new.files)
     (λ t. Makes locks.lock who t (Ok tt)) (λ t. Looks t (Ok tt)) c.make-2.ensures.same_start c.in_default-make.ensures.log c.in_default-look.ensures.log)
+
+pub returns-in-Err-clause-calls : goal.returns-in-Err-clause-calls
+returns-in-Err-clause-calls g c =
+    let before = c.args.files.now in
+    let after = c.make.new.files in
+    first-barred (g.F.Reads.faults before) (g.F.Reads.faults after) (g.F.Reads.denied before) (g.F.Reads.denied after) (is_some (g.F.Files.log before)) c.in-Err.why c.in-Err.ensures.calls
+
+pub returns-in-Err-make-clause-calls : goal.returns-in-Err-make-clause-calls
+returns-in-Err-make-clause-calls g c =
+    let before = c.args.files.now in
+    let first = c.make.new.files in
+    let second = c.make-2.new.files in
+    let after = c.remove-swept.new.files in
+    let told = told-on (g.F.Files.log before) (g.F.Files.log first) _ c.in_default.ensures.log in
+    lock-refused (g.F.Reads.faults before) (g.F.Reads.faults first) (g.F.Reads.faults second) (g.F.Reads.faults after) (g.F.Reads.denied before) (g.F.Reads.denied first) (g.F.Reads.denied second) (g.F.Reads.denied after)
+    (is_some (g.F.Files.log before)) (is_some (g.F.Files.log first)) c.in-Err-make.why c.remove-swept.result told c.make.ensures.counts c.in-Err-make.ensures.calls c.remove-swept.ensures.counts c.remove-swept.ensures.causes
+
+pub returns-in-Err-look-clause-calls : goal.returns-in-Err-look-clause-calls
+returns-in-Err-look-clause-calls g c =
+    let before = c.args.files.now in
+    let first = c.make.new.files in
+    let second = c.make-2.new.files in
+    let looked = c.look.new.files in
+    let after = c.release-swept.new.files in
+    let made = falls-never (g.F.Reads.faults before) (g.F.Reads.faults first) (g.F.Reads.faults second) (g.F.Reads.denied before) (g.F.Reads.denied first) (g.F.Reads.denied second) c.make.ensures.counts c.make-2.ensures.counts in
+    let told = told-on (g.F.Files.log first) (g.F.Files.log second) _ c.in_default-make.ensures.log ∙ told-on (g.F.Files.log before) (g.F.Files.log first) _ c.in_default.ensures.log in
+    lock-refused (g.F.Reads.faults before) (g.F.Reads.faults second) (g.F.Reads.faults looked) (g.F.Reads.faults after) (g.F.Reads.denied before) (g.F.Reads.denied second) (g.F.Reads.denied looked) (g.F.Reads.denied after)
+    (is_some (g.F.Files.log before)) (is_some (g.F.Files.log second)) c.in-Err-look.why c.release-swept.result told made c.in-Err-look.ensures.calls c.release-swept.ensures.counts c.release-swept.ensures.causes

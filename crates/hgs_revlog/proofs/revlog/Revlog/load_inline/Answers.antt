@@ -2,7 +2,8 @@ use Rattle.std.proofs.Common.{◌≡◌, ◌≤◌, true, [], length, take, drop
 use Rattle.hgs_revlog.specs.Log.{Log, with_entry}
 use Rattle.hgs_revlog.specs.Load.{loaded_either, cell_of, entry_behind}
 use Rattle.hgs_revlog.proofs.FormLemmas.{left_of, left-front, left-behind, left-ends, left-shorter, form-begins}
-use Rattle.hgs_revlog.specs.Theorems.LoadLemmas.{load_rest, load_stops, load_ends, load_on, taken_entry, gives, gives_err}
+use Rattle.hgs_revlog.specs.Theorems.LoadLemmas.{load_rest, load_stops, load_ends, load_on, gives}
+use Rattle.hgs_revlog.proofs.PutLemmas.{gives_on}
 use Rattle.hgs_revlog.proofs.revlog.Revlog.load_inline.Goals as goal
 
 pub loop-bytes-init : goal.loop-bytes-init
@@ -12,22 +13,16 @@ pub returns-in-Err : goal.returns-in-Err
 returns-in-Err c =
     let log = c.loop-bytes.log in
     let front = left-front log.entries c.loop-bytes.rest.now c.in-Some.bytes.now c.in-Some.behind.now (sym c.in-Some.ensures) in
-    gives_err (λ log. log) c.in-Err.fault (loaded_either c.args.tail c.args.index.now)
-    (sym c.loop-bytes.invariant ∙ load_stops c.args.tail log (left_of log.entries c.loop-bytes.rest.now) c.in-Err.fault front.long (ap (entry_behind log.entries) (front.first ∙ sym c.cell-cell.ensures) ∙ sym c.in-Err.ensures))
-
-pub append-requires-clause-few : goal.append-requires-clause-few
-append-requires-clause-few c = (taken_entry c.loop-bytes.log.entries c.cell-cell.result c.in-Ok.entry (sym c.in-Ok.ensures)).0
-
-pub append-requires-clause-faultless : goal.append-requires-clause-faultless
-append-requires-clause-faultless c = (taken_entry c.loop-bytes.log.entries c.cell-cell.result c.in-Ok.entry (sym c.in-Ok.ensures)).1
+    gives_on (λ log. log) c.in-Err.fault (entry_behind log.entries c.cell-cell.result) (loaded_either c.args.tail c.args.index.now) c.in-Err.ensures.answer
+    (λ is. sym c.loop-bytes.invariant ∙ load_stops c.args.tail log (left_of log.entries c.loop-bytes.rest.now) c.in-Err.fault front.long (ap (entry_behind log.entries) (front.first ∙ sym c.cell-cell.ensures) ∙ is))
 
 pub returns-then-ends : goal.returns-then-ends
 returns-then-ends c =
     let log = c.loop-bytes.log in
     let front = left-front log.entries c.loop-bytes.rest.now c.in-Some.bytes.now c.in-Some.behind.now (sym c.in-Some.ensures) in
     sym c.loop-bytes.invariant
-    ∙ load_ends c.args.tail log (left_of log.entries c.loop-bytes.rest.now) c.in-Ok.entry front.long (ap (entry_behind log.entries) (front.first ∙ sym c.cell-cell.ensures) ∙ sym c.in-Ok.ensures) (sym c.ends.ensures ∙ c.if-ends.true)
-    ∙ ap (λ x. Ok x) (sym c.in_ok-append.ensures.ok)
+    ∙ load_ends c.args.tail log (left_of log.entries c.loop-bytes.rest.now) c.in-Ok.entry front.long (ap (entry_behind log.entries) (front.first ∙ sym c.cell-cell.ensures) ∙ c.in-Ok.ensures.answer) (sym c.ends.ensures ∙ c.if-ends.true)
+    ∙ ap (λ x. Ok x) (sym c.in-Ok.ensures.taken)
 
 pub loop-bytes-smaller : goal.loop-bytes-smaller
 loop-bytes-smaller c = left-shorter c.loop-bytes.rest.now c.in-Some.bytes.now c.in-Some.behind.now (sym c.in-Some.ensures)
@@ -37,9 +32,9 @@ loop-bytes-preserved c =
     let log = c.loop-bytes.log in
     let e = c.in-Ok.entry in
     let front = left-front log.entries c.loop-bytes.rest.now c.in-Some.bytes.now c.in-Some.behind.now (sym c.in-Some.ensures) in
-    ap (λ (l : Log). load_rest c.args.tail l (left_of l.entries c.in-Some.behind.now)) c.in_ok-append.ensures.ok
+    ap (λ (l : Log). load_rest c.args.tail l (left_of l.entries c.in-Some.behind.now)) c.in-Ok.ensures.taken
     ∙ ap (load_rest c.args.tail (with_entry log e)) (left-behind log.entries e c.in-Some.behind.now ∙ sym front.rest)
-    ∙ sym (load_on c.args.tail log (left_of log.entries c.loop-bytes.rest.now) e front.long (ap (entry_behind log.entries) (front.first ∙ sym c.cell-cell.ensures) ∙ sym c.in-Ok.ensures) (sym c.ends.ensures ∙ c.if-ends.false))
+    ∙ sym (load_on c.args.tail log (left_of log.entries c.loop-bytes.rest.now) e front.long (ap (entry_behind log.entries) (front.first ∙ sym c.cell-cell.ensures) ∙ c.in-Ok.ensures.answer) (sym c.ends.ensures ∙ c.if-ends.false))
     ∙ c.loop-bytes.invariant
 
 pub returns : goal.returns

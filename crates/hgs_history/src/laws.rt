@@ -1,0 +1,93 @@
+//! What the definitions of this crate imply. Each function is one law; none does anything but name the laws below that its
+//! proof takes.
+ghost use Rattle.std.specs.Prelude.{◌≡◌, ◌≤◌, ◌++◌, ◌∷◌, ℕ, List, [], Option, Some, length, true};
+ghost use Rattle.std.specs.List.{AllByRecursion, FoldsTo};
+ghost use Rattle.hgs_asked.specs.Beside.{AreNoOlder};
+ghost use Rattle.hgs_bytes.specs.Bytes.{IsPrefixOf};
+ghost use Rattle.hgs_files.specs.declared.op.Op.{Op};
+ghost use Rattle.hgs_headline.specs.WritersLog.{WritersLog, course_of, state_after};
+ghost use Rattle.hgs_legal.specs.LegalLog.{Turn};
+ghost use Rattle.hgs_model.specs.Repo.{Repo};
+ghost use Rattle.hgs_script.specs.Script.{IsShare};
+ghost use Rattle.hgs_script.specs.declared.job.Job.{Job};
+ghost use Rattle.hgs_script.specs.declared.result.PublishedJob.{PublishedJob};
+ghost use Rattle.hgs_session.specs.Calls.{Beginning, Makes, Stage, published_of, unsure_of};
+ghost use Rattle.hgs_session.specs.declared.call.Call.{Call};
+ghost use Rattle.hgs_stands.specs.Stands.{Stands};
+ghost use Rattle.hgs_session.specs.Jobs.{DoesJob, IsFresh, Progress};
+ghost use Rattle.hgs_session.specs.Session.{IsSession};
+ghost use Rattle.hgs_script.specs.declared.result.SessionResult.{SessionResult};
+ghost use Rattle.hgs_script.specs.declared.result.Answered.{Answered};
+ghost use Rattle.hgs_views.specs.Course.{OpensAlong, ReadsAlong};
+ghost use Rattle.hgs_views.specs.Seen.{Numbers};
+ghost use Rattle.hgs_history.specs.History.{ArePublished, HaveWhatTheyNeed, IsBehind, IsMadeAt, is_last_done, stage_behind};
+ghost use Rattle.hgs_history.specs.Workers.{GoesBeside, Knows};
+
+use hgs_asked::laws::questions_beside_writers;
+use hgs_legal::laws::numbers_rise;
+use hgs_turns::laws::{
+    calls_beside_a_journal_publish_nothing, calls_publish_their_own_turns,
+    states_at_rest_have_one_number, states_at_rest_stand,
+};
+use hgs_writer::laws::{calls_clean_up, calls_come_to_steps, calls_leave_what_they_answer};
+
+/// From a tree that stands for a repository the log of a session's calls is one that writers make. It publishes the transactions
+/// of the jobs that these calls list, in that order, each by the job's own command and with its name in the locks and the
+/// changeset that is listed; and behind them at most that of the job of which it is not known. So it is of each front of the
+/// calls, and of the log that they led to, which is a front of the whole; where the last of them is done, its bookmarks and
+/// working parents are as new as its changesets there, and all of it is acknowledged. A call that is refused as its command is,
+/// is refused as the repository refuses that behind the calls before it; and within the limits each call comes to what that
+/// repository makes of its command, or is barred by a journal that stands.
+pub fn sessions_publish_what_they_list()
+    ensures { (x : Beginning) (r : Repo) (calls : List Call) (last : Stage) (makes : Makes x calls last) → Stands x.start r → x.first.log ≡ Some [] → AllByRecursion IsShare x.jobs → HaveWhatTheyNeed x x.first calls last makes →
+        (h : WritersLog) × (h.start ≡ x.start) × (h.first ≡ r) × (last.log ≡ Some h.log) × ArePublished x.jobs (published_of calls) (unsure_of calls) h.last.published ×
+        ((front back : List Call) → calls ≡ front ++ back → (log : List Op) × ((stage_behind x x.first calls last makes front).log ≡ Some log) × IsPrefixOf log h.log × IsBehind x.jobs front (state_after h log)) ×
+        ((front back : List Call) (c : Call) → calls ≡ front ++ c ∷ back → (log : List Op) × ((stage_behind x x.first calls last makes front).log ≡ Some log) × IsPrefixOf log h.log × IsMadeAt x.jobs c (state_after h log)) }
+{
+    numbers_rise();
+    states_at_rest_stand();
+    states_at_rest_have_one_number();
+    calls_publish_their_own_turns();
+    calls_beside_a_journal_publish_nothing();
+    calls_leave_what_they_answer();
+    calls_come_to_steps();
+    calls_clean_up();
+}
+
+/// A worker that has done nothing knows its end's start, where the list of the writing end is told from there.
+pub fn fresh_workers_know_nothing()
+    ensures { (h : WritersLog) (x : Beginning) (p : Progress) (v : Numbers) → h.start ≡ x.start → x.first.log ≡ Some [] → IsFresh x p → Knows h p v }
+{}
+
+/// So the result of a session lists what the log publishes.
+pub fn results_list_what_is_published()
+    ensures { (x : Beginning) (r : Repo) (last : Stage) (result : SessionResult) (is : IsSession x last result) → Stands x.start r → x.first.log ≡ Some [] → AllByRecursion IsShare x.jobs → HaveWhatTheyNeed x x.first is.calls last is.makes →
+        (h : WritersLog) × (h.start ≡ x.start) × (h.first ≡ r) × (last.log ≡ Some h.log) × ArePublished x.jobs result.published result.unsure h.last.published }
+{
+    sessions_publish_what_they_list();
+}
+
+/// At least as many transactions are published as are listed.
+pub fn as_many_are_published_as_listed()
+    ensures { (jobs : List (List Job)) (entries : List PublishedJob) (unsure : Option (ℕ × ℕ)) (turns : List Turn) → ArePublished jobs entries unsure turns → length entries ≤ length turns }
+{}
+
+/// Within the limits, where what a worker's end has seen at last is a front of such a log: each question of the worker is
+/// answered of a view that is loaded for it, none of whose numbers is below that of the view before it or below that of each
+/// log which the worker learnt, or it meets a fault or finds no memory and keeps its view. No question tells of a damage, of a
+/// missing repository or of a requirement.
+pub fn workers_never_fall_back()
+    ensures { (h : WritersLog) (x : Beginning) (worker : ℕ) (calls : List Call) (p : Progress) (v : Numbers) (answers : List Answered) (now : Progress) (last : List Op) → OpensAlong (course_of h) [] h.log → ReadsAlong (course_of h) [] h.log → Knows h p v → now.seen ≡ Some last → IsPrefixOf last h.log → FoldsTo (DoesJob x worker calls) p answers now →
+        (w : Numbers) × FoldsTo (GoesBeside h x.jobs worker) (p, v) answers (now, w) }
+{
+    questions_beside_writers();
+}
+
+/// A view that is no older than the log behind some calls has at least as many changesets and phases as these calls list; and where
+/// the last of them is done, bookmarks and working parents too. So its numbers are above the place of each of their entries.
+pub fn later_views_have_what_is_listed()
+    ensures read { (h : WritersLog) (jobs : List (List Job)) (calls : List Call) (log : List Op) (v : Numbers) → IsBehind jobs calls (state_after h log) → AreNoOlder h v log → (length (published_of calls) ≤ v.read) × (length (published_of calls) ≤ v.rooted) }
+    ensures marked { (h : WritersLog) (jobs : List (List Job)) (calls : List Call) (log : List Op) (v : Numbers) → IsBehind jobs calls (state_after h log) → AreNoOlder h v log → is_last_done calls ≡ true → (length (published_of calls) ≤ v.marked) × (length (published_of calls) ≤ v.worked) }
+{
+    as_many_are_published_as_listed();
+}

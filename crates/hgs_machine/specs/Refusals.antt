@@ -1,0 +1,73 @@
+-- How many calls on the files were refused, at the least.
+use Rattle.std.specs.Prelude.{ℕ, ◌+◌, ◌≤◌, max, Bool, true, false, List, Option, Some, None, if◌then◌else◌}
+use Rattle.hgs_files.specs.Reads.{counted}
+use Rattle.hgs_machine.specs.declared.ended.Published.TheVariants.{No, Yes, Unknown}
+use Rattle.hgs_machine.specs.declared.ended.Short.{Short}
+use Rattle.hgs_machine.specs.declared.ended.Short.TheVariants.{Done as AllDone, Fault, Unfinished, Memory as OutOfMemory}
+use Rattle.hgs_machine.specs.declared.locks.LockRefusal.{LockRefusal}
+use Rattle.hgs_machine.specs.declared.locks.LockRefusal.TheVariants.{Held, Abandoned, Fault as LockFault, Memory as NoMemory}
+use Rattle.hgs_machine.specs.declared.machine.Machine.{Machine}
+use Rattle.hgs_machine.specs.declared.machine.Reply.{Reply}
+use Rattle.hgs_machine.specs.declared.machine.Reply.TheVariants.{Done, Failed, Memory, Size, SizeFailed, SizeMemory}
+use Rattle.hgs_machine.specs.declared.machine.Stage.{Stage}
+use Rattle.hgs_machine.specs.declared.machine.Stage.TheVariants.{Preparing, Beginning, Working, Publishing, Asking, Finishing, Undoing, Dropping, Sweeping, Removing}
+
+-- So many calls were refused since the old counts, or more: each failed or found no memory, and was counted.
+pub record WereRefused (calls faults_old faults_new denied_old denied_new : ℕ) : Type 0 where
+  pub failed : ℕ
+  pub wanting : ℕ
+  pub all : calls ≤ failed + wanting
+  pub faults : counted faults_old failed ≤ faults_new
+  pub denied : counted denied_old wanting ≤ denied_new
+
+-- where something is left, a call was refused that was to remove it, or to tell whether it stands
+abbrev pub refusals_of_left : Bool → ℕ
+refusals_of_left true = 0
+refusals_of_left false = 1
+
+-- What is taken back was refused once. What is left unfinished was refused once where it is published, and else once more, while it
+-- was taken back or at the question for the size.
+abbrev pub refusals_of_short : Short → ℕ
+refusals_of_short AllDone = 0
+refusals_of_short Fault = 1
+refusals_of_short OutOfMemory = 1
+refusals_of_short (Unfinished Yes) = 1
+refusals_of_short (Unfinished No) = 2
+refusals_of_short (Unfinished Unknown) = 2
+
+-- how often the calls of a transaction were refused that ended so
+abbrev pub refusals_of_ended : Short → Bool → ℕ
+refusals_of_ended outcome swept = refusals_of_short outcome + refusals_of_left swept
+
+-- those of a machine that stands at a stage: to take it back there must have been one
+abbrev pub refusals_at : Stage → Short → ℕ
+refusals_at Asking outcome = max 1 (refusals_of_short outcome)
+refusals_at Undoing outcome = max 1 (refusals_of_short outcome)
+refusals_at Dropping outcome = max 1 (refusals_of_short outcome)
+refusals_at _ outcome = refusals_of_short outcome
+
+abbrev pub refusals_so_far : Machine → ℕ
+refusals_so_far m = refusals_at m.stage m.outcome + refusals_of_left m.swept
+
+-- what a reply tells
+abbrev pub refusals_in : Reply → ℕ
+refusals_in Done = 0
+refusals_in (Size size) = 0
+refusals_in _ = 1
+
+-- ---- locks
+
+-- where the log is told a holder can be read, unless the read is refused
+abbrev pub refusals_of_holder : Bool → Option (List ℕ) → ℕ
+refusals_of_holder told (Some bytes) = 0
+refusals_of_holder told None = if told then 1 else 0
+
+abbrev pub refusals_of_lock : Bool → LockRefusal → ℕ
+refusals_of_lock told (Held holder) = refusals_of_holder told holder
+refusals_of_lock told Abandoned = 0
+refusals_of_lock told LockFault = 1
+refusals_of_lock told NoMemory = 0
+
+-- how often the calls of a writer were refused that did not get the locks
+abbrev pub refusals_of_locks : Bool → LockRefusal → Bool → ℕ
+refusals_of_locks told why swept = refusals_of_lock told why + refusals_of_left swept

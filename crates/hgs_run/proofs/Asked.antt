@@ -1,0 +1,58 @@
+-- What the words of a run ask for: workers, or something else.
+use Rattle.std.proofs.Common.{◌≡◌, true, false, ℕ, List, Option, Some, None, Result, Ok, Err, sym, ◌∙◌, ap}
+use Rattle.hgs_files.specs.declared.op.Op.{Op}
+use Rattle.hgs_files.specs.declared.yard.Left.{Left}
+use Rattle.hgs_files.specs.declared.yard.Left.TheVariants.{Whole, Parts}
+use Rattle.hgs_files.specs.Tree.{Tree}
+use Rattle.hgs_files.specs.Yard.{IfWhole}
+use Rattle.hgs_top.specs.Histories.{MakesHistory}
+use Rattle.hgs_top.specs.Words.{Request, is_session, request_of_words, to_answer, to_do, to_generate, to_play, to_session, to_verify}
+use Rattle.hgs_run.specs.Session.{KeepsStart, KeepsYard}
+
+pub if_whole : {Y A Rest Front W R : Type 0} {P : Y → Type 0} (left : Left Y A Rest Front W R) → ((y : Y) → P y) → IfWhole left P
+if_whole (Whole yard) holds = holds yard
+if_whole (Parts w rs) holds = tt
+
+pub if_whole_map : {Y A Rest Front W R : Type 0} {P Q : Y → Type 0} (left : Left Y A Rest Front W R) → ((y : Y) → P y → Q y) → IfWhole left P → IfWhole left Q
+if_whole_map (Whole yard) f h = f yard h
+if_whole_map (Parts w rs) f h = tt
+
+-- ---- workers are asked for
+
+pub asked_keeps_yard : (q : Result Request ℕ) → is_session q ≡ true → {status : ℕ} {Whole : Type 0} → (status ≡ 0 → Whole) → KeepsYard q status Whole
+asked_keeps_yard (Ok to_session) is h = h
+asked_keeps_yard (Ok (to_answer question)) is h = absurd (cc is)
+asked_keeps_yard (Ok (to_do job)) is h = absurd (cc is)
+asked_keeps_yard (Ok to_play) is h = absurd (cc is)
+asked_keeps_yard (Ok (to_verify jobs)) is h = absurd (cc is)
+asked_keeps_yard (Ok (to_generate seed count)) is h = absurd (cc is)
+asked_keeps_yard (Err place) is h = absurd (cc is)
+
+-- no command that writes was asked for
+pub asked_makes_none : (words : List (List ℕ)) → is_session (request_of_words words) ≡ true → (input : Option (List ℕ)) (old new : Option (List Op)) (start : Tree) → MakesHistory words input old new start
+asked_makes_none words is None old new start = tt
+asked_makes_none words is (Some bytes) None new start = tt
+asked_makes_none words is (Some bytes) (Some log) new start = λ job asked writing. let e : is_session (Ok (to_do job)) ≡ true = sym (ap is_session asked) ∙ is in absurd (cc e)
+
+-- ---- something else is asked for
+
+pub others_ask_none : (q : Result Request ℕ) → is_session q ≡ false → q ≡ Ok to_session → ⊥
+others_ask_none q is e = let no : true ≡ false = sym (ap is_session e) ∙ is in cc no
+
+pub others_keep_yard : (q : Result Request ℕ) (status : ℕ) → is_session q ≡ false → {Whole : Type 0} → Whole → KeepsYard q status Whole
+others_keep_yard (Ok to_session) status is h = absurd (cc is)
+others_keep_yard (Ok (to_answer question)) status is h = h
+others_keep_yard (Ok (to_do job)) status is h = h
+others_keep_yard (Ok to_play) status is h = h
+others_keep_yard (Ok (to_verify jobs)) status is h = h
+others_keep_yard (Ok (to_generate seed count)) status is h = h
+others_keep_yard (Err place) status is h = h
+
+pub others_keep_start : (q : Result Request ℕ) → is_session q ≡ false → {old new : Tree} → new ≡ old → KeepsStart q old new
+others_keep_start (Ok to_session) is h = tt
+others_keep_start (Ok (to_answer question)) is h = h
+others_keep_start (Ok (to_do job)) is h = h
+others_keep_start (Ok to_play) is h = h
+others_keep_start (Ok (to_verify jobs)) is h = h
+others_keep_start (Ok (to_generate seed count)) is h = h
+others_keep_start (Err place) is h = h

@@ -1,0 +1,23 @@
+use Rattle.std.proofs.Common.{map, sym, subst}
+use Rattle.std.specs.String.{string_bytes}
+use Rattle.hgs_top.specs.Given.{ReadsAsked}
+use Rattle.hgs_top.specs.Words.{request_of_words}
+use Rattle.hgs_top.specs.Histories.{MakesHistory}
+use Rattle.hgs_run.proofs.alone.run_alone.Goals as goal
+
+pub returns-clause-history : goal.returns-clause-history
+returns-clause-history g c =
+    let words = map string_bytes c.args.words.now in
+    let left = g.S.Source.left c.args.input.now in
+    let made = c.runs_make_histories.ensures words left (g.Y.A.Files.log c.alone-files.result.0) (g.Y.A.Files.log c.run_words-status.new.files) (g.Y.A.Reads.start c.alone-files.result.0) c.run_words-status.result (g.K.Sink.written c.args.out.now) (g.K.Sink.written c.run_words-status.new.out)
+    (g.Y.A.Reads.faults c.alone-files.result.0) (g.Y.A.Reads.faults c.run_words-status.new.files) (g.Y.A.Reads.denied c.alone-files.result.0) (g.Y.A.Reads.denied c.run_words-status.new.files) c.run_words-status.ensures.orders in
+    subst (λ f. MakesHistory words left (g.Y.A.Files.log (g.Y.Yard.files c.args.yard)) (g.Y.A.Files.log f) (g.Y.A.Reads.start (g.Y.Yard.files c.args.yard))) (sym c.again.ensures)
+    (subst (λ f. MakesHistory words left (g.Y.A.Files.log f) (g.Y.A.Files.log c.run_words-status.new.files) (g.Y.A.Reads.start f)) c.alone-files.ensures made)
+
+pub returns-clause-given : goal.returns-clause-given
+returns-clause-given g c =
+    let request = request_of_words (map string_bytes c.args.words.now) in
+    let before = g.Y.Yard.files c.args.yard in
+    let after = c.run_words-status.new.files in
+    subst (λ f. ReadsAsked request (g.Y.A.Reads.given before) (g.Y.A.Reads.given f) (g.Y.A.Reads.seen before) (g.Y.A.Reads.start before) (g.Y.A.Reads.seen f)) (sym c.again.ensures)
+    (subst (λ f. ReadsAsked request (g.Y.A.Reads.given f) (g.Y.A.Reads.given after) (g.Y.A.Reads.seen f) (g.Y.A.Reads.start f) (g.Y.A.Reads.seen after)) c.alone-files.ensures c.run_words-status.ensures.given)

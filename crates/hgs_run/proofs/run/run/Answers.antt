@@ -1,0 +1,28 @@
+use Rattle.std.proofs.Common.{map, sym, ◌∙◌}
+use Rattle.std.specs.String.{string_bytes}
+use Rattle.hgs_top.specs.Words.{request_of_words}
+use Rattle.hgs_run.proofs.Asked.{asked_keeps_yard, asked_makes_none, if_whole, if_whole_map, others_ask_none, others_keep_start, others_keep_yard}
+use Rattle.hgs_run.proofs.run.run.Goals as goal
+
+pub returns-then-asks_session-clause-history : goal.returns-then-asks_session-clause-history
+returns-then-asks_session-clause-history g c =
+    let is = sym c.asks_session.ensures ∙ c.if-asks_session.true in
+    if_whole c.run_session.result.left
+    (λ y. asked_makes_none (map string_bytes c.args.words.now) is (g.S.Source.left c.args.input.now) (g.Y.A.Files.log (g.Y.Yard.files c.args.yard)) (g.Y.A.Files.log (g.Y.Yard.files y)) (g.Y.A.Reads.start (g.Y.Yard.files c.args.yard)))
+
+pub returns-then-asks_session-clause-session : goal.returns-then-asks_session-clause-session
+returns-then-asks_session-clause-session g c = λ asked. c.run_session.ensures.session
+
+pub returns-then-asks_session-clause-whole : goal.returns-then-asks_session-clause-whole
+returns-then-asks_session-clause-whole g c = asked_keeps_yard (request_of_words (map string_bytes c.args.words.now)) (sym c.asks_session.ensures ∙ c.if-asks_session.true) c.run_session.ensures.whole
+
+pub returns-else-asks_session-clause-same_start : goal.returns-else-asks_session-clause-same_start
+returns-else-asks_session-clause-same_start g c =
+    let is = sym c.asks_session.ensures ∙ c.if-asks_session.false in
+    if_whole_map c.run_alone.result.left (λ y same. others_keep_start (request_of_words (map string_bytes c.args.words.now)) is same) c.run_alone.ensures.same_start
+
+pub returns-else-asks_session-clause-session : goal.returns-else-asks_session-clause-session
+returns-else-asks_session-clause-session g c = λ asked. absurd (others_ask_none (request_of_words (map string_bytes c.args.words.now)) (sym c.asks_session.ensures ∙ c.if-asks_session.false) asked)
+
+pub returns-else-asks_session-clause-whole : goal.returns-else-asks_session-clause-whole
+returns-else-asks_session-clause-whole g c = others_keep_yard (request_of_words (map string_bytes c.args.words.now)) c.run_alone.result.status (sym c.asks_session.ensures ∙ c.if-asks_session.false) c.run_alone.ensures.whole

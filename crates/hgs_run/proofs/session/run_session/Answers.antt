@@ -1,0 +1,36 @@
+use Rattle.std.proofs.Common.{◌≡◌, Result, refl, subst}
+use Rattle.hgs_bytes.specs.Answer.{Gives}
+use Rattle.hgs_load.specs.Answer.{is_of_outside}
+use Rattle.hgs_load.specs.declared.answer.ReadAnswer.{ReadAnswer}
+use Rattle.hgs_loading.specs.Found.{required_in}
+use Rattle.hgs_session.specs.Session.{LeftAs, RestsOn}
+use Rattle.hgs_top.specs.Run.{OfTree}
+use Rattle.hgs_run.specs.Session.{no_profile, no_script, ran}
+use Rattle.hgs_run.proofs.Given.{ran_over}
+use Rattle.hgs_run.proofs.session.run_session.Goals as goal
+
+pub returns-in-Err-clause-session : goal.returns-in-Err-clause-session
+returns-in-Err-clause-session g c = no_script c.in-Err.ended c.in-Err.ensures.refused c.say.ensures.line (refl, refl)
+
+pub returns-in-Ok-tested-clause-session : goal.returns-in-Ok-tested-clause-session
+returns-in-Ok-tested-clause-session g c =
+    let t = c.test-yard in
+    let yard = t.result.0 in
+    let log = g.Y.A.Files.log (g.Y.Yard.files c.args.yard) in
+    let start = g.Y.A.Reads.start (g.Y.Yard.files c.args.yard) in
+    let P : Result Unit ReadAnswer → Type 0 = λ r. OfTree log start (λ u. Gives is_of_outside (λ x. x) r (required_in u)) in
+    let faults = g.Y.A.Reads.faults (g.Y.Yard.files yard) in
+    let denied = g.Y.A.Reads.denied (g.Y.Yard.files yard) in
+    ran c.in-Ok.script faults denied c.in-Ok.ensures.script (subst P c.in-Ok-tested.is t.ensures.found) t.ensures.faults t.ensures.denied
+    (ran_over
+    (λ l s last. LeftAs c.run_script.result.left (λ y. RestsOn l s last.log (g.Y.A.Files.log (g.Y.Yard.files y)) (g.Y.A.Reads.start (g.Y.Yard.files y))) (λ w. g.Y.W.Files.log w ≡ last.log))
+    c.in-Ok.script.workers log (g.Y.A.Files.log (g.Y.Yard.files yard)) start (g.Y.A.Reads.start (g.Y.Yard.files yard)) faults denied c.run_script.result.status (g.K.Sink.written c.args.out.now) (g.K.Sink.written c.run_script.new.out)
+    t.ensures.stays.0 t.ensures.stays.1 c.run_script.ensures.runs)
+
+pub returns-clause-session : goal.returns-clause-session
+returns-clause-session g c =
+    let t = c.test-yard in
+    let log = g.Y.A.Files.log (g.Y.Yard.files c.args.yard) in
+    let start = g.Y.A.Reads.start (g.Y.Yard.files c.args.yard) in
+    let P : Result Unit ReadAnswer → Type 0 = λ r. OfTree log start (λ u. Gives is_of_outside (λ x. x) r (required_in u)) in
+    no_profile c.in-Ok.script c.in-Err-tested.refusal c.in-Ok.ensures.script (subst P c.in-Err-tested.is t.ensures.found) c.refuse.ensures.line t.ensures.stays

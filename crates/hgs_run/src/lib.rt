@@ -1,0 +1,8 @@
+//! The top call: what the program does with its words, the place of its repository, its input and its output.
+#![tactic(auto)]
+
+pub mod alone;
+pub mod ran;
+pub mod run;
+pub mod script;
+pub mod session;
