@@ -6,11 +6,12 @@
 What a session writes is taken apart. Its published jobs, done one after another by a second, simple implementation
 (`tests/plain_store.py`), each answer what the session says of them, and leave the same files byte for byte. Each question was answered
 of the repository after some number of these jobs, which never falls along a worker, and which is behind the worker's own jobs before
-it. Then what one worker is answered, against the same commands one by one; scripts that are none; and yards that refuse a session.
+it; so was each job that was refused. Then what one worker is answered, against the same commands one by one; scripts that are none; and yards that refuse a session.
 Mercurial, where it is there, finds nothing wrong in the end. The last line is 'N passed, M failed'.
 """
 
 import os
+import pickle
 import random
 import shutil
 import subprocess
@@ -94,6 +95,10 @@ class Replay:
             return refused.status, refused.line.encode() + b"\n"
         return 0, said.encode() + b"\n"
 
+    def kept(self):
+        """What it is now, for a job to be tried on it."""
+        return pickle.dumps(self)
+
     def ask(self, job):
         """What a question is answered now."""
         word, *rest = job.rstrip(b"\n").split(b" ", 2)
@@ -148,28 +153,32 @@ class Sessions(Checks):
         self.check(f"{what}: verify", self.run(["verify"])[0] == 0)
 
     def replayed(self, what, replay, workers, published, replies):
-        """Does the published jobs one after another. What each question of the script would be answered, before and after each."""
+        """Does the published jobs one after another. What each question of the script would be answered, before and after each, and
+        what the repository is then."""
         questions = {job for jobs in workers for job in jobs if not writes(job)}
-        states = [{job: replay.ask(job) for job in questions}]
+        states = [({job: replay.ask(job) for job in questions}, replay.kept())]
         for worker, job, rev, node in published:
             said = replay.do(workers[worker][job])
             self.check(f"{what}: {worker} {job}: not {said}", replies[worker][job] == said)
             self.check(f"{what}: {worker} {job}: {rev} is another", replay.store.changelog.nodes[rev].hex().encode() == node)
-            states.append({job: replay.ask(job) for job in questions})
+            states.append(({job: replay.ask(job) for job in questions}, replay.kept()))
         return states
 
     def judge(self, what, jobs, answers, own, states):
-        """Each question was answered of a state that is not before the last one, nor before the worker's own jobs."""
-        least, done = 0, iter(own)
+        """Each question was answered of a state that is not before the last one, nor before the worker's own jobs; and each job that
+        was refused is refused so by one that is not before these."""
+        least, behind, done = 0, 0, iter(own)
         for job, (status, text) in zip(jobs, answers):
             if not writes(job):
-                fits = [place for place in range(least, len(states)) if states[place][job] == (status, text)]
+                fits = [place for place in range(least, len(states)) if states[place][0][job] == (status, text)]
                 self.check(f"{what}: {job[:60]}: {status} is of no state from {least} on", bool(fits))
                 least = fits[0] if fits else least
             elif status == 0:
-                least = max(least, next(done, len(states)) + 1)
+                behind = next(done, len(states)) + 1
+                least = max(least, behind)
             else:
-                self.check(f"{what}: {job[:60]}: {status}", status in (12, 13, 26))
+                fits = any(pickle.loads(kept).do(job) == (status, text) for _, kept in states[behind:])
+                self.check(f"{what}: {job[:60]}: {status} is of no state from {behind} on", status in (12, 13, 26) and fits)
         self.check(f"{what}: a job is listed twice, or is not", next(done, None) is None)
 
     def two_write_and_two_ask(self):

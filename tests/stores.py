@@ -1,6 +1,6 @@
 #!/usr/bin/env python3
 """Questions and commands over small stores that are laid out byte by byte, whole and damaged: what is written, the status, and the
-files that stand afterwards. A question changes none.
+files that stand afterwards. A question changes none. A commit also over lists of filelogs as long as they may be.
 
 Entries and nodes are made here by `struct` and `hashlib`; texts, lines and refusals are written by hand. The last line is
 'N passed, M failed'.
@@ -317,6 +317,38 @@ COMMANDS = [
     ),
 ]
 
+# A commit of one new path more, whose filelog is inline: what it adds to the list of filelogs, and its changeset.
+ADDING = b"commit\nparent tip\nuser test\ndate 60 0\ndesc 1\nb\nfile - 2 a\na\n\nfile - 2 b\na\n\nend\n"
+ADDED_LINE = b"data/b.i\n"
+ADDED = changeset(node(MANIFEST + b"b\0%s\n" % node(BODY).hex().encode(), node(MANIFEST)), 60, [b"b"], b"b")
+ADDED_ANSWER = f"1:{node(ADDED, bytes.fromhex(ZERO)).hex()}\n".encode()
+LIST, MOST_LIST = "store/fncache", 268_435_456
+
+
+def strange_line(length):
+    """A line of this length, in the form of a name that no path has: a folder's `.hg` would have another behind it."""
+    return b"data/d.hg/".ljust(length - 3, b"p") + b".i\n"
+
+
+def long_list(length):
+    """A list of this length: the files of the filelog that stands, and lines for each of which there is little to work out."""
+    listed = b"data/a.i\ndata/a.d\n"
+    lines, rest = divmod(length - len(listed), 1024)
+    return listed + lines * strange_line(1024) + strange_line(rest)
+
+
+def try_long_lists(program, checks):
+    """The commit makes the list as long as it may be, or would make it longer by a byte and is refused."""
+    for length, status, text in ((MOST_LIST, 0, ADDED_ANSWER), (MOST_LIST + 1, 20, b"abort: limit 9\n")):
+        files = {**WHOLE, LIST: long_list(length - len(ADDED_LINE))}
+        with tempfile.TemporaryDirectory() as folder:
+            lay(folder, files)
+            ended = subprocess.run([program, "commit"], input=ADDING, capture_output=True, cwd=folder, check=False)
+            found = bytes_of(folder)
+        said = (ended.returncode, ended.stdout) == (status, text)
+        checks.check(f"a list of {length} bytes: status {ended.returncode} ({status}), {ended.stdout} ({text})", said)
+        checks.check(f"a list of {length} bytes: other files stand", found[LIST] == files[LIST] + ADDED_LINE if status == 0 else found == files)
+
 
 def main():
     program, checks = built_program(), Checks()
@@ -329,6 +361,7 @@ def main():
             said = (ended.returncode, ended.stdout) == (status, text.encode())
             checks.check(f"{words}: status {ended.returncode} ({status}), {ended.stdout} ({text.encode()})", said)
             checks.check(f"{words}: other files stand", bytes_of(folder) == {name: data for name, data in after.items() if data})
+    try_long_lists(program, checks)
     print(f"{checks.passed} passed, {checks.failed} failed")
     sys.exit(checks.failed > 0 or checks.passed == 0)
 

@@ -9,7 +9,7 @@ use Rattle.hgs_index.specs.declared.kinds.Which.TheVariants as limits
 use Rattle.hgs_index.specs.Revision.{Parents}
 use Rattle.hgs_loading.specs.Found.{and_then}
 use Rattle.hgs_loading.specs.Parent.{Files, parent_in}
-use Rattle.hgs_loading.specs.Small.{fncache_path}
+use Rattle.hgs_loading.specs.Small.{fncache_path, most_fncache}
 use Rattle.hgs_marks.specs.Bookmarks.{node_of}
 use Rattle.hgs_model.specs.History.{manifest_parents_of}
 use Rattle.hgs_model.specs.Phase.{greater}
@@ -206,9 +206,13 @@ accepted step = Ok step
 abbrev pub inline_logs : Loaded → List Obstacle
 inline_logs l = if has_inline l then passes limits.Inline ∷ [] else []
 
+-- the limit that is passed where the list of filelogs would be too long with as many bytes more
+abbrev pub long_list : Loaded → ℕ → List Obstacle
+long_list l more = if nat_lt most_fncache (l.fncache_length + more) then passes limits.Part ∷ [] else []
+
 -- the step of these texts, or why there is none
 abbrev pub planned : Loaded → NewChange → Parents → OfTexts → Met → Option (List ℕ) → Result Step PlanFault
-planned l c parents x m clash = and_plan (written_of x (noted m (inline_logs l)) clash) (λ w. step_of l c parents w)
+planned l c parents x m clash = and_plan (written_of x (noted (noted m (long_list l (length x.lines))) (inline_logs l)) clash) (λ w. step_of l c parents w)
 
 -- the step of a commit on these parents, where this is told of names that clash
 abbrev pub step_on : Option (List ℕ) → Loaded → NewChange → Parents → Tree → Result Step CommitFault

@@ -13,9 +13,10 @@ ghost use Rattle.hgs_bytes.specs.Answer.{Gives};
 ghost use Rattle.hgs_loading.specs.Found.{Finds};
 ghost use Rattle.hgs_loading.specs.Parent.{view_parent};
 ghost use Rattle.hgs_load.specs.Marks.{most_bookmarks};
+ghost use Rattle.hgs_loading.specs.Small.{most_fncache};
 ghost use Rattle.hgs_steps.specs.Fault.{is_memory};
 ghost use Rattle.hgs_steps.specs.Loaded.{has_inline};
-ghost use Rattle.hgs_commit.specs.Commit.{AtRest, ClashOn, Steps, StepsOn, grown_in, inline_logs, is_new_mark, mark_count, parent_files, planned, tested, texts_in, too_many_marks, trees_in, view_grown, view_texts, view_written, written_of};
+ghost use Rattle.hgs_commit.specs.Commit.{AtRest, ClashOn, Steps, StepsOn, grown_in, inline_logs, is_new_mark, long_list, mark_count, parent_files, planned, tested, texts_in, too_many_marks, trees_in, view_grown, view_texts, view_written, written_of};
 ghost use Rattle.hgs_commit.specs.Hindered.{is_met};
 ghost use Rattle.hgs_commit.specs.Obstacles.{met_of, noted, noting};
 ghost use Rattle.hgs_commit.specs.Pushed.{AppendsTo, IsNewText, Pushes};
@@ -49,6 +50,9 @@ use std::alloc::Global;
 
 /// More bookmarks are refused.
 const MOST_BOOKMARKS: usize = 10_000;
+
+/// A list of filelogs with more bytes is refused.
+const MOST_FNCACHE: u64 = 268_435_456;
 
 // The files of a parent, none where there is no parent.
 fn parent_of<R: Reads>(
@@ -136,6 +140,24 @@ fn meet_inline(loaded: &Loaded, met: &mut Hindrances)
 {
     if loaded.has_inline() {
         met.meet_limit(Which::Inline);
+    }
+}
+
+// Whether the list of filelogs would be too long with as many bytes more.
+fn is_too_long(length: u64, more: usize) -> bool
+    ensures { result ≡ nat_lt most_fncache (length + more) }
+{
+    length > MOST_FNCACHE || more as u64 > MOST_FNCACHE - length
+}
+
+// Notes that the list of filelogs would be too long with as many bytes more.
+fn meet_long_list(loaded: &Loaded, more: usize, met: &mut Hindrances)
+    ensures met { met_of met.new ≡ noted (met_of met.old) (long_list loaded.now more) }
+    ensures clash { met.new.clash ≡ met.old.clash }
+    ensures some { is_met met.old ≡ true → is_met met.new ≡ true }
+{
+    if is_too_long(loaded.fncache_length, more) {
+        met.meet_limit(Which::Part);
     }
 }
 
@@ -309,6 +331,7 @@ fn planned_step(
     ensures separate { OnOk result (loaded.now.changelog.inline ≡ false) }
 {
     let mut met = met;
+    meet_long_list(loaded, texts.lines.len(), &mut met);
     meet_inline(loaded, &mut met);
     let written = match written_of(texts, met, &loaded.changelog) {
         Ok(written) => written,

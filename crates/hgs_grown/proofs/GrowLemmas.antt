@@ -74,7 +74,7 @@ rose-since old mid new le h = omega (arith, le, h)
 
 pub cause-since : (stop : Stop) (a b c x y z : ℕ) → a ≤ b → x ≤ y → StopHasCause b c y z stop → StopHasCause a c x z stop
 cause-since Memory a b c x y z p q h = tt
-cause-since (Answered command answer) a b c x y z p q h = (λ e. rose-since a b c p (h.0 e), λ published e. by (h.1 published e))
+cause-since (Answered command answer) a b c x y z p q h = (λ e. rose-since a b c p (h.0 e), λ published e. by (h.1 published e), λ left. by (h.2 left))
   where
     by : Rose b c ⊎ Rose y z → Rose a c ⊎ Rose x z
     by (inl r) = inl (rose-since a b c p r)

@@ -1,5 +1,5 @@
 -- The changesets of a generator, committed one after another.
-use Rattle.std.specs.Prelude.{◌≡◌, ◌<◌, ◌⊎◌, ℕ, zero, suc, List, [], ◌++◌, Option, Some, None, Result, Ok, Err, ⊤}
+use Rattle.std.specs.Prelude.{◌≡◌, ◌<◌, ◌⊎◌, ℕ, zero, suc, false, List, [], ◌++◌, Option, Some, None, Result, Ok, Err, ⊤}
 use Rattle.std.specs.Option.{option_and_then}
 use Rattle.hgs_answers.specs.declared.answer.Answer.{Answer}
 use Rattle.hgs_answers.specs.declared.outcome.Outcome.{Outcome}
@@ -56,11 +56,12 @@ CommitsNext who seed made (Ok next) t ops = (answer : Answer) × (rev : ℕ) × 
 CommitsNext who seed made (Err Memory) t ops = ops ≡ []
 CommitsNext who seed made (Err (Answered command answer)) t ops = (command ≡ Commit (generated seed made)) × IsWritten who command t answer ops × IsNotDone answer.outcome
 
--- a failure is answered only where a count rose
+-- a failure is answered, and a file left behind, only where a count rose
 abbrev pub StopHasCause : ℕ → ℕ → ℕ → ℕ → Stop → Type 0
 StopHasCause faults_old faults_new denied_old denied_new Memory = ⊤
 StopHasCause faults_old faults_new denied_old denied_new (Answered command answer) =
     (answer.outcome ≡ Fault → Rose faults_old faults_new) × ((published : Published) → answer.outcome ≡ Unfinished published → Rose faults_old faults_new ⊎ Rose denied_old denied_new)
+    × (answer.swept ≡ false → Rose faults_old faults_new ⊎ Rose denied_old denied_new)
 
 -- ---- the repository
 

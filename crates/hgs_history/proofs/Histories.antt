@@ -17,12 +17,12 @@ use Rattle.hgs_model.specs.declared.command.Command.{Command}
 use Rattle.hgs_script.specs.Script.{CanBeDone, IsShare}
 use Rattle.hgs_script.specs.declared.job.Job.{Job}
 use Rattle.hgs_script.specs.declared.job.Job.TheVariants.{Change}
-use Rattle.hgs_session.specs.Calls.{Beginning, IsCall, Stage, job_among, job_in, name_of, published_by, published_of, unsure_of, unsure_with}
-use Rattle.hgs_session.specs.declared.call.Call.{Call}
+use Rattle.hgs_session.specs.Calls.{Beginning, Call, IsCall, Stage, job_among, job_in, name_of, published_by, published_of, unsure_of, unsure_with}
 use Rattle.hgs_stands.specs.Stands.{Stands}
 use Rattle.hgs_turns.specs.Turns.{IsAtRest, LeadsAs, LeadsOn}
 use Rattle.hgs_model.specs.Step.{step}
-use Rattle.hgs_answers.specs.declared.outcome.Outcome.TheVariants.{LockHeld}
+use Rattle.hgs_answers.specs.declared.outcome.Outcome.{Outcome}
+use Rattle.hgs_answers.specs.declared.outcome.Outcome.TheVariants.{Abandoned, LockHeld}
 use Rattle.hgs_pieces.specs.Made.{HasNoLocks}
 use Rattle.hgs_writer.specs.Alone.{HasWhatItNeeds, IsAnswered, IsBarred, IsOutcomeOf, ReadsWithin}
 use Rattle.hgs_writer.specs.Limits.{LoadsWithin}
@@ -184,6 +184,12 @@ module _ (b : Below) (x : Beginning) (r : Repo) (stands : Stands x.start r) (sha
     outcome-at None rested loads reads = inl (b.comes s.files (current s) made.command (name_of c.worker c.job) c.answer made.more (here rested) loads reads written)
     outcome-at (Some left) rested loads reads = inr (journal left rested, stopped left rested)
 
+    abandoned-at : (left : Option (List Op)) → IsAtRest left s → c.answer.outcome ≡ Abandoned → s.files journal_path ≡ None → ⊥
+    abandoned-at None rested is none =
+        subst (λ (o : Outcome). IsAnswered (current s) (step (current s) made.command) o (after_all made.more s.files)) is
+        (b.answered s.files (current s) made.command (name_of c.worker c.job) c.answer made.more (here rested) (job-valid x.jobs c.worker c.job made.command shares made.job) (made.has (current s) (here rested)) written)
+    abandoned-at (Some left) rested is none = journal left rested none
+
     call-at : IsMadeAt x.jobs c s
     call-at = record {
       command = made.command;
@@ -191,6 +197,7 @@ module _ (b : Below) (x : Beginning) (r : Repo) (stands : Stands x.start r) (sha
       refusal = refusal-at stood.left stood.at_rest;
       outcome = outcome-at stood.left stood.at_rest;
       held = λ holder is none. b.held s.files made.command (name_of c.worker c.job) c.answer made.more holder none written is;
+      abandoned = abandoned-at stood.left stood.at_rest;
     }
 
   -- ---- all calls

@@ -1,4 +1,9 @@
+pub mod Clean
+pub mod Counted
+pub mod Entries
 pub mod Joined
+pub mod Keyed
+pub mod Once
 pub mod Published
 pub mod Refused
 pub mod Histories

@@ -4,7 +4,7 @@ use Rattle.std.specs.Prelude.{IfSome, None, Option, Some}
 use Rattle.std.specs.List.{FoldsTo}
 use Rattle.hgs_asked.specs.Beside.{IsAnsweredOf, IsKnown, IsNotLoaded}
 use Rattle.hgs_bytes.specs.Bytes.{IsPrefixOf}
-use Rattle.hgs_files.specs.Reads.{Grows}
+use Rattle.hgs_files.specs.Reads.{Grows, Rose}
 use Rattle.hgs_files.specs.Tree.{Tree}
 use Rattle.hgs_files.specs.declared.op.Op.{Op}
 use Rattle.hgs_headline.specs.WritersLog.{WritersLog, course_of}
@@ -14,17 +14,16 @@ use Rattle.hgs_questions.specs.Asked.{Asked}
 use Rattle.hgs_script.specs.declared.job.Job.TheVariants.{Ask}
 use Rattle.hgs_script.specs.declared.job.Question.{Question}
 use Rattle.hgs_script.specs.declared.result.Answered.{Answered}
-use Rattle.hgs_session.specs.Calls.{Beginning, job_in}
+use Rattle.hgs_session.specs.Calls.{Beginning, Call, job_in}
 use Rattle.hgs_session.specs.Jobs.{DoesJob, Progress, asks, changes}
-use Rattle.hgs_session.specs.declared.call.Call.{Call}
 use Rattle.hgs_views.specs.Course.{OpensAlong, ReadsAlong}
 use Rattle.hgs_views.specs.Seen.{Numbers}
 use Rattle.hgs_history.specs.Workers.{GoesBeside, GoesOn, Knows, was_answered, was_refused, wrote}
 
 -- the list that is seen grows at each job
 job-grows : (x : Beginning) (worker : ℕ) (calls : List Call) (p : Progress) (a : Answered) (q : Progress) → DoesJob x worker calls p a q → Grows p.seen q.seen
-job-grows x worker calls p a _ (changes command call n stage job place there who number says makes) = grows-refl p.seen
-job-grows x worker calls p a q (asks question _ job asked grows done place told start faults denied) = grows
+job-grows x worker calls p a _ (changes command call n job place there who number says) = grows-refl p.seen
+job-grows x worker calls p a q (asks question _ job asked grows done place told start faults denied status fault) = grows
 
 -- so it does along the jobs
 seen-grows : (x : Beginning) (worker : ℕ) (calls : List Call) (p : Progress) (answers : List Answered) (now : Progress) → FoldsTo (DoesJob x worker calls) p answers now → Grows p.seen now.seen
@@ -57,8 +56,8 @@ module _ (h : WritersLog) (x : Beginning) (worker : ℕ) (calls : List Call)
   reads-on first last on log between = reads log (record { begins = (log, refl); ends = prefix-trans log last h.log between.ends on })
 
   question-goes : (p q : Progress) (v : Numbers) (k : Knows h p v) (question : Question) (last : List Op) (answered : Answered) → job_in x.jobs worker p.done ≡ Some (Ask question) → q.seen ≡ Some last → IsPrefixOf k.seen last → q.start ≡ p.start
-      → IsAnsweredOf h p.told k.seen last p.view v q.view question p.faults q.faults answered ⊎ IsNotLoaded p.view q.view answered → Goes p v answered q
-  question-goes p q v k question last answered is_job is_last from start (inl a) = (
+      → IsAnsweredOf h p.told k.seen last p.view v q.view question p.faults q.faults answered ⊎ IsNotLoaded p.view q.view answered → (answered.status ≡ 16 → Rose p.faults q.faults) → Goes p v answered q
+  question-goes p q v k question last answered is_job is_last from start (inl a) fault = (
     a.numbers,
     was_answered question k.seen last is_job k.seen_is is_last a refl,
     record {
@@ -68,20 +67,20 @@ module _ (h : WritersLog) (x : Beginning) (worker : ℕ) (calls : List Call)
       view = subst (λ (o : Option View). IfSome o (IsKnown h last a.numbers)) (sym a.new_is) (record { began = a.from; ended = a.mid; loaded = a.loaded; before = a.then_asked });
     },
   )
-  question-goes p q v k question last answered is_job is_last from start (inr lost) = (
+  question-goes p q v k question last answered is_job is_last from start (inr lost) fault = (
     v,
-    was_refused question is_job lost refl,
+    was_refused question is_job lost fault refl,
     record { seen = last; seen_is = is_last; start = start ∙ k.start; view = subst (λ (o : Option View). IfSome o (IsKnown h last v)) (sym lost.0) (known-on h k.seen last v p.view from k.view) },
   )
 
   job-goes : (p : Progress) (v : Numbers) (answered : Answered) (q : Progress) (k : Knows h p v) (last : List Op) → q.seen ≡ Some last → IsPrefixOf k.seen last → IsPrefixOf last h.log → DoesJob x worker calls p answered q → Goes p v answered q
-  job-goes p v answered _ k last is_last from on (changes command call n stage is_job place at worker_is job_is says makes) = (v, wrote command is_job refl refl, record { seen = k.seen; seen_is = k.seen_is; start = k.start; view = k.view })
-  job-goes p v answered q k last is_last from on (asks question _ is_job is grows done place told start faults denied) =
+  job-goes p v answered _ k last is_last from on (changes command call n is_job place at worker_is job_is says) = (v, wrote command is_job refl refl, record { seen = k.seen; seen_is = k.seen_is; start = k.start; view = k.view })
+  job-goes p v answered q k last is_last from on (asks question _ is_job is grows done place told start faults denied status fault) =
       let there = subst (λ (o : Option (List Op)). Asked p.told o p.start q.seen p.view q.view question p.faults q.faults answered) k.seen_is is in
       let then = subst (λ (o : Option (List Op)). Asked p.told (Some k.seen) p.start o p.view q.view question p.faults q.faults answered) is_last there in
       let here = subst (λ (t : Tree). Asked p.told (Some k.seen) t (Some last) p.view q.view question p.faults q.faults answered) k.start then in
       question-goes p q v k question last answered is_job is_last from start
-      (asked p.told k.seen last p.view v q.view question p.faults q.faults answered on (opens-on k.seen last on) (reads-on k.seen last on) k.view here)
+      (asked p.told k.seen last p.view v q.view question p.faults q.faults answered on (opens-on k.seen last on) (reads-on k.seen last on) k.view here) fault
 
   pub jobs-go : (p : Progress) (v : Numbers) (answers : List Answered) (now : Progress) (last : List Op) → Knows h p v → now.seen ≡ Some last → IsPrefixOf last h.log → FoldsTo (DoesJob x worker calls) p answers now
       → (w : Numbers) × FoldsTo (GoesBeside h x.jobs worker) (p, v) answers (now, w)

@@ -2,7 +2,7 @@
 use Rattle.std.specs.Prelude.{◌≡◌, ◌⊎◌, ℕ, Bool, true, false, List, [], ◌∷◌, ◌++◌, Option, Some, None, Result, Err, fold}
 use Rattle.std.specs.List.{FoldsTo}
 use Rattle.hgs_answers.specs.declared.outcome.Outcome.{Outcome}
-use Rattle.hgs_answers.specs.declared.outcome.Outcome.TheVariants.{Done, LockHeld, NeedsForce, NothingChanged, UnknownRevision}
+use Rattle.hgs_answers.specs.declared.outcome.Outcome.TheVariants.{Abandoned, Done, LockHeld, NeedsForce, NothingChanged, UnknownRevision}
 use Rattle.hgs_journal.specs.Names.{journal_path}
 use Rattle.hgs_legal.specs.LegalLog.{State, Turn, current}
 use Rattle.hgs_legal.specs.Numbers.{acknowledged_of, b_of, n_of, w_of}
@@ -15,8 +15,7 @@ use Rattle.hgs_model.specs.declared.command.Command.{Command}
 use Rattle.hgs_script.specs.declared.job.Job.{Job}
 use Rattle.hgs_script.specs.declared.job.Job.TheVariants.{Change}
 use Rattle.hgs_script.specs.declared.result.PublishedJob.{PublishedJob}
-use Rattle.hgs_session.specs.Calls.{Beginning, IsCall, Stage, job_in, name_of, published_of, unsure_of}
-use Rattle.hgs_session.specs.declared.call.Call.{Call}
+use Rattle.hgs_session.specs.Calls.{Beginning, Call, IsCall, Stage, job_in, name_of, published_of, unsure_of}
 use Rattle.hgs_stands.specs.Stands.{Stands}
 use Rattle.hgs_pieces.specs.Made.{HasNoLocks}
 use Rattle.hgs_writer.specs.Alone.{HasWhatItNeeds, IsBarred, IsOutcomeOf, ReadsWithin}
@@ -80,13 +79,15 @@ IsRefusedBy stepped (NothingChanged rev) = stepped ≡ Err (refusals.NothingChan
 IsRefusedBy stepped outcome = Unit {0}
 
 -- A call from this state of the log, for the command of its job. A refusal of that is the one of the repository there. Within the limits
--- it comes to what that makes of the command, or a journal stands and bars it. A lock is held only where one stands.
+-- it comes to what that makes of the command, or a journal stands and bars it. A lock is held only where one stands, and
+-- a transaction is abandoned only where a journal stands.
 pub record IsMadeAt (jobs : List (List Job)) (c : Call) (s : State) : Type 0 where
   pub command : Command
   pub job : job_in jobs c.worker c.job ≡ Some (Change command)
   pub refusal : IsRefusedBy (step (current s) command) c.answer.outcome
   pub outcome : LoadsWithin s.files (current s) → ReadsWithin s.files (current s) command → IsOutcomeOf s.files (current s) command (step (current s) command) c.answer.outcome ⊎ ((s.files journal_path ≡ None → ⊥) × IsBarred c.answer.outcome)
   pub held : (holder : Option (List ℕ)) → c.answer.outcome ≡ LockHeld holder → HasNoLocks s.files → ⊥
+  pub abandoned : c.answer.outcome ≡ Abandoned → s.files journal_path ≡ None → ⊥
 
 -- ---- the stages between calls
 

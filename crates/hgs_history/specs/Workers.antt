@@ -1,6 +1,7 @@
 -- How a worker's jobs are answered, one after another, while other workers write.
 use Rattle.std.specs.Prelude.{◌≡◌, ℕ, List, Some, IfSome}
 use Rattle.hgs_asked.specs.Beside.{IsAnsweredOf, IsKnown, IsNotLoaded}
+use Rattle.hgs_files.specs.Reads.{Rose}
 use Rattle.hgs_files.specs.declared.op.Op.{Op}
 use Rattle.hgs_headline.specs.WritersLog.{WritersLog}
 use Rattle.hgs_model.specs.declared.command.Command.{Command}
@@ -20,12 +21,12 @@ pub record Knows (h : WritersLog) (p : Progress) (v : Numbers) : Type 0 where
   pub view : IfSome p.view (IsKnown h seen v)
 
 -- A job of the worker: one that writes leaves its view; a question is answered of a view that is loaded for it, whose numbers are
--- kept; or it finds none, and says of a fault or of no memory.
+-- kept; or it finds none, and says of a fault, which its end has counted, or of no memory.
 pub data GoesOn (h : WritersLog) (jobs : List (List Job)) (worker : ℕ) (p : Progress) (v : Numbers) (answered : Answered) (q : Progress) (w : Numbers) : Type 0 where
   wrote : (command : Command) → job_in jobs worker p.done ≡ Some (Change command) → q.view ≡ p.view → w ≡ v → GoesOn h jobs worker p v answered q w
   was_answered : (question : Question) (first last : List Op) → job_in jobs worker p.done ≡ Some (Ask question) → p.seen ≡ Some first → q.seen ≡ Some last
       → (a : IsAnsweredOf h p.told first last p.view v q.view question p.faults q.faults answered) → w ≡ a.numbers → GoesOn h jobs worker p v answered q w
-  was_refused : (question : Question) → job_in jobs worker p.done ≡ Some (Ask question) → IsNotLoaded p.view q.view answered → w ≡ v → GoesOn h jobs worker p v answered q w
+  was_refused : (question : Question) → job_in jobs worker p.done ≡ Some (Ask question) → IsNotLoaded p.view q.view answered → (answered.status ≡ 16 → Rose p.faults q.faults) → w ≡ v → GoesOn h jobs worker p v answered q w
 
 abbrev pub GoesBeside : WritersLog → List (List Job) → ℕ → (Progress × Numbers) → Answered → (Progress × Numbers) → Type 0
 GoesBeside h jobs worker p answered q = GoesOn h jobs worker p.0 p.1 answered q.0 q.1

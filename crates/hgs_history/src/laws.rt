@@ -1,9 +1,10 @@
 //! What the definitions of this crate imply. Each function is one law; none does anything but name the laws below that its
 //! proof takes.
-ghost use Rattle.std.specs.Prelude.{◌≡◌, ◌≤◌, ◌++◌, ◌∷◌, ℕ, List, [], Option, Some, length, true};
+ghost use Rattle.std.specs.Prelude.{◌≡◌, ◌≤◌, ◌<◌, ◌+◌, ◌++◌, ◌∷◌, ◌==◌, ℕ, List, [], Option, Some, filter, length, true};
 ghost use Rattle.std.specs.List.{AllByRecursion, FoldsTo};
 ghost use Rattle.hgs_asked.specs.Beside.{AreNoOlder};
 ghost use Rattle.hgs_bytes.specs.Bytes.{IsPrefixOf};
+ghost use Rattle.hgs_files.specs.Reads.{greatest};
 ghost use Rattle.hgs_files.specs.declared.op.Op.{Op};
 ghost use Rattle.hgs_headline.specs.WritersLog.{WritersLog, course_of, state_after};
 ghost use Rattle.hgs_legal.specs.LegalLog.{Turn};
@@ -11,16 +12,16 @@ ghost use Rattle.hgs_model.specs.Repo.{Repo};
 ghost use Rattle.hgs_script.specs.Script.{IsShare};
 ghost use Rattle.hgs_script.specs.declared.job.Job.{Job};
 ghost use Rattle.hgs_script.specs.declared.result.PublishedJob.{PublishedJob};
-ghost use Rattle.hgs_session.specs.Calls.{Beginning, Makes, Stage, published_of, unsure_of};
-ghost use Rattle.hgs_session.specs.declared.call.Call.{Call};
+ghost use Rattle.hgs_session.specs.Calls.{Beginning, Call, IsCall, Makes, Stage, published_of, unsure_of};
 ghost use Rattle.hgs_stands.specs.Stands.{Stands};
 ghost use Rattle.hgs_session.specs.Jobs.{DoesJob, IsFresh, Progress};
-ghost use Rattle.hgs_session.specs.Session.{IsSession};
+ghost use Rattle.hgs_session.specs.Session.{AreCounted, EndState, IsSession};
 ghost use Rattle.hgs_script.specs.declared.result.SessionResult.{SessionResult};
 ghost use Rattle.hgs_script.specs.declared.result.Answered.{Answered};
 ghost use Rattle.hgs_views.specs.Course.{OpensAlong, ReadsAlong};
 ghost use Rattle.hgs_views.specs.Seen.{Numbers};
 ghost use Rattle.hgs_history.specs.History.{ArePublished, HaveWhatTheyNeed, IsBehind, IsMadeAt, is_last_done, stage_behind};
+ghost use Rattle.hgs_history.specs.Once.{AreCallsFrom, IsCleanAt, IsListed, IsUnharmed, calls_by, how_many, one_if_failed, one_if_faulted};
 ghost use Rattle.hgs_history.specs.Workers.{GoesBeside, Knows};
 
 use hgs_asked::laws::questions_beside_writers;
@@ -61,10 +62,40 @@ pub fn fresh_workers_know_nothing()
 
 /// So the result of a session lists what the log publishes.
 pub fn results_list_what_is_published()
-    ensures { (x : Beginning) (r : Repo) (last : Stage) (result : SessionResult) (is : IsSession x last result) → Stands x.start r → x.first.log ≡ Some [] → AllByRecursion IsShare x.jobs → HaveWhatTheyNeed x x.first is.calls last is.makes →
+    ensures { (x : Beginning) (r : Repo) (calls : List Call) (last : Stage) (states : List EndState) (result : SessionResult) (makes : Makes x calls last) → IsSession x calls last states result → Stands x.start r → x.first.log ≡ Some [] → AllByRecursion IsShare x.jobs → HaveWhatTheyNeed x x.first calls last makes →
         (h : WritersLog) × (h.start ≡ x.start) × (h.first ≡ r) × (last.log ≡ Some h.log) × ArePublished x.jobs result.published result.unsure h.last.published }
 {
     sessions_publish_what_they_list();
+}
+
+/// The log that a worker learns at a job of its own is that to which the session's calls have led then.
+pub fn calls_lead_to_their_logs()
+    ensures { (x : Beginning) (old : Stage) (calls : List Call) (last : Stage) (makes : FoldsTo (IsCall x) old calls last) (front back : List Call) (c : Call) → calls ≡ front ++ c ∷ back → c.log ≡ (stage_behind x old calls last makes (front ++ c ∷ [])).log }
+{}
+
+/// Each writing job of the script is one of the session's calls, and there is no other call: those of a worker are its writing jobs,
+/// in their order. A call that published its transaction is listed, and what is listed of a worker is what its own calls published.
+pub fn sessions_do_each_job_once()
+    ensures once { (x : Beginning) (calls : List Call) (last : Stage) (states : List EndState) (result : SessionResult) → IsSession x calls last states result → AreCallsFrom x.jobs 0 calls result.replies }
+    ensures listed { (x : Beginning) (calls : List Call) (last : Stage) → Makes x calls last → x.first.log ≡ Some [] → AllByRecursion IsListed calls }
+    ensures own { (worker : ℕ) (calls : List Call) → filter (λ (e : PublishedJob). e.worker == worker) (published_of calls) ≡ published_of (calls_by worker calls) }
+{}
+
+/// The answers that tell of a fault, or of a transaction that is left unfinished, are together no more than the faults and wants of
+/// memory that the files have counted meanwhile, unless a count stands at its greatest value; and those of faults no more than the
+/// faults.
+pub fn failures_are_counted()
+    ensures failed { (x : Beginning) (calls : List Call) (last : Stage) (states : List EndState) (result : SessionResult) (faults denied : ℕ) → Makes x calls last → IsSession x calls last states result → AreCounted last states faults denied → faults < greatest → denied < greatest → x.first.faults + x.first.denied + how_many one_if_failed result.replies ≤ faults + denied }
+    ensures faulted { (x : Beginning) (calls : List Call) (last : Stage) (states : List EndState) (result : SessionResult) (faults denied : ℕ) → Makes x calls last → IsSession x calls last states result → AreCounted last states faults denied → faults < greatest → x.first.faults + how_many one_if_faulted result.replies ≤ faults }
+{}
+
+/// Where the files stood for a repository with no lock, and the writing end counted neither a fault nor want of memory: no job finds a
+/// lock held or a transaction abandoned, none is left unfinished, and no file is left behind.
+pub fn sessions_without_failures_are_clean()
+    ensures { (x : Beginning) (calls : List Call) (last : Stage) (makes : Makes x calls last) → IsCleanAt x.start x.first → AllByRecursion IsShare x.jobs → HaveWhatTheyNeed x x.first calls last makes → last.faults ≡ x.first.faults → last.denied ≡ x.first.denied → x.first.faults < greatest → x.first.denied < greatest → AllByRecursion IsUnharmed calls × IsCleanAt x.start last }
+{
+    calls_leave_what_they_answer();
+    calls_clean_up();
 }
 
 /// At least as many transactions are published as are listed.

@@ -1,6 +1,6 @@
 -- A commit is answered as the repository answers it.
 use Rattle.std.proofs.Common.{◌≡◌, ℕ, List, [], ◌∷◌, ◌++◌, Bool, true, false, cond, length, refl, sym, ◌∙◌, ap, subst, arith}
-use Rattle.std.specs.Prelude.{◌<◌, ◌≤◌, ◌^◌, Option, Some, None, IfSome, Result, Ok, Err}
+use Rattle.std.specs.Prelude.{◌<◌, ◌≤◌, ◌+◌, ◌^◌, Option, Some, None, IfSome, Result, Ok, Err}
 use Rattle.hgs_files.specs.Tree.{Tree, bytes_at}
 use Rattle.hgs_index.specs.ChangeText.{change_text}
 use Rattle.hgs_index.specs.Either.{chunks_either}
@@ -8,6 +8,7 @@ use Rattle.hgs_index.specs.declared.kinds.Which.TheVariants as limits
 use Rattle.hgs_index.specs.Manifest.{manifest_text}
 use Rattle.hgs_index.specs.Revision.{Parents, Revision, standing}
 use Rattle.hgs_loading.specs.Found.{and_then}
+use Rattle.hgs_loading.specs.Small.{most_fncache}
 use Rattle.hgs_model.specs.History.{History, changeset_revision, first_of, history}
 use Rattle.hgs_model.specs.IsRepo.{IsRepo}
 use Rattle.hgs_model.specs.Repo.{Changeset, Repo}
@@ -23,7 +24,7 @@ use Rattle.hgs_load.specs.declared.answer.ReadAnswer.{ReadAnswer}
 use Rattle.hgs_revlog.specs.Add.{next_entry}
 use Rattle.hgs_revlog.specs.Load.{most_revisions}
 use Rattle.hgs_revlog.specs.Log.{stored_sum}
-use Rattle.hgs_stands.specs.Places.{changelog_data, changelog_index, manifest_data, manifest_index}
+use Rattle.hgs_stands.specs.Places.{changelog_data, changelog_index, fncache_path, manifest_data, manifest_index}
 use Rattle.hgs_stands.specs.Stands.{Stands}
 use Rattle.hgs_transaction.specs.declared.parts.Replacing.{Replacing}
 use Rattle.hgs_steps.specs.Parents.{named_all, parents_answer}
@@ -35,7 +36,7 @@ use Rattle.hgs_steps.specs.declared.fault.PlanFault.TheVariants.{Refused as refu
 use Rattle.hgs_steps.specs.declared.loaded.Loaded.{Loaded}
 use Rattle.hgs_steps.specs.declared.step.Step.{Step}
 use Rattle.hgs_commit.specs.Changeset.{change_of, changeset_in, manifest_in, of_changelog, of_manifest}
-use Rattle.hgs_commit.specs.Commit.{ClashBy, ClashOn, OfTexts, accepted, and_plan, commit_in, grown_in, inline_logs, or_refused, or_unread, planned, refusal_with, replaced_after, step_of, step_on, step_with, tested, texts_in, trees_in, too_many_marks, written_new, written_unless, written_with}
+use Rattle.hgs_commit.specs.Commit.{ClashBy, ClashOn, OfTexts, accepted, and_plan, commit_in, grown_in, inline_logs, long_list, or_refused, or_unread, planned, refusal_with, replaced_after, step_of, step_on, step_with, tested, texts_in, trees_in, too_many_marks, written_new, written_unless, written_with}
 use Rattle.hgs_commit.specs.Obstacles.{Met, Obstacle, noted, nothing_met, passes}
 use Rattle.hgs_commit.specs.Texts.{OfGrowth, OfText}
 use Rattle.hgs_commit.specs.Trees.{OfGrown}
@@ -43,7 +44,7 @@ use Rattle.hgs_commit.specs.declared.fault.CommitFault.{CommitFault}
 use Rattle.hgs_commit.specs.declared.fault.CommitFault.TheVariants.{Refused}
 use Rattle.hgs_planned.specs.Below.{Below}
 use Rattle.hgs_planned.specs.Commits.{AnswersAs, AnswersWith}
-use Rattle.hgs_planned.specs.Free.{HasRoomFor, IsFree}
+use Rattle.hgs_planned.specs.Free.{HasRoomFor, IsFree, new_lines}
 use Rattle.hgs_planned.specs.Growth.{AreGrownFilesOf, IsWhole}
 use Rattle.hgs_planned.specs.Logs.{IsLogOf}
 use Rattle.hgs_planned.specs.NewTexts.{growth_by}
@@ -52,7 +53,7 @@ use Rattle.hgs_planned.specs.StepsBelow.{StepsBelow}
 use Rattle.hgs_planned.specs.Trees.{AreBelow, AreTextsOf, IsTreeOf}
 use Rattle.hgs_planned.proofs.Basics.{IsLimited, both, ok-is}
 use Rattle.hgs_planned.proofs.FormLemmas.{count-is}
-use Rattle.hgs_planned.proofs.FreeLemmas.{grown-free, marks-free, marks-given}
+use Rattle.hgs_planned.proofs.FreeLemmas.{grown-free, list-free, marks-free, marks-given}
 use Rattle.hgs_planned.proofs.LogLemmas.{chunks-sum}
 use Rattle.hgs_planned.proofs.MetLemmas.{all-none}
 use Rattle.hgs_planned.proofs.NewTextLemmas.{text-of}
@@ -135,7 +136,7 @@ module _ (laws : Below) (more : StepsBelow) (t : Tree) (r : Repo) (l : Loaded) (
 
   module _ (y : (OfGrown × Parents) × List Obstacle) (e : grown_in l n parents t ≡ Ok y) (z : OfTexts × List Obstacle) (texts_is : texts_in l n parents y.0.0 y.0.1 t ≡ Ok z) (texts : AreTextsOf l h c z) (tree : IsTreeOf h c y.0) where
     abbrev met : Met
-    met = noted (noted (noted (noted nothing_met (too_many_marks l n)) y.1) z.1) (inline_logs l)
+    met = noted (noted (noted (noted (noted nothing_met (too_many_marks l n)) y.1) z.1) (long_list l (length z.0.lines))) (inline_logs l)
 
     -- changelog and manifest are separate where nothing was told of the form
     separate-by : inline_logs l ≡ [] → has_inline l ≡ false
@@ -175,7 +176,10 @@ module _ (laws : Below) (more : StepsBelow) (t : Tree) (r : Repo) (l : Loaded) (
         let both_texts = texts-free t r l s changelog manifest n parents y.0.0 y.0.1 tree manifest_sum changelog_sum manifest_room changelog_room z texts_is in
         let plain : has_inline l ≡ false = more.form t l loads ∙ free.separate in
         let logs = ap (λ b. let os : List Obstacle = cond b (passes limits.Inline ∷ []) [] in os) plain in
-        λ i. noted (noted (noted (noted nothing_met (marks i)) (grown i)) (both_texts i)) (logs i)
+        let made = texts-made l n parents y.0.0 y.0.1 t z texts_is in
+        let lines : z.0.lines ≡ new_lines r then-next = ap (λ (x : OfTexts × List Obstacle). x.0.lines) (sym made.are) ∙ (files y.0 (e ∙ ap (λ (os : List Obstacle). Ok (y.0, os)) grown)).lines in
+        let list = list-free t l loads z.0.lines (subst (λ (bytes : List ℕ). length (bytes_at t fncache_path) + length bytes ≤ most_fncache) (sym lines) free.list) in
+        λ i. noted (noted (noted (noted (noted nothing_met (marks i)) (grown i)) (both_texts i)) (list i)) (logs i)
 
     -- where it is accepted
     accepted-answer : IsRepo then-next → equal-one ≡ None → (refusal : Result (Unit {0}) PlanFault) → refusal_with met clash ≡ refusal
@@ -184,15 +188,15 @@ module _ (laws : Below) (more : StepsBelow) (t : Tree) (r : Repo) (l : Loaded) (
         refused-by (IsFree t r then-next) met.limit clash met.in_the_way met.collision fault (λ free. (ap (λ (m : Met). m.limit) (nothing-met free), ap (λ (m : Met). m.in_the_way) (nothing-met free), ap (λ (m : Met). m.collision) (nothing-met free))) refusal
     accepted-answer next_is new (Ok free) refusal = by z.0.changeset.growth (texts.changeset none.2 ∙ ap (growth_by (of_changelog l.changelog) (changeset_revision h c)) new) refl
       where
-        none : (too_many_marks l n ≡ []) × (y.1 ≡ []) × (z.1 ≡ []) × (inline_logs l ≡ []) × (clash ≡ None)
-        none = all-none (too_many_marks l n) y.1 z.1 (inline_logs l) clash refusal
+        none : (too_many_marks l n ≡ []) × (y.1 ≡ []) × (z.1 ≡ []) × (long_list l (length z.0.lines) ≡ []) × (inline_logs l ≡ []) × (clash ≡ None)
+        none = all-none (too_many_marks l n) y.1 z.1 (long_list l (length z.0.lines)) (inline_logs l) clash refusal
 
         replaced : (g : OfGrowth) → z.0.changeset.growth ≡ Some g → (after : Result (List Replacing) PlanFault) → replaced_after l n z.0.changeset.node ≡ after
             → AnswersWith IsTold t r n clash (or_refused (and_plan after (λ xs. Ok (step_with l n parents (written_with z.0 g) xs))) accepted) (Ok (done_at then-next (length r.changesets)))
         replaced g grown (Err fault) is = marks-refused (IsFree t r then-next) l n z.0.changeset.node clash fault (λ free. marks-given more t r l n parents s loads free.bookmarks z.0.changeset.node fault is) is
         replaced g grown (Ok after) is = record {
-          as_step = step-of next_is new none.0 none.1 none.2 none.3 g grown after is;
-          ready = λ told. is_ready y.0 z.0 (separate-by none.3) (e ∙ ap (λ (os : List Obstacle). Ok (y.0, os)) none.1) (texts_is ∙ ap (λ (os : List Obstacle). Ok (z.0, os)) none.2) (subst (ClashOn l (trees_in l n parents t) None) none.4 told);
+          as_step = step-of next_is new none.0 none.1 none.2 none.4 g grown after is;
+          ready = λ told. is_ready y.0 z.0 (separate-by none.4) (e ∙ ap (λ (os : List Obstacle). Ok (y.0, os)) none.1) (texts_is ∙ ap (λ (os : List Obstacle). Ok (z.0, os)) none.2) (subst (ClashOn l (trees_in l n parents t) None) none.5 told);
         }
 
         by : (o : Option OfGrowth) → z.0.changeset.growth ≡ growth_by (of_changelog l.changelog) (changeset_revision h c) None → z.0.changeset.growth ≡ o → AnswersWith IsTold t r n clash (or_refused (and_plan (written_new z.0 o) (λ w. step_of l n parents w)) accepted) (Ok (done_at then-next (length r.changesets)))

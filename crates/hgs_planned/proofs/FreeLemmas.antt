@@ -1,6 +1,6 @@
 -- Nothing keeps a commit from being written where there is room for it.
 use Rattle.std.proofs.Common.{◌≡◌, ◌⊎◌, ℕ, zero, suc, ◌+◌, List, [], ◌∷◌, ◌++◌, Bool, true, false, ◌||◌, ◌==◌, cond, inl, inr, length, map, nat_lt, refl, sym, ◌∙◌, ap, subst, arith}
-use Rattle.std.specs.Prelude.{Option, Some, None, Result, Ok, Err, find, is_none}
+use Rattle.std.specs.Prelude.{◌≤◌, Option, Some, None, Result, Ok, Err, find, is_none}
 use Rattle.std.specs.Cmp.Lexicographic.{lists_ties, slice_cmp}
 use Rattle.std.specs.Cmp.{unsigned_ties}
 use Rattle.std.specs.List.{AllByRecursion}
@@ -17,6 +17,7 @@ use Rattle.hgs_index.specs.Revision.{Parents, Revision, with_revision}
 use Rattle.hgs_index.specs.declared.kinds.Which.TheVariants as limits
 use Rattle.hgs_loading.specs.Found.{and_then}
 use Rattle.hgs_loading.specs.Logs.{either_data_in}
+use Rattle.hgs_loading.specs.Small.{most_fncache}
 use Rattle.hgs_manifest.specs.Held.{found_in}
 use Rattle.hgs_marks.specs.Bookmarks.{Mark, node_of, with_mark}
 use Rattle.hgs_model.specs.History.{History, changeset_nodes, file_parents, filelog_with, first_of, history, kept, uses}
@@ -33,6 +34,7 @@ use Rattle.hgs_path.specs.StoreName.{store_name}
 use Rattle.hgs_load.specs.Marks.{most_bookmarks}
 use Rattle.hgs_load.specs.declared.answer.ReadAnswer.{ReadAnswer}
 use Rattle.hgs_revlog.specs.Log.{Log}
+use Rattle.hgs_stands.specs.Places.{fncache_path}
 use Rattle.hgs_stands.specs.Stands.{Stands, mark_of}
 use Rattle.hgs_steps.specs.Planned.{IsLoadedOf, passes_limit}
 use Rattle.hgs_steps.specs.Steps.{are_too_many, dirstate_replacing, marked, marks_replacing}
@@ -40,7 +42,7 @@ use Rattle.hgs_steps.specs.declared.fault.PlanFault.{PlanFault}
 use Rattle.hgs_steps.specs.declared.fault.PlanFault.TheVariants as faults
 use Rattle.hgs_steps.specs.declared.loaded.Loaded.{Loaded}
 use Rattle.hgs_commit.specs.Changeset.{of_changelog, of_manifest}
-use Rattle.hgs_commit.specs.Commit.{and_plan, grown_in, mark_count, marks_after, replaced_after, too_many_marks}
+use Rattle.hgs_commit.specs.Commit.{and_plan, grown_in, long_list, mark_count, marks_after, replaced_after, too_many_marks}
 use Rattle.hgs_commit.specs.Files.{OfFile, file_in, file_with, formed, filelog_with as filelog_at, kept_file, place_in, row_with, standing_at}
 use Rattle.hgs_commit.specs.Obstacles.{Obstacle, passes, stands}
 use Rattle.hgs_commit.specs.Texts.{OfLog, OfText, new_text_in}
@@ -189,6 +191,14 @@ grown-free laws t r l s loads changelog manifest n parents y ordered below free 
     let paths = new-paths-of r (next r n parents) c refl (ap ascends (new-paths-are h parents n.files) ∙ ordered) in
     ap (λ (z : (OfGrown × Parents) × List Obstacle). z.1) (sym x.grown)
     ∙ all-free laws t r l s loads n parents (length l.changelog.entries) (link-is t r l s changelog) free paths n.files x.trees.files (found-files h n parents ordered) x.files
+
+-- ---- the list of filelogs
+
+pub list-free : (t : Tree) (l : Loaded) → IsLoadedOf t l → (lines : List ℕ) → length (bytes_at t fncache_path) + length lines ≤ most_fncache → long_list l (length lines) ≡ []
+list-free t l loads lines room = ap (λ b. let os : List Obstacle = cond b (passes limits.Part ∷ []) [] in os) (within most_fncache (l.fncache_length + length lines) (subst (λ (k : ℕ). k + length lines ≤ most_fncache) (sym loads.fncache_length) room))
+  where
+    within : (most k : ℕ) → k ≤ most → nat_lt most k ≡ false
+    within most k h = grind (arith, nat_tests, h)
 
 -- ---- the bookmarks
 

@@ -59,11 +59,12 @@ met-none m clash e = by m.limit clash m.in_the_way m.collision refl refl refl re
     by None None (Some way) collision a b c d f = cc
     by None None None (Some collision) a b c d f = cc
 
-pub all-none : (a b c d : List Obstacle) (clash : Option (List ℕ)) → refusal_with (noted (noted (noted (noted nothing_met a) b) c) d) clash ≡ Ok tt → (a ≡ []) × (b ≡ []) × (c ≡ []) × (d ≡ []) × (clash ≡ None)
-all-none a b c d clash e =
-    let told = met-none (noted (noted (noted (noted nothing_met a) b) c) d) clash e in
-    let fourth = none-told (noted (noted (noted nothing_met a) b) c) d told.0 in
+pub all-none : (a b c d e : List Obstacle) (clash : Option (List ℕ)) → refusal_with (noted (noted (noted (noted (noted nothing_met a) b) c) d) e) clash ≡ Ok tt → (a ≡ []) × (b ≡ []) × (c ≡ []) × (d ≡ []) × (e ≡ []) × (clash ≡ None)
+all-none a b c d e clash free =
+    let told = met-none (noted (noted (noted (noted (noted nothing_met a) b) c) d) e) clash free in
+    let fifth = none-told (noted (noted (noted (noted nothing_met a) b) c) d) e told.0 in
+    let fourth = none-told (noted (noted (noted nothing_met a) b) c) d fifth.before in
     let third = none-told (noted (noted nothing_met a) b) c fourth.before in
     let second = none-told (noted nothing_met a) b third.before in
     let first = none-told nothing_met a second.before in
-    (first.none, second.none, third.none, fourth.none, told.1)
+    (first.none, second.none, third.none, fourth.none, fifth.none, told.1)

@@ -181,7 +181,7 @@ pub fn free_commits_are_ready()
 
 /// Where a commit is refused for nothing that was met, nothing was met, and no clash was told.
 pub fn met_obstacles_refuse()
-    ensures { (a b c d : List Obstacle) (clash : Option (List ℕ)) → refusal_with (noted (noted (noted (noted nothing_met a) b) c) d) clash ≡ Ok tt → (a ≡ []) × (b ≡ []) × (c ≡ []) × (d ≡ []) × (clash ≡ None) }
+    ensures { (a b c d e : List Obstacle) (clash : Option (List ℕ)) → refusal_with (noted (noted (noted (noted (noted nothing_met a) b) c) d) e) clash ≡ Ok tt → (a ≡ []) × (b ≡ []) × (c ≡ []) × (d ≡ []) × (e ≡ []) × (clash ≡ None) }
 {}
 
 /// What needs no test is there where no other name in the list has the digest of the name of a new path's file.

@@ -6,6 +6,7 @@ use Rattle.hgs_files.specs.declared.yard.Left.TheVariants.{Whole, Parts}
 use Rattle.hgs_files.specs.Tree.{Tree}
 use Rattle.hgs_files.specs.Yard.{IfWhole}
 use Rattle.hgs_top.specs.Histories.{MakesHistory}
+use Rattle.hgs_top.specs.Orders.{IsAtEnd, IsRead}
 use Rattle.hgs_top.specs.Words.{Request, is_session, request_of_words, to_answer, to_do, to_generate, to_play, to_session, to_verify}
 use Rattle.hgs_run.specs.Session.{KeepsStart, KeepsYard}
 
@@ -27,6 +28,15 @@ asked_keeps_yard (Ok to_play) is h = absurd (cc is)
 asked_keeps_yard (Ok (to_verify jobs)) is h = absurd (cc is)
 asked_keeps_yard (Ok (to_generate seed count)) is h = absurd (cc is)
 asked_keeps_yard (Err place) is h = absurd (cc is)
+
+pub asked_reads : (q : Result Request ℕ) → is_session q ≡ true → (status : ℕ) (left : Option (List ℕ)) → (status ≡ 0 → IsAtEnd left) → IsRead q status left
+asked_reads (Ok to_session) is status left h = h
+asked_reads (Ok (to_answer question)) is status left h = absurd (cc is)
+asked_reads (Ok (to_do job)) is status left h = absurd (cc is)
+asked_reads (Ok to_play) is status left h = absurd (cc is)
+asked_reads (Ok (to_verify jobs)) is status left h = absurd (cc is)
+asked_reads (Ok (to_generate seed count)) is status left h = absurd (cc is)
+asked_reads (Err place) is status left h = absurd (cc is)
 
 -- no command that writes was asked for
 pub asked_makes_none : (words : List (List ℕ)) → is_session (request_of_words words) ≡ true → (input : Option (List ℕ)) (old new : Option (List Op)) (start : Tree) → MakesHistory words input old new start

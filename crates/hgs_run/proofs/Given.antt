@@ -10,6 +10,7 @@ use Rattle.hgs_script.specs.Read.{read_script}
 use Rattle.hgs_script.specs.declared.job.Job.{Job}
 use Rattle.hgs_script.specs.declared.script.Script.{Script}
 use Rattle.hgs_session.specs.Calls.{Stage}
+use Rattle.hgs_session.specs.Session.{EndState}
 use Rattle.hgs_top.specs.Theorems.Inputs.{looked_at_decides}
 use Rattle.hgs_run.specs.Session.{GaveScript, RunsScript}
 
@@ -21,7 +22,7 @@ gave_script long (Some all) bytes given e h =
     subst P (ap read_script e ∙ looked_at_decides read_script long all) h
 
 -- over files that are as they were
-pub ran_over : (Leaves : Option (List Op) → Tree → Stage → Type 0) (jobs : List (List Job)) (log then : Option (List Op)) (start then_start : Tree) (faults denied status : ℕ) (old new : Option (List ℕ)) → then ≡ log → then_start ≡ start
-    → ∥ RunsScript jobs then then_start faults denied status old new (Leaves then then_start) ∥₁ → ∥ RunsScript jobs log start faults denied status old new (Leaves log start) ∥₁
-ran_over Leaves jobs log then start then_start faults denied status old new e s h =
-    subst (λ t. ∥ RunsScript jobs log t faults denied status old new (Leaves log t) ∥₁) s (subst (λ l. ∥ RunsScript jobs l then_start faults denied status old new (Leaves l then_start) ∥₁) e h)
+pub ran_over : (Leaves : Option (List Op) → Tree → Stage → Type 0) (Counts : Stage → List EndState → Type 0) (Whole : Type 0) (jobs : List (List Job)) (log then : Option (List Op)) (start then_start : Tree) (faults denied status : ℕ) (old new : Option (List ℕ)) → then ≡ log → then_start ≡ start
+    → ∥ RunsScript jobs then then_start faults denied status old new (Leaves then then_start) Counts Whole ∥₁ → ∥ RunsScript jobs log start faults denied status old new (Leaves log start) Counts Whole ∥₁
+ran_over Leaves Counts Whole jobs log then start then_start faults denied status old new e s h =
+    subst (λ t. ∥ RunsScript jobs log t faults denied status old new (Leaves log t) Counts Whole ∥₁) s (subst (λ l. ∥ RunsScript jobs l then_start faults denied status old new (Leaves l then_start) Counts Whole ∥₁) e h)

@@ -1,5 +1,5 @@
 -- What the command that runs a script comes to.
-use Rattle.std.specs.Prelude.{◌≡◌, ◌≤◌, ⊤, ℕ, List, Option, Result, Ok, Err, IfSome}
+use Rattle.std.specs.Prelude.{◌≡◌, ◌≤◌, ⊤, ℕ, List, Option, Result, Ok, Err, IfSome, IsOk}
 use Rattle.hgs_bytes.specs.Answer.{Gives}
 use Rattle.hgs_files.specs.declared.op.Op.{Op}
 use Rattle.hgs_files.specs.Tree.{Tree}
@@ -14,7 +14,7 @@ use Rattle.hgs_script.specs.declared.job.Job.{Job}
 use Rattle.hgs_script.specs.declared.result.SessionResult.{SessionResult}
 use Rattle.hgs_script.specs.declared.script.Script.{Script}
 use Rattle.hgs_session.specs.Calls.{Beginning, Stage}
-use Rattle.hgs_session.specs.Session.{BeginsOver, Comes}
+use Rattle.hgs_session.specs.Session.{BeginsOver, Comes, EndState}
 use Rattle.hgs_session.specs.declared.session.NoResult.{NoResult}
 use Rattle.hgs_top.specs.Orders.{ended_status, ended_text}
 use Rattle.hgs_top.specs.Run.{EndsLine, OfTree, memory_line}
@@ -45,22 +45,24 @@ abbrev pub TellsSession : Result SessionResult NoResult → ℕ → Option (List
 TellsSession (Ok result) status old new = EndsLine (result_text result) 0 status old new
 TellsSession (Err e) status old new = EndsLine memory_line 30 status old new
 
--- A session of these jobs began over files with this log and these counts, and what it came to was said.
-pub record RunsScript (jobs : List (List Job)) (log : Option (List Op)) (start : Tree) (faults denied status : ℕ) (old new : Option (List ℕ)) (Leaves : Stage → Type 0) : Type 0 where
+-- A session of these jobs began over files with this log and these counts, and what it came to was said; where it has a result, the
+-- yard is left whole.
+pub record RunsScript (jobs : List (List Job)) (log : Option (List Op)) (start : Tree) (faults denied status : ℕ) (old new : Option (List ℕ)) (Leaves : Stage → Type 0) (Counts : Stage → List EndState → Type 0) (Whole : Type 0) : Type 0 where
   pub first : Beginning
   pub over : BeginsOver first jobs log start faults denied
   pub told : Result SessionResult NoResult
-  pub comes : Comes first Leaves told
+  pub comes : Comes first Leaves Counts told
+  pub whole : IsOk told → Whole
   pub tells : TellsSession told status old new
 
 -- The input failed or is no script, which is said, and the files stay. Or the repository is none of the profile, or what it requires
 -- could not be read, which is said, and the files stay. Or the script was run, over files whose counts that reading may have raised.
-pub data RunsSession (left : Option (List ℕ)) (log : Option (List Op)) (start : Tree) (faults denied status : ℕ) (old new : Option (List ℕ)) (Stay : Type 0) (Leaves : Stage → Type 0) : Type 0 where
-  no_script : (ended : Ended) → RefusesScript left ended → EndsLine (ended_text ended) (ended_status ended) status old new → Stay → RunsSession left log start faults denied status old new Stay Leaves
+pub data RunsSession (left : Option (List ℕ)) (log : Option (List Op)) (start : Tree) (faults denied status : ℕ) (old new : Option (List ℕ)) (Stay : Type 0) (Leaves : Stage → Type 0) (Counts : Stage → List EndState → Type 0) (Whole : Type 0) : Type 0 where
+  no_script : (ended : Ended) → RefusesScript left ended → EndsLine (ended_text ended) (ended_status ended) status old new → Stay → RunsSession left log start faults denied status old new Stay Leaves Counts Whole
   no_profile : (script : Script) (refusal : ReadAnswer) → GaveScript left (Ok script) → OfTree log start (λ t. Gives is_of_outside (λ x. x) (Err refusal) (required_in t)) → EndsLine (refusal_line refusal) (status_of refusal) status old new → Stay
-      → RunsSession left log start faults denied status old new Stay Leaves
+      → RunsSession left log start faults denied status old new Stay Leaves Counts Whole
   ran : (script : Script) (faults_then denied_then : ℕ) → GaveScript left (Ok script) → OfTree log start (λ t. required_in t ≡ Ok tt) → faults ≤ faults_then → denied ≤ denied_then
-      → ∥ RunsScript script.workers log start faults_then denied_then status old new Leaves ∥₁ → RunsSession left log start faults denied status old new Stay Leaves
+      → ∥ RunsScript script.workers log start faults_then denied_then status old new Leaves Counts Whole ∥₁ → RunsSession left log start faults denied status old new Stay Leaves Counts Whole
 
 -- ---- a run of any words
 

@@ -6,7 +6,7 @@ ghost use Rattle.hgs_files.specs.Yard.{IfWhole};
 ghost use Rattle.hgs_session.specs.Session.{IsWhole};
 ghost use Rattle.hgs_top.specs.Given.{ReadsAsked};
 ghost use Rattle.hgs_top.specs.Histories.{MakesHistory};
-ghost use Rattle.hgs_top.specs.Orders.{KeepsInput, Obeys};
+ghost use Rattle.hgs_top.specs.Orders.{IsRead, KeepsInput, Obeys};
 ghost use Rattle.hgs_top.specs.Play.{PlaysAsked};
 ghost use Rattle.hgs_top.specs.Repository.{SaysOfRepository};
 ghost use Rattle.hgs_top.specs.Run.{Says, IsOneOf};
@@ -48,6 +48,7 @@ pub fn run_alone<T: Threads + Sync, Y: Yard, S: Source, K: Sink, P: Progress>(
     ensures given { IfWhole result.left (λ y. ReadsAsked (request_of_words (map string_bytes words.now)) (Y.A.given (Y.files yard)) (Y.A.given (Y.files y)) (Y.A.seen (Y.files yard)) (Y.A.start (Y.files yard)) (Y.A.seen (Y.files y))) }
     ensures same_start { IfWhole result.left (λ y. Y.A.start (Y.files y) ≡ Y.A.start (Y.files yard)) }
     ensures input { KeepsInput (request_of_words (map string_bytes words.now)) (S.left input.old) (S.left input.new) (S.faults input.old) (S.faults input.new) }
+    ensures read { IsRead (request_of_words (map string_bytes words.now)) result.status (S.left input.new) }
     ensures plays { PlaysAsked (request_of_words (map string_bytes words.now)) (S.left input.old) result.status (K.written out.old) (K.written out.new) }
     ensures whole { IsWhole result.left }
 {

@@ -1,15 +1,15 @@
 //! The top call.
-ghost use Rattle.std.specs.Prelude.{◌≡◌, ◌⊎◌, Err, List, Ok, map, ℕ, [], ◌∷◌};
+ghost use Rattle.std.specs.Prelude.{◌≡◌, ◌⊎◌, ⊤, Err, List, Ok, map, ℕ, [], ◌∷◌};
 ghost use Rattle.std.specs.String.{string_bytes};
 ghost use Rattle.hgs_files.specs.Reads.{Rose};
 ghost use Rattle.hgs_files.specs.Tree.{Tree};
 ghost use Rattle.hgs_files.specs.Yard.{IfWhole};
 ghost use Rattle.hgs_files.specs.declared.op.Op.{Op};
 ghost use Rattle.hgs_run.specs.Session.{KeepsStart, KeepsYard, RunsSession, Stays};
-ghost use Rattle.hgs_session.specs.Session.{IsWhole, LeftAs, RestsOn};
+ghost use Rattle.hgs_session.specs.Session.{AreCounted, IsWhole, LeftAs, RestsOn};
 ghost use Rattle.hgs_top.specs.Given.{ReadsAsked};
 ghost use Rattle.hgs_top.specs.Histories.{MakesHistory};
-ghost use Rattle.hgs_top.specs.Orders.{KeepsInput, Obeys};
+ghost use Rattle.hgs_top.specs.Orders.{IsRead, KeepsInput, Obeys};
 ghost use Rattle.hgs_top.specs.Play.{PlaysAsked};
 ghost use Rattle.hgs_top.specs.Repository.{SaysOfRepository};
 ghost use Rattle.hgs_top.specs.Run.{Says, IsOneOf};
@@ -57,8 +57,9 @@ where
     ensures given { IfWhole result.left (λ y. ReadsAsked (request_of_words (map string_bytes words.now)) (Y.A.given (Y.files yard)) (Y.A.given (Y.files y)) (Y.A.seen (Y.files yard)) (Y.A.start (Y.files yard)) (Y.A.seen (Y.files y))) }
     ensures same_start { IfWhole result.left (λ y. KeepsStart (request_of_words (map string_bytes words.now)) (Y.A.start (Y.files yard)) (Y.A.start (Y.files y))) }
     ensures input { KeepsInput (request_of_words (map string_bytes words.now)) (S.left input.old) (S.left input.new) (S.faults input.old) (S.faults input.new) }
+    ensures read { IsRead (request_of_words (map string_bytes words.now)) result.status (S.left input.new) }
     ensures plays { PlaysAsked (request_of_words (map string_bytes words.now)) (S.left input.old) result.status (K.written out.old) (K.written out.new) }
-    ensures session { request_of_words (map string_bytes words.now) ≡ Ok to_session → RunsSession (S.left input.old) (Y.A.log (Y.files yard)) (Y.A.start (Y.files yard)) (Y.A.faults (Y.files yard)) (Y.A.denied (Y.files yard)) result.status (K.written out.old) (K.written out.new) (LeftAs result.left (λ y. Stays (Y.A.log (Y.files yard)) (Y.A.start (Y.files yard)) (Y.A.log (Y.files y)) (Y.A.start (Y.files y))) (λ w. ⊥)) (λ last. LeftAs result.left (λ y. RestsOn (Y.A.log (Y.files yard)) (Y.A.start (Y.files yard)) last.log (Y.A.log (Y.files y)) (Y.A.start (Y.files y))) (λ w. Y.W.log w ≡ last.log)) }
+    ensures session { request_of_words (map string_bytes words.now) ≡ Ok to_session → RunsSession (S.left input.old) (Y.A.log (Y.files yard)) (Y.A.start (Y.files yard)) (Y.A.faults (Y.files yard)) (Y.A.denied (Y.files yard)) result.status (K.written out.old) (K.written out.new) (LeftAs result.left (λ y. Stays (Y.A.log (Y.files yard)) (Y.A.start (Y.files yard)) (Y.A.log (Y.files y)) (Y.A.start (Y.files y))) (λ w. ⊥)) (λ last. LeftAs result.left (λ y. RestsOn (Y.A.log (Y.files yard)) (Y.A.start (Y.files yard)) last.log (Y.A.log (Y.files y)) (Y.A.start (Y.files y))) (λ w. Y.W.log w ≡ last.log)) (λ last states. LeftAs result.left (λ y. AreCounted last states (Y.A.faults (Y.files y)) (Y.A.denied (Y.files y))) (λ w. ⊤)) (IsWhole result.left) }
     ensures whole { KeepsYard (request_of_words (map string_bytes words.now)) result.status (IsWhole result.left) }
 {
     if asks_session(words) {

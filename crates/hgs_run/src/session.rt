@@ -1,5 +1,5 @@
 //! A session whose script stands on the input.
-ghost use Rattle.std.specs.Prelude.{◌≡◌, ◌≤◌, [], ◌∷◌, Err, List};
+ghost use Rattle.std.specs.Prelude.{◌≡◌, ◌≤◌, ⊤, [], ◌∷◌, Err, List};
 ghost use Rattle.hgs_bytes.specs.Answer.{Gives};
 ghost use Rattle.hgs_files.specs.Reads.{Rose};
 ghost use Rattle.hgs_files.specs.Tree.{Tree};
@@ -10,7 +10,8 @@ ghost use Rattle.hgs_load.specs.declared.answer.ReadAnswer.TheVariants.{Fault};
 ghost use Rattle.hgs_loading.specs.Found.{required_in};
 ghost use Rattle.hgs_run.specs.Session.{RunsScript, RunsSession, Stays, TellsSession};
 ghost use Rattle.hgs_script.specs.Script.{CanBeRun};
-ghost use Rattle.hgs_session.specs.Session.{IsWhole, LeftAs, RestsOn};
+ghost use Rattle.hgs_session.specs.Session.{AreCounted, IsWhole, LeftAs, RestsOn};
+ghost use Rattle.hgs_top.specs.Orders.{IsAtEnd};
 ghost use Rattle.hgs_top.specs.Run.{IsOneOf, OfTree};
 
 use crate::ran::Ran;
@@ -71,7 +72,7 @@ where
     Y::R: Drop + Send,
     requires can { CanBeRun script.now }
     requires allows { (start : Tree) (log : List Op) → Y.W.allows start log }
-    ensures runs { ∥ RunsScript script.now.workers (Y.A.log (Y.files yard)) (Y.A.start (Y.files yard)) (Y.A.faults (Y.files yard)) (Y.A.denied (Y.files yard)) result.status (K.written out.old) (K.written out.new) (λ last. LeftAs result.left (λ y. RestsOn (Y.A.log (Y.files yard)) (Y.A.start (Y.files yard)) last.log (Y.A.log (Y.files y)) (Y.A.start (Y.files y))) (λ w. Y.W.log w ≡ last.log)) ∥₁ }
+    ensures runs { ∥ RunsScript script.now.workers (Y.A.log (Y.files yard)) (Y.A.start (Y.files yard)) (Y.A.faults (Y.files yard)) (Y.A.denied (Y.files yard)) result.status (K.written out.old) (K.written out.new) (λ last. LeftAs result.left (λ y. RestsOn (Y.A.log (Y.files yard)) (Y.A.start (Y.files yard)) last.log (Y.A.log (Y.files y)) (Y.A.start (Y.files y))) (λ w. Y.W.log w ≡ last.log)) (λ last states. LeftAs result.left (λ y. AreCounted last states (Y.A.faults (Y.files y)) (Y.A.denied (Y.files y))) (λ w. ⊤)) (IsWhole result.left) ∥₁ }
     ensures sink { result.status ≡ 19 → Rose (K.faults out.old) (K.faults out.new) }
     ensures statuses { IsOneOf (0 ∷ 19 ∷ 30 ∷ []) result.status }
     ensures whole { result.status ≡ 0 → IsWhole result.left }
@@ -94,11 +95,12 @@ where
     Y::W: Send,
     Y::R: Drop + Send,
     requires allows { (start : Tree) (log : List Op) → Y.W.allows start log }
-    ensures session { RunsSession (S.left input.old) (Y.A.log (Y.files yard)) (Y.A.start (Y.files yard)) (Y.A.faults (Y.files yard)) (Y.A.denied (Y.files yard)) result.status (K.written out.old) (K.written out.new) (LeftAs result.left (λ y. Stays (Y.A.log (Y.files yard)) (Y.A.start (Y.files yard)) (Y.A.log (Y.files y)) (Y.A.start (Y.files y))) (λ w. ⊥)) (λ last. LeftAs result.left (λ y. RestsOn (Y.A.log (Y.files yard)) (Y.A.start (Y.files yard)) last.log (Y.A.log (Y.files y)) (Y.A.start (Y.files y))) (λ w. Y.W.log w ≡ last.log)) }
+    ensures session { RunsSession (S.left input.old) (Y.A.log (Y.files yard)) (Y.A.start (Y.files yard)) (Y.A.faults (Y.files yard)) (Y.A.denied (Y.files yard)) result.status (K.written out.old) (K.written out.new) (LeftAs result.left (λ y. Stays (Y.A.log (Y.files yard)) (Y.A.start (Y.files yard)) (Y.A.log (Y.files y)) (Y.A.start (Y.files y))) (λ w. ⊥)) (λ last. LeftAs result.left (λ y. RestsOn (Y.A.log (Y.files yard)) (Y.A.start (Y.files yard)) last.log (Y.A.log (Y.files y)) (Y.A.start (Y.files y))) (λ w. Y.W.log w ≡ last.log)) (λ last states. LeftAs result.left (λ y. AreCounted last states (Y.A.faults (Y.files y)) (Y.A.denied (Y.files y))) (λ w. ⊤)) (IsWhole result.left) }
     ensures fault { result.status ≡ 16 → IfWhole result.left (λ y. Rose (Y.A.faults (Y.files yard)) (Y.A.faults (Y.files y))) }
     ensures failed { result.status ≡ 18 → Rose (S.faults input.old) (S.faults input.new) }
     ensures sink { result.status ≡ 19 → Rose (K.faults out.old) (K.faults out.new) }
     ensures statuses { IsOneOf (0 ∷ 14 ∷ 15 ∷ 16 ∷ 18 ∷ 19 ∷ 20 ∷ 23 ∷ 24 ∷ 27 ∷ 30 ∷ []) result.status }
+    ensures read { result.status ≡ 0 → IsAtEnd (S.left input.new) }
     ensures whole { result.status ≡ 0 → IsWhole result.left }
 {
     let script = match script_from(alloc, input) {

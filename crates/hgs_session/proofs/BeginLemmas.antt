@@ -10,7 +10,7 @@ use Rattle.hgs_script.specs.declared.job.Job.{Job}
 use Rattle.hgs_script.specs.declared.result.SessionResult.{SessionResult}
 use Rattle.hgs_session.specs.declared.session.NoResult.{NoResult}
 use Rattle.hgs_session.specs.Calls.{Beginning, Stage}
-use Rattle.hgs_session.specs.Session.{BeginsOver, Comes, IsNew, RestsOn}
+use Rattle.hgs_session.specs.Session.{BeginsOver, Comes, EndState, IsNew, RestsOn}
 
 -- what a start begins with
 pub begun : (jobs : List (List Job)) (old : Option (List Op)) (start : Tree) (faults denied : ℕ) (log : Option (List Op)) (first : Tree) (f d : ℕ) (ties : Ties)
@@ -26,8 +26,8 @@ rests_begun (Some old) start log first ties b wrote new new_start h =
     let Q : Tree → Type 0 = λ t. RestsOn (Some old) t wrote new new_start in
     subst Q b.3 (subst P b.2 h)
 
-pub comes_under : (x : Beginning) (IsLeft IsLeft' : Stage → Type 0) (result : Result SessionResult NoResult) → ((last : Stage) → IsLeft last → IsLeft' last) → Comes x IsLeft result → Comes x IsLeft' result
-comes_under x IsLeft IsLeft' result f c = record { last = c.last; calls = c.calls; makes = c.makes; left = f c.last c.left; told = c.told }
+pub comes_under : (x : Beginning) (IsLeft IsLeft' : Stage → Type 0) (IsCounted : Stage → List EndState → Type 0) (result : Result SessionResult NoResult) → ((last : Stage) → IsLeft last → IsLeft' last) → Comes x IsLeft IsCounted result → Comes x IsLeft' IsCounted result
+comes_under x IsLeft IsLeft' IsCounted result f c = record { last = c.last; calls = c.calls; makes = c.makes; left = f c.last c.left; told = c.told }
 
 -- the reading ends of a start are new
 pub new_ones : {R : Type 0} (seen : R → Option (List Op)) (starts : R → Tree) (ties : R → Ties) (faults denied : R → ℕ) (log : Option (List Op)) (first : Tree) (lead : Ties) (rs : List R)

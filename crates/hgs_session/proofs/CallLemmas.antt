@@ -4,9 +4,9 @@ use Rattle.std.proofs.lemmas.Grind.{flat_map-append}
 use Rattle.std.proofs.lemmas.List.{append-nil}
 use Rattle.std.proofs.lemmas.List.Sums.{fold-append}
 use Rattle.hgs_legal.specs.Theorems.Runs.{run-join}
+use Rattle.hgs_files.specs.declared.op.Op.{Op}
 use Rattle.hgs_script.specs.declared.result.PublishedJob.{PublishedJob}
-use Rattle.hgs_session.specs.declared.call.Call.{Call}
-use Rattle.hgs_session.specs.Calls.{Beginning, IsCall, Makes, Stage, published_by, published_of, unsure_of, unsure_with}
+use Rattle.hgs_session.specs.Calls.{Beginning, Call, IsCall, Makes, Stage, published_by, published_of, unsure_of, unsure_with}
 use Rattle.hgs_session.specs.Desk.{HasMade}
 
 pub makes_more : (x : Beginning) (calls : List Call) (c : Call) (now next : Stage) → Makes x calls now → IsCall x now c next → Makes x (calls ++ c ∷ []) next
@@ -17,6 +17,14 @@ published_more calls c = flat_map-append published_by calls (c ∷ []) ∙ ap (�
 
 unsure_more : (calls : List Call) (c : Call) → unsure_of (calls ++ c ∷ []) ≡ unsure_with (unsure_of calls) c
 unsure_more calls c = fold-append unsure_with None calls (c ∷ [])
+
+stage_of : Option (List Op) → ℕ → ℕ → Stage
+stage_of log faults denied = record { log = log; faults = faults; denied = denied }
+
+-- a stage is its log and its counts
+pub stage_same : (a b : Stage) → a.log ≡ b.log → a.faults ≡ b.faults → a.denied ≡ b.denied → a ≡ b
+unfolding stage_of
+stage_same a b log faults denied = ap (λ z. stage_of z a.faults a.denied) log ∙ (ap (λ z. stage_of b.log z a.denied) faults ∙ ap (λ z. stage_of b.log b.faults z) denied)
 
 -- what was made, and a call that is not noted yet
 pub made_more : (x : Beginning) (now next : Stage) (history : List Call) (published : List PublishedJob) (unsure : Option (ℕ × ℕ)) (c : Call)

@@ -13,25 +13,15 @@ use Rattle.hgs_model.specs.Theorems.ListedLemmas.{slice_get-last}
 use Rattle.hgs_model.specs.declared.command.Command.{Command}
 use Rattle.hgs_script.specs.declared.job.Job.TheVariants.{Change}
 use Rattle.hgs_script.specs.declared.result.Answered.{Answered}
-use Rattle.hgs_session.specs.declared.call.Call.{Call}
-use Rattle.hgs_session.specs.Calls.{Beginning, Makes, job_in}
+use Rattle.hgs_session.specs.Calls.{Beginning, Call, job_in}
 use Rattle.hgs_session.specs.Desk.{IsDone}
 use Rattle.hgs_session.specs.Jobs.{DoesJob, HasDone, Progress, asks, changed, changes, told_more}
 use Rattle.hgs_session.proofs.Fronts.{prefix_get}
 
-pub get_below : {A : Type 0} (xs : List A) (n : ℕ) (x : A) → slice_get xs n ≡ Some x → n < length xs
-get_below [] n x h = absurd (cc h)
-get_below (y ∷ xs) zero x h = omega arith
-get_below (y ∷ xs) (suc n) x h = let r = get_below xs n x h in omega (arith, r)
-
-take_on : {A : Type 0} (xs ys : List A) (n : ℕ) → IsPrefix xs ys → n ≤ length xs → take n ys ≡ take n xs
-take_on xs ys n p le = ap (take n) (sym p.1) ∙ take-append-le n xs p.0 le
-
 does_on : (x : Beginning) (worker : ℕ) (calls all : List Call) → IsPrefix calls all → (p : Progress) (a : Answered) (q : Progress) → DoesJob x worker calls p a q → DoesJob x worker all p a q
-does_on x worker calls all pre p a _ (changes command call n stage job place there who number says makes) =
-    changes command call n stage job place (prefix_get calls all n call pre there) who number says
-    (let below = get_below calls n call there in subst (λ l. Makes x l stage) (sym (take_on calls all (suc n) pre (omega (arith, below)))) makes)
-does_on x worker calls all pre p a _ (asks question q job asked grows done place told start faults denied) = asks question q job asked grows done place told start faults denied
+does_on x worker calls all pre p a _ (changes command call n job place there who number says) =
+    changes command call n job place (prefix_get calls all n call pre there) who number says
+does_on x worker calls all pre p a _ (asks question q job asked grows done place told start faults denied status fault) = asks question q job asked grows done place told start faults denied status fault
 
 all_on : (x : Beginning) (worker : ℕ) (calls all : List Call) → IsPrefix calls all → (p : Progress) (answers : List Answered) (q : Progress) → FoldsTo (DoesJob x worker calls) p answers q → FoldsTo (DoesJob x worker all) p answers q
 all_on x worker calls all pre p [] q h = h
@@ -46,16 +36,14 @@ done_more x worker calls now next answers a h j = record { first = h.first; fres
 
 -- a writing job more, by a longer history that ends with its call
 pub taken : (x : Beginning) (worker : ℕ) (calls all : List Call) (now next : Progress) (answers : List Answered) (a : Answered) (command : Command) (log : Option (List Op))
-    → job_in x.jobs worker now.done ≡ Some (Change command) → now.place ≡ length calls → IsPrefix calls all → length calls < length all → IsDone x worker now.done command log all a
+    → job_in x.jobs worker now.done ≡ Some (Change command) → now.place ≡ length calls → IsPrefix calls all → length calls < length all → IsDone worker now.done command log all a
     → next ≡ changed now (length all - 1) log → HasDone x worker calls now answers → HasDone x worker all next (answers ++ a ∷ [])
 taken x worker calls all now next answers a command log job place pre longer d is h =
     let n : ℕ = length d.before in
     let len : length all ≡ suc n = ap length d.history_is ∙ omega (arith, length-append d.before (d.call ∷ [])) in
     let there : slice_get all n ≡ Some d.call = subst (λ (l : List Call). slice_get l n ≡ Some d.call) (sym d.history_is) (slice_get-last d.before d.call) in
-    let whole : take (suc n) all ≡ all = ap (λ k. take k all) (sym len) ∙ take-length all in
-    let M : List Call → Type 0 = λ l. Makes x l d.last in
     let L : Option (List Op) → Type 0 = λ o. DoesJob x worker all now a (changed now n o) in
-    let does : DoesJob x worker all now a (changed now n log) = subst L d.log_is (changes command d.call n d.last job (omega (arith, place, longer, len)) there d.worker_is d.job_is d.says (subst M (sym whole) d.makes)) in
+    let does : DoesJob x worker all now a (changed now n log) = subst L d.log_is (changes command d.call n job (omega (arith, place, longer, len)) there d.worker_is d.job_is d.says) in
     let to : changed now n log ≡ next = ap (λ k. changed now k log) (omega (arith, len)) ∙ sym is in
     done_more x worker all now next answers a (done_on x worker calls all now answers pre h) (subst (λ (q : Progress). DoesJob x worker all now a q) to does)
 

@@ -1,6 +1,7 @@
 -- The calls that the writing jobs of a session make, one after another.
 use Rattle.std.specs.Prelude.{◌≡◌, ◌≤◌, ℕ, Bool, true, false, List, [], ◌∷◌, ◌++◌, Option, Some, None, codes, decimal, flat_map, slice_get, fold, is_some, if◌then◌else◌}
 use Rattle.std.specs.List.{FoldsTo}
+use Rattle.hgs_answers.specs.declared.answer.Answer.{Answer}
 use Rattle.hgs_answers.specs.declared.outcome.Outcome.{Outcome}
 use Rattle.hgs_answers.specs.declared.outcome.Outcome.TheVariants.{Done, Fault, Unfinished}
 use Rattle.hgs_answers.specs.declared.outcome.Published.TheVariants.{Yes, Unknown}
@@ -15,7 +16,6 @@ use Rattle.hgs_model.specs.declared.command.Command.{Command}
 use Rattle.hgs_script.specs.declared.job.Job.{Job}
 use Rattle.hgs_script.specs.declared.job.Job.TheVariants.{Change, Ask}
 use Rattle.hgs_script.specs.declared.result.PublishedJob.{PublishedJob}
-use Rattle.hgs_session.specs.declared.call.Call.{Call}
 use Rattle.hgs_writer.specs.Refusals.{refusals_of}
 use Rattle.hgs_writer.specs.Written.{IsWrittenFor}
 
@@ -47,12 +47,22 @@ pub record Beginning : Type 0 where
   pub start : Tree
   pub first : Stage
 
+-- A writing job that was done: what it answered, the changeset that its transaction made or named, where one was planned, and the log
+-- of the writing end behind it, where that is told.
+pub record Call : Type 0 where
+  pub worker : ℕ
+  pub job : ℕ
+  pub answer : Answer
+  pub changeset : Option (ℕ × Node)
+  pub log : Option (List Op)
+
 -- A writing job of the script was done: its name stood in the locks, and the log went on by what its answer says. As many calls of the
 -- writing end were refused as that answer tells of.
 pub record IsCall (x : Beginning) (old : Stage) (c : Call) (new : Stage) : Type 0 where
   pub command : Command
   pub job : job_in x.jobs c.worker c.job ≡ Some (Change command)
   pub log : GoesOn old.log new.log (IsWrittenFor (name_of c.worker c.job) command (tree_now old.log x.start) c.answer c.changeset)
+  pub behind : c.log ≡ new.log
   pub fault : c.answer.outcome ≡ Fault → Rose old.faults new.faults
   pub refused : WereRefused (refusals_of (is_some old.log) c.answer) old.faults new.faults old.denied new.denied
   pub faults : old.faults ≤ new.faults

@@ -5,8 +5,7 @@ use Rattle.hgs_files.specs.declared.op.Op.{Op}
 use Rattle.hgs_model.specs.declared.command.Command.{Command}
 use Rattle.hgs_script.specs.declared.result.Answered.{Answered}
 use Rattle.hgs_script.specs.declared.result.PublishedJob.{PublishedJob}
-use Rattle.hgs_session.specs.declared.call.Call.{Call}
-use Rattle.hgs_session.specs.Calls.{Beginning, Makes, Stage, published_of, unsure_of}
+use Rattle.hgs_session.specs.Calls.{Beginning, Call, Makes, Stage, published_of, unsure_of}
 
 -- Calls were made one after another; where none was lost, they are the history, and what is listed is what they published.
 pub record HasMade (x : Beginning) (now : Stage) (history : List Call) (published : List PublishedJob) (unsure : Option (ℕ × ℕ)) (is_broken : Bool) : Type 0 where
@@ -20,14 +19,12 @@ pub record HasMade (x : Beginning) (now : Stage) (history : List Call) (publishe
 abbrev pub said_by : Command → Call → Answered
 said_by command c = record { status = status_of c.answer.outcome; text = answer_text command c.answer }
 
--- The history ends with a call of this job, which answered so; and its calls led to this log.
-pub record IsDone (x : Beginning) (worker job : ℕ) (command : Command) (log : Option (List Op)) (history : List Call) (answered : Answered) : Type 0 where
+-- The history ends with a call of this job, which answered so and led to this log.
+pub record IsDone (worker job : ℕ) (command : Command) (log : Option (List Op)) (history : List Call) (answered : Answered) : Type 0 where
   pub before : List Call
   pub call : Call
-  pub last : Stage
   pub history_is : history ≡ before ++ call ∷ []
   pub worker_is : call.worker ≡ worker
   pub job_is : call.job ≡ job
   pub says : answered ≡ said_by command call
-  pub makes : Makes x history last
-  pub log_is : last.log ≡ log
+  pub log_is : call.log ≡ log

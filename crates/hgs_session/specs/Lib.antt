@@ -1,4 +1,5 @@
 pub mod Calls
+pub mod Noted
 pub mod Rules
 pub mod Desk
 pub mod Jobs

@@ -1,16 +1,17 @@
 -- What a session did, and what its result says of it.
+use Rattle.std.specs.List.{AllByRecursion}
 use Rattle.std.specs.Prelude.{◌≡◌, ℕ, suc, List, [], ◌∷◌, ◌++◌, length, fold, ◌+◌, Option, Some, None, Result, IfOk, IfSome, slice_get}
 use Rattle.hgs_files.specs.declared.op.Op.{Op}
 use Rattle.hgs_files.specs.declared.yard.Left.{Left}
 use Rattle.hgs_files.specs.declared.yard.Left.TheVariants.{Whole, Parts}
-use Rattle.hgs_files.specs.Ends.{EndsWithin}
+use Rattle.hgs_files.specs.Ends.{EndsWithin, total_of}
+use Rattle.hgs_files.specs.Reads.{counted}
 use Rattle.hgs_files.specs.Tree.{Tree, after_all}
 use Rattle.hgs_script.specs.declared.job.Job.{Job}
 use Rattle.hgs_script.specs.declared.result.Answered.{Answered}
 use Rattle.hgs_script.specs.declared.result.SessionResult.{SessionResult}
-use Rattle.hgs_session.specs.declared.call.Call.{Call}
 use Rattle.hgs_session.specs.declared.session.NoResult.{NoResult}
-use Rattle.hgs_session.specs.Calls.{Beginning, Makes, Stage, one_if_change, published_of, unsure_of}
+use Rattle.hgs_session.specs.Calls.{Beginning, Call, Makes, Stage, one_if_change, published_of, unsure_of}
 use Rattle.hgs_session.specs.Jobs.{HasDone, Progress}
 
 -- how many of these jobs write
@@ -24,43 +25,43 @@ abbrev pub count_of : Option (List Job) → ℕ
 count_of None = 0
 count_of (Some jobs) = length jobs
 
--- All jobs of a worker were done and answered, and its reading end was told these lists and saw that one.
-pub record HasEnded (x : Beginning) (worker : ℕ) (calls : List Call) (told : List (List Op)) (seen : Option (List Op)) (answers : List Answered) : Type 0 where
+-- What a reading end was told and has seen, and what it has counted.
+pub record EndState : Type 0 where
+  pub told : List (List Op)
+  pub seen : Option (List Op)
+  pub faults : ℕ
+  pub denied : ℕ
+
+abbrev pub state_of : Progress → EndState
+state_of p = record { told = p.told; seen = p.seen; faults = p.faults; denied = p.denied }
+
+-- All jobs of a worker were done and answered, and its reading end has come to this.
+pub record HasEnded (x : Beginning) (worker : ℕ) (calls : List Call) (state : EndState) (answers : List Answered) : Type 0 where
   pub now : Progress
   pub done : HasDone x worker calls now answers
   pub all : now.done ≡ count_of (slice_get x.jobs worker)
-  pub told_is : now.told ≡ told
-  pub seen_is : now.seen ≡ seen
+  pub state_is : state_of now ≡ state
 
--- so it is of each worker from this number on, whose ends have these marks: what they were told, and what they saw
-abbrev pub EndedFrom : Beginning → ℕ → List Call → List (List (List Op) × Option (List Op)) → List (List Answered) → Type 0
+-- so it is of each worker from this number on, whose ends have come to these
+abbrev pub EndedFrom : Beginning → ℕ → List Call → List EndState → List (List Answered) → Type 0
 EndedFrom x worker calls [] [] = Unit {0}
 EndedFrom x worker calls [] (answers ∷ replies) = ⊥
-EndedFrom x worker calls (mark ∷ marks) [] = ⊥
-EndedFrom x worker calls (mark ∷ marks) (answers ∷ replies) = HasEnded x worker calls mark.0 mark.1 answers × EndedFrom x (suc worker) calls marks replies
+EndedFrom x worker calls (state ∷ states) [] = ⊥
+EndedFrom x worker calls (state ∷ states) (answers ∷ replies) = HasEnded x worker calls state answers × EndedFrom x (suc worker) calls states replies
 
--- All jobs of a worker were done and answered, and what its reading end saw and was told begins the log of the writing end.
-pub record Replies (x : Beginning) (worker : ℕ) (calls : List Call) (last : Stage) (answers : List Answered) : Type 0 where
-  pub told : List (List Op)
-  pub seen : Option (List Op)
-  pub ended : HasEnded x worker calls told seen answers
-  pub within : EndsWithin last.log seen told
+-- what an end saw and was told begins the log of the writing end
+abbrev pub IsWithin : Option (List Op) → EndState → Type 0
+IsWithin log state = EndsWithin log state.seen state.told
 
--- so it is of each worker from this number on
-abbrev pub RepliesFrom : Beginning → ℕ → List Call → Stage → List (List Answered) → Type 0
-RepliesFrom x worker calls last [] = Unit {0}
-RepliesFrom x worker calls last (answers ∷ replies) = Replies x worker calls last answers × RepliesFrom x (suc worker) calls last replies
-
--- The writing jobs are calls one after another, as many as there are such jobs; listed are those that published; and each worker has
--- an answer to each of its jobs.
-pub record IsSession (x : Beginning) (last : Stage) (result : SessionResult) : Type 0 where
-  pub calls : List Call
-  pub makes : Makes x calls last
+-- The writing jobs are these calls, as many as there are such jobs; listed are those that published; and each worker has an answer to
+-- each of its jobs, and its reading end has come to its state.
+pub record IsSession (x : Beginning) (calls : List Call) (last : Stage) (states : List EndState) (result : SessionResult) : Type 0 where
   pub all : length calls ≡ changes_in x.jobs
   pub published : result.published ≡ published_of calls
   pub unsure : result.unsure ≡ unsure_of calls
   pub workers : length result.replies ≡ length x.jobs
-  pub replies : RepliesFrom x 0 calls last result.replies
+  pub replies : EndedFrom x 0 calls states result.replies
+  pub within : AllByRecursion (IsWithin last.log) states
 
 -- ---- the yard before and after
 
@@ -89,11 +90,22 @@ abbrev pub IsWhole : {Y A Rest Front W R : Type 0} → Left Y A Rest Front W R �
 IsWhole (Whole yard) = Unit {0}
 IsWhole (Parts w rs) = ⊥
 
+-- the counts at rest are those of the writing end, and what the reading ends have counted
+pub record AreCounted (last : Stage) (states : List EndState) (faults denied : ℕ) : Type 0 where
+  pub faults_are : faults ≡ counted last.faults (total_of (λ (m : EndState). m.faults) states)
+  pub denied_are : denied ≡ counted last.denied (total_of (λ (m : EndState). m.denied) states)
+
+-- A result says what was done by these calls, by workers whose reading ends have come to states of which this holds.
+pub record Tells (x : Beginning) (calls : List Call) (last : Stage) (IsCounted : Stage → List EndState → Type 0) (result : SessionResult) : Type 0 where
+  pub states : List EndState
+  pub is : IsSession x calls last states result
+  pub counts : IsCounted last states
+
 -- What a session leaves: writing jobs of the script were done one after another, which led to this log of what is left; and its
 -- result says so, where there is one.
-pub record Comes (x : Beginning) (IsLeft : Stage → Type 0) (result : Result SessionResult NoResult) : Type 0 where
+pub record Comes (x : Beginning) (IsLeft : Stage → Type 0) (IsCounted : Stage → List EndState → Type 0) (result : Result SessionResult NoResult) : Type 0 where
   pub last : Stage
   pub calls : List Call
   pub makes : Makes x calls last
   pub left : IsLeft last
-  pub told : IfOk result (λ r. IsSession x last r)
+  pub told : IfOk result (λ r. Tells x calls last IsCounted r)

@@ -20,14 +20,14 @@ pub(crate) struct Gathered<N: Naming, R: Follows + Drop> {
 
 impl<N: Naming, R: Follows + Drop> Gathered<N, R> {
     // Adds an end, and its answers.
-    fn keep(&mut self, end: R, answers: Answers, history: &Front<N>)
+    fn keep(&mut self, end: R, answers: Answers, history: &Front<N, R::Front>)
         requires was { self.old.whole ≡ true }
         requires home { (R.Reads.ties end).home ≡ N.home }
         requires homes { All (λ r. (R.Reads.ties r).home ≡ N.home) self.old.ends.items }
-        requires ended { ∥ HasEnded N.begins (vec_len self.old.replies) history.now (R.Reads.ties end).told (R.Reads.seen end) answers ∥₁ }
-        requires whole { ∥ EndedFrom N.begins 0 history.now (map (λ r. ((R.Reads.ties r).told, R.Reads.seen r)) self.old.ends.items) self.old.replies.items ∥₁ }
+        requires ended { ∥ HasEnded N.begins (vec_len self.old.replies) history.now (record { told = (R.Reads.ties end).told; seen = R.Reads.seen end; faults = R.Reads.faults end; denied = R.Reads.denied end }) answers ∥₁ }
+        requires whole { ∥ EndedFrom N.begins 0 history.now (map (λ r. record { told = (R.Reads.ties r).told; seen = R.Reads.seen r; faults = R.Reads.faults r; denied = R.Reads.denied r }) self.old.ends.items) self.old.replies.items ∥₁ }
         ensures homes { All (λ r. (R.Reads.ties r).home ≡ N.home) self.new.ends.items }
-        ensures whole { self.new.whole ≡ true → ∥ EndedFrom N.begins 0 history.now (map (λ r. ((R.Reads.ties r).told, R.Reads.seen r)) self.new.ends.items) self.new.replies.items ∥₁ }
+        ensures whole { self.new.whole ≡ true → ∥ EndedFrom N.begins 0 history.now (map (λ r. record { told = (R.Reads.ties r).told; seen = R.Reads.seen r; faults = R.Reads.faults r; denied = R.Reads.denied r }) self.new.ends.items) self.new.replies.items ∥₁ }
     {
         self.whole = false;
         match self.ends.push(end) {
@@ -56,12 +56,12 @@ impl<N: Naming, R: Follows + Drop> Gathered<N, R> {
     }
 
     // Adds what a worker has done.
-    fn add(&mut self, worker: Worker<N, R>, jobs: &[Jobs], history: &Front<N>)
+    fn add(&mut self, worker: Worker<N, R>, jobs: &[Jobs], history: &Front<N, R::Front>)
         requires jobs { jobs.now ≡ N.begins.jobs }
         requires homes { All (λ r. (R.Reads.ties r).home ≡ N.home) self.old.ends.items }
-        requires whole { self.old.whole ≡ true → ∥ EndedFrom N.begins 0 history.now (map (λ r. ((R.Reads.ties r).told, R.Reads.seen r)) self.old.ends.items) self.old.replies.items ∥₁ }
+        requires whole { self.old.whole ≡ true → ∥ EndedFrom N.begins 0 history.now (map (λ r. record { told = (R.Reads.ties r).told; seen = R.Reads.seen r; faults = R.Reads.faults r; denied = R.Reads.denied r }) self.old.ends.items) self.old.replies.items ∥₁ }
         ensures homes { All (λ r. (R.Reads.ties r).home ≡ N.home) self.new.ends.items }
-        ensures whole { self.new.whole ≡ true → ∥ EndedFrom N.begins 0 history.now (map (λ r. ((R.Reads.ties r).told, R.Reads.seen r)) self.new.ends.items) self.new.replies.items ∥₁ }
+        ensures whole { self.new.whole ≡ true → ∥ EndedFrom N.begins 0 history.now (map (λ r. record { told = (R.Reads.ties r).told; seen = R.Reads.seen r; faults = R.Reads.faults r; denied = R.Reads.denied r }) self.new.ends.items) self.new.replies.items ∥₁ }
     {
         let (end, answers) = worker.ended(self.replies.len(), jobs, history);
         match answers {
@@ -81,7 +81,7 @@ impl<N: Naming, R: Follows + Drop> Gathered<N, R> {
 pub(crate) fn gather<N: Naming, R: Follows + Drop>(
     workers: Vec<Worker<N, R>>,
     jobs: &[Jobs],
-    history: &Front<N>,
+    history: &Front<N, R::Front>,
     ends: Vec<R>,
     replies: Vec<Answers>,
 ) -> Gathered<N, R>
@@ -89,7 +89,7 @@ pub(crate) fn gather<N: Naming, R: Follows + Drop>(
     requires ends { ends.items ≡ [] }
     requires replies { replies.items ≡ [] }
     ensures home { All (λ r. (R.Reads.ties r).home ≡ N.home) result.ends.items }
-    ensures whole { result.whole ≡ true → ∥ EndedFrom N.begins 0 history.now (map (λ r. ((R.Reads.ties r).told, R.Reads.seen r)) result.ends.items) result.replies.items ∥₁ }
+    ensures whole { result.whole ≡ true → ∥ EndedFrom N.begins 0 history.now (map (λ r. record { told = (R.Reads.ties r).told; seen = R.Reads.seen r; faults = R.Reads.faults r; denied = R.Reads.denied r }) result.ends.items) result.replies.items ∥₁ }
     ensures count { result.whole ≡ true → length result.replies.items ≡ length jobs.now }
 {
     let mut gathered = Gathered {

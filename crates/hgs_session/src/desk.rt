@@ -6,11 +6,12 @@ ghost use Rattle.hgs_model.specs.Valid.{IsValid};
 ghost use Rattle.hgs_script.specs.declared.job.Job.TheVariants.{Change};
 ghost use Rattle.hgs_session.specs.Calls.{is_published, is_unsure, job_in, name_of, published_by, unsure_with};
 ghost use Rattle.hgs_session.specs.Desk.{HasMade, IsDone};
+ghost use Rattle.hgs_session.specs.Noted.{call_of};
 
-use crate::call::Call;
 use crate::history::{Front, Head};
 use crate::named::Leader;
 use crate::naming::Naming;
+use crate::noted::Noted;
 use hgs_answers::answer::Answer;
 use hgs_answers::outcome::{Outcome, Published};
 use hgs_bytes::bytes::Bytes;
@@ -25,7 +26,7 @@ use std::alloc::{AllocError, Global};
 #[derive(Drop)]
 pub struct Done<N: Naming, F: Told> {
     pub front: F,
-    pub history: Front<N>,
+    pub history: Front<N, F>,
     pub answered: Answered,
 }
 
@@ -34,8 +35,8 @@ pub struct Done<N: Naming, F: Told> {
 #[derive(Drop)]
 pub struct Desk<N: Naming, W: Leads> {
     leader: Leader<N, W>,
-    head: Head<N>,
-    history: Front<N>,
+    head: Head<N, W::Front>,
+    history: Front<N, W::Front>,
     published: Vec<PublishedJob>,
     unsure: Option<(u32, u32)>,
     broken: bool,
@@ -49,7 +50,7 @@ const MOST_NAME: usize = 255;
 /// The writing end, and what was listed of its calls.
 pub struct Listed<N: Naming, W: Leads> {
     pub(crate) end: W,
-    pub(crate) history: Front<N>,
+    pub(crate) history: Front<N, W::Front>,
     pub(crate) published: Vec<PublishedJob>,
     pub(crate) unsure: Option<(u32, u32)>,
     pub(crate) broken: bool,
@@ -87,31 +88,31 @@ fn is_unsure(outcome: &Outcome) -> bool
     matches!(outcome, Outcome::Unfinished(Published::Unknown))
 }
 
-// Lists a call that published. Where there is no memory, nothing is listed.
-fn list(published: &mut Vec<PublishedJob>, call: &Call) -> Result<(), AllocError>
-    ensures { OnOk result (published.new.items ≡ published.old.items ++ published_by call.now) }
+// Lists a job that published. Where there is no memory, nothing is listed.
+fn list<F: Told>(published: &mut Vec<PublishedJob>, noted: &Noted<F>) -> Result<(), AllocError>
+    ensures { OnOk result (published.new.items ≡ published.old.items ++ published_by (call_of F.log noted.now)) }
 {
-    if !is_published(&call.answer.outcome) {
+    if !is_published(&noted.answer.outcome) {
         return Ok(());
     }
-    let Some((rev, node)) = call.changeset else {
+    let Some((rev, node)) = noted.changeset else {
         return Ok(());
     };
     published.push(PublishedJob {
-        worker: call.worker,
-        job: call.job,
+        worker: noted.worker,
+        job: noted.job,
         rev,
         node,
     })?;
     Ok(())
 }
 
-// The job of which it is not known whether it published, once this call was made.
-fn unsure_with(known: Option<(u32, u32)>, call: &Call) -> Option<(u32, u32)>
-    ensures { result ≡ unsure_with known call.now }
+// The job of which it is not known whether it published, once this one was done.
+fn unsure_with<F: Told>(known: Option<(u32, u32)>, noted: &Noted<F>) -> Option<(u32, u32)>
+    ensures { result ≡ unsure_with known (call_of F.log noted.now) }
 {
-    if is_unsure(&call.answer.outcome) {
-        Some((call.worker, call.job))
+    if is_unsure(&noted.answer.outcome) {
+        Some((noted.worker, noted.job))
     } else {
         known
     }
@@ -134,8 +135,8 @@ impl<N: Naming, W: Leads> Desk<N, W> {
     /// The desk of a writing end that has done nothing yet. `room` takes the entries of what is published.
     pub(crate) fn new(
         leader: Leader<N, W>,
-        head: Head<N>,
-        history: Front<N>,
+        head: Head<N, W::Front>,
+        history: Front<N, W::Front>,
         room: Vec<PublishedJob>,
     ) -> Desk<N, W>
         requires start { W.start leader.end ≡ N.begins.start }
@@ -156,7 +157,14 @@ impl<N: Naming, W: Leads> Desk<N, W> {
     }
 
     // Calls the writer, and leaves the desk broken until that is noted.
-    fn call(&mut self, alloc: Global, command: &Command, worker: u32, job: u32, name: &[u8]) -> Call
+    fn call(
+        &mut self,
+        alloc: Global,
+        command: &Command,
+        worker: u32,
+        job: u32,
+        name: &[u8],
+    ) -> Noted<W::Front>
         requires sound { self.old.broken ≡ false }
         requires job { job_in N.begins.jobs worker job ≡ Some (Change command.now) }
         requires name { name.now ≡ name_of worker job }
@@ -167,28 +175,30 @@ impl<N: Naming, W: Leads> Desk<N, W> {
         ensures broken { self.new.broken ≡ true }
         ensures worker { result.worker ≡ worker }
         ensures job { result.job ≡ job }
-        ensures made { ∥ HasMade N.begins (record { log = W.log self.new.leader.end; faults = W.faults self.new.leader.end; denied = W.denied self.new.leader.end }) (self.new.history ++ result ∷ []) (self.new.published.items ++ published_by result) (unsure_with self.new.unsure result) false ∥₁ }
+        ensures home { W.Front.home result.front ≡ N.home }
+        ensures made { ∥ HasMade N.begins (record { log = W.log self.new.leader.end; faults = W.faults self.new.leader.end; denied = W.denied self.new.leader.end }) (self.new.history ++ call_of W.Front.log result ∷ []) (self.new.published.items ++ published_by (call_of W.Front.log result)) (unsure_with self.new.unsure (call_of W.Front.log result)) false ∥₁ }
     {
         self.broken = true;
         let Written { answer, changeset } = write_told(alloc, &mut self.leader, command, name);
-        Call {
+        Noted {
             worker,
             job,
             answer,
             changeset,
+            front: self.leader.front(),
         }
     }
 
-    // Notes a call that was made, and gives the history with it; or nothing where there is no memory.
-    fn note(&mut self, call: &Call) -> Option<Front<N>>
+    // Notes a job that was done, and gives the history with it; or nothing where there is no memory.
+    fn note(&mut self, noted: &Noted<W::Front>) -> Option<Front<N, W::Front>>
         requires broken { self.old.broken ≡ true }
-        requires made { ∥ HasMade N.begins (record { log = W.log self.old.leader.end; faults = W.faults self.old.leader.end; denied = W.denied self.old.leader.end }) (self.old.history ++ call.now ∷ []) (self.old.published.items ++ published_by call.now) (unsure_with self.old.unsure call.now) false ∥₁ }
+        requires made { ∥ HasMade N.begins (record { log = W.log self.old.leader.end; faults = W.faults self.old.leader.end; denied = W.denied self.old.leader.end }) (self.old.history ++ call_of W.Front.log noted.now ∷ []) (self.old.published.items ++ published_by (call_of W.Front.log noted.now)) (unsure_with self.old.unsure (call_of W.Front.log noted.now)) false ∥₁ }
         ensures leader { self.new.leader ≡ self.old.leader }
-        ensures history { IfSome result (λ front. front ≡ self.old.history ++ call.now ∷ []) }
+        ensures history { IfSome result (λ front. front ≡ self.old.history ++ call_of W.Front.log noted.now ∷ []) }
     {
-        let history = self.history.with(&self.head, call)?;
-        list(&mut self.published, call).ok()?;
-        self.unsure = unsure_with(self.unsure, call);
+        let history = self.history.with(&self.head, noted)?;
+        list(&mut self.published, noted).ok()?;
+        self.unsure = unsure_with(self.unsure, noted);
         self.history = history.again();
         self.broken = false;
         Some(history)
@@ -207,7 +217,7 @@ impl<N: Naming, W: Leads> Desk<N, W> {
         requires valid { IsValid command.now }
         requires allows { (log : List Op) → W.allows N.begins.start log }
         ensures home { IfSome result (λ done. W.Front.home done.front ≡ N.home) }
-        ensures done { IfSome result (λ done. ∥ IsDone N.begins worker job command.now (W.Front.log done.front) done.history done.answered ∥₁) }
+        ensures done { IfSome result (λ done. ∥ IsDone worker job command.now (W.Front.log done.front) done.history done.answered ∥₁) }
     {
         if self.broken {
             return None;
@@ -216,11 +226,11 @@ impl<N: Naming, W: Leads> Desk<N, W> {
         if name.is_empty() || name.len() > MOST_NAME {
             return None;
         }
-        let call = self.call(alloc, command, worker, job, &name);
-        let history = self.note(&call)?;
-        let answered = said(alloc, command, &call.answer).ok()?;
+        let noted = self.call(alloc, command, worker, job, &name);
+        let history = self.note(&noted)?;
+        let answered = said(alloc, command, &noted.answer).ok()?;
         Some(Done {
-            front: self.leader.front(),
+            front: noted.front,
             history,
             answered,
         })

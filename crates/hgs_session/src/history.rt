@@ -1,18 +1,20 @@
-//! The history of a session: the calls of its writing jobs, one after another. Who adds to it and who looks at it agree on it, since it
+//! The history of a session: its writing jobs that were done, one after another. Who adds to it and who looks at it agree on it, since it
 //! only grows; it stands in proofs, and what is counted of it is its length.
 ghost use Rattle.std.specs.Prelude.{◌≡◌, ◌++◌, ◌∷◌, [], length, true, IfSome};
 ghost use mathlib.Core.List.{IsPrefix};
+ghost use Rattle.hgs_session.specs.Noted.{call_of};
 ghost use Rattle.hgs_session.specs.Rules.{head_of};
 
-use crate::call::Call;
 use crate::naming::Naming;
+use crate::noted::Noted;
+use hgs_files::ends::Told;
 use logbook::{Gain, Offer, Plain, Play, Rule, Seen, Start, Word};
 use std::marker::{Model, PhantomData};
 
 /// The rule of the history: one word is its length.
 pub struct Listed;
 
-impl Rule<Call, u64> for Listed {
+impl<F: Told> Rule<Noted<F>, u64> for Listed {
     ghost use Rattle.std.specs.Prelude.{[]};
     ghost use base.Fml.{ftrue};
     ghost use Rattle.hgs_session.specs.Rules.{IsKept};
@@ -33,42 +35,42 @@ impl Rule<Call, u64> for Listed {
 /// Callers trade nothing.
 pub struct Nothing;
 
-impl Gain<Call, u64> for Nothing {
+impl<F: Told> Gain<Noted<F>, u64> for Nothing {
     ghost use base.Fml.{ftrue};
 
     ghost after = { λ names about answer. ftrue };
 }
 
-/// The step that adds a call.
+/// The step that adds a job.
 pub struct Adds;
 
-impl Play<Call, u64> for Adds {
+impl<F: Told> Play<Noted<F>, u64> for Adds {
     ghost use Rattle.hgs_session.specs.Rules.{Added};
 
     ghost then = { Added };
 }
 
-/// What the step asks for: the call.
-impl Plain<Call, Call, u64> for Adds {
+/// What the step asks for: the job.
+impl<F: Told> Plain<Noted<F>, Noted<F>, u64> for Adds {
     ghost use Rattle.std.specs.Prelude.{None};
 
-    ghost ask = { λ call. call };
+    ghost ask = { λ noted. noted };
 
-    ghost state = { λ call. None };
+    ghost state = { λ noted. None };
 }
 
 const MOST: u64 = 1 << 62;
 
-/// A history with no calls, which has no name yet.
-pub struct Opened {
-    head: Word<Call, u64, Listed>,
-    seen: Seen<Call, u64, Listed>,
+/// A history with no jobs, which has no name yet.
+pub struct Opened<F: Told> {
+    head: Word<Noted<F>, u64, Listed>,
+    seen: Seen<Noted<F>, u64, Listed>,
     pub ghost empty: { seen.log ≡ [] },
     pub ghost head_is: { head ≡ head_of seen.book },
 }
 
-impl Opened {
-    pub fn new() -> Opened {
+impl<F: Told> Opened<F> {
+    pub fn new() -> Opened<F> {
         let (seen, mut first, _second) = Seen::open(Start::alone(), 0, 0);
         Opened {
             head: Word::tracked(0, &mut first),
@@ -76,8 +78,8 @@ impl Opened {
         }
     }
 
-    /// What can add to the history, under its name, and the front with no calls.
-    pub fn named<N: Naming>(self) -> (Head<N>, Front<N>)
+    /// What can add to the history, under its name, and the front with no jobs.
+    pub fn named<N: Naming>(self) -> (Head<N, F>, Front<N, F>)
         requires { self.seen.book ≡ N.book }
         ensures { result.1 ≡ [] }
     {
@@ -98,33 +100,34 @@ impl Opened {
 
 /// The word that says how long the history is.
 #[derive(Drop)]
-pub struct Head<N: Naming> {
-    head: Word<Call, u64, Listed>,
+pub struct Head<N: Naming, F: Told> {
+    head: Word<Noted<F>, u64, Listed>,
     of: PhantomData<N>,
     ghost head_is: { head ≡ head_of N.book },
 }
 
-/// A front of the history. Contracts see it as its calls.
+/// A front of the history. Contracts see it as calls, each with the log behind it.
 #[derive(Drop)]
-pub struct Front<N: Naming> {
+pub struct Front<N: Naming, F: Told> {
     count: u64,
-    seen: Seen<Call, u64, Listed>,
+    seen: Seen<Noted<F>, u64, Listed>,
     of: PhantomData<N>,
 }
 
-impl<N: Naming> Model for Front<N> {
-    ghost use Rattle.std.specs.Prelude.{◌≡◌, List, length};
-    ghost use Rattle.hgs_session.specs.declared.call.Call.{Call};
+impl<N: Naming, F: Told> Model for Front<N, F> {
+    ghost use Rattle.std.specs.Prelude.{◌≡◌, List, length, map};
+    ghost use Rattle.hgs_session.specs.Calls.{Call};
+    ghost use Rattle.hgs_session.specs.Noted.{call_of};
 
     ghost Value = { List Call };
 
-    ghost view = { λ f. f.seen.log };
+    ghost view = { λ f. map (call_of F.log) f.seen.log };
 
     ghost invariant = { λ f. (f.count ≡ length f.seen.log) × (f.seen.book ≡ N.book) };
 }
 
-impl<N: Naming> Front<N> {
-    /// How many calls it has.
+impl<N: Naming, F: Told> Front<N, F> {
+    /// How many jobs it has.
     pub fn len(&self) -> u64
         ensures { result ≡ length self.now }
     {
@@ -132,7 +135,7 @@ impl<N: Naming> Front<N> {
     }
 
     /// A copy. It takes no memory.
-    pub fn again(&self) -> Front<N>
+    pub fn again(&self) -> Front<N, F>
         ensures { result ≡ self.now }
     {
         Front {
@@ -143,7 +146,7 @@ impl<N: Naming> Front<N> {
     }
 
     /// Whether another front goes on from this one: of two fronts of one history the longer does.
-    pub fn begins(&self, other: &Front<N>) -> bool
+    pub fn begins(&self, other: &Front<N, F>) -> bool
         ensures { result ≡ true → IsPrefix self.now other.now }
     {
         let mut both = self.seen.again();
@@ -151,17 +154,17 @@ impl<N: Naming> Front<N> {
         self.count <= other.count
     }
 
-    /// The front with one call more, or none where the history is longer than this front already.
-    pub fn with(&self, head: &Head<N>, call: &Call) -> Option<Front<N>>
-        ensures { IfSome result (λ front. front ≡ self.now ++ call.now ∷ []) }
+    /// The front with one job more, or none where the history is longer than this front already.
+    pub fn with(&self, head: &Head<N, F>, noted: &Noted<F>) -> Option<Front<N, F>>
+        ensures { IfSome result (λ front. front ≡ self.now ++ call_of F.log noted.now ∷ []) }
     {
         if self.count >= MOST {
             return None;
         }
         let mut seen = self.seen.again();
-        let mut offer: Offer<Call, u64, Listed, Nothing> = self
+        let mut offer: Offer<Noted<F>, u64, Listed, Nothing> = self
             .seen
-            .plain::<Nothing, Call, Adds>(call);
+            .plain::<Nothing, Noted<F>, Adds>(noted);
         let mut pen = seen.no_pen();
         let count = self.count;
         let found = head

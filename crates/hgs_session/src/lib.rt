@@ -1,13 +1,13 @@
 //! Sessions: workers that commit to a repository and ask it at the same time, over shared files.
 #![tactic(auto)]
 
-pub mod call;
 mod close;
 pub mod desk;
 pub mod gate;
 pub mod history;
 pub mod named;
 pub mod naming;
+pub mod noted;
 mod room;
 pub mod session;
 pub mod worker;

@@ -1,11 +1,12 @@
 //! A session: its workers do their jobs at the same time, over shared files.
-ghost use Rattle.std.specs.Prelude.{◌≡◌, ◌≤◌, [], false, List, All, IfOk, IsOk, Ok, length, map, true};
+ghost use Rattle.std.specs.Prelude.{◌≡◌, ◌≤◌, ⊤, [], false, List, All, IfOk, IsOk, Ok, length, map, true};
 ghost use Rattle.hgs_files.specs.declared.op.Op.{Op};
-ghost use Rattle.hgs_files.specs.Ends.{EndsWithin, Follow};
+ghost use Rattle.hgs_files.specs.Ends.{EndsWithin, Follow, total_of};
+ghost use Rattle.hgs_files.specs.Reads.{counted};
 ghost use Rattle.hgs_files.specs.Tree.{Tree};
 ghost use Rattle.hgs_script.specs.Script.{CanBeRun};
 ghost use Rattle.hgs_session.specs.Calls.{Beginning};
-ghost use Rattle.hgs_session.specs.Session.{BeginsOver, Comes, EndedFrom, IsNew, IsWhole, LeftAs, RestsOn, changes_in};
+ghost use Rattle.hgs_session.specs.Session.{AreCounted, BeginsOver, Comes, EndedFrom, IsNew, IsWhole, LeftAs, RestsOn, changes_in};
 
 use crate::close::{Gathered, gather};
 use crate::desk::{Desk, Listed};
@@ -15,7 +16,7 @@ use crate::named::Leader;
 use crate::naming::Naming;
 use crate::room::{Room, changes_in};
 use crate::worker::Worker;
-use hgs_files::ends::{Follows, Leads};
+use hgs_files::ends::{Follows, Leads, Told};
 use hgs_files::yard::{Left, Yard};
 use hgs_script::result::{Answered, Answers, PublishedJob, PublishedJobs, Replies, SessionResult};
 use hgs_script::script::Script;
@@ -40,7 +41,7 @@ pub struct SessionEnd<Y: Yard> {
 fn workers_of<N: Naming, R: Follows + Drop>(
     alloc: Global,
     rs: Vec<R>,
-    history: &Front<N>,
+    history: &Front<N, R::Front>,
     rooms: Vec<Vec<Answered>>,
 ) -> Vec<Worker<N, R>>
     requires home { All (λ r. (R.Reads.ties r).home ≡ N.home) rs.items }
@@ -124,6 +125,7 @@ where
     ensures left { LeftAs result.left (λ y. Follow (Y.W.ties w) (Y.W.log w) (Y.A.log (Y.files y)) (Y.A.start (Y.files y))) (λ end. Y.W.log end ≡ Y.W.log w) }
     ensures told { IfOk result.result (λ r. told ≡ Ok r) }
     ensures within { IfOk result.result (λ r. All (λ r. EndsWithin (Y.W.log w) (Y.R.seen r) (Y.R.ties r).told) rs.items) }
+    ensures counts { IsOk result.result → LeftAs result.left (λ y. (Y.A.faults (Y.files y) ≡ counted (Y.W.faults w) (total_of Y.R.faults rs.items)) × (Y.A.denied (Y.files y) ≡ counted (Y.W.denied w) (total_of Y.R.denied rs.items))) (λ end. ⊤) }
     ensures whole { IsOk result.result → IsWhole result.left }
 {
     match Y::finish(w, rs) {
@@ -139,9 +141,9 @@ where
 }
 
 // The result, where all was listed and every job was done.
-fn result_of<N: Naming>(
+fn result_of<N: Naming, F: Told>(
     script: &Script,
-    history: &Front<N>,
+    history: &Front<N, F>,
     published: Vec<PublishedJob>,
     unsure: Option<(u32, u32)>,
     broken: bool,
@@ -177,9 +179,9 @@ where
     Y::R: Drop,
     requires jobs { script.now.workers ≡ N.begins.jobs }
     requires home { All (λ r. (Y.R.ties r).home ≡ N.home) gathered.ends.items }
-    requires whole { gathered.whole ≡ true → ∥ EndedFrom N.begins 0 listed.history (map (λ r. ((Y.R.ties r).told, Y.R.seen r)) gathered.ends.items) gathered.replies.items ∥₁ }
+    requires whole { gathered.whole ≡ true → ∥ EndedFrom N.begins 0 listed.history (map (λ r. record { told = (Y.R.ties r).told; seen = Y.R.seen r; faults = Y.R.faults r; denied = Y.R.denied r }) gathered.ends.items) gathered.replies.items ∥₁ }
     requires count { gathered.whole ≡ true → length gathered.replies.items ≡ length script.now.workers }
-    ensures comes { ∥ Comes N.begins (λ last. LeftAs result.left (λ y. RestsOn N.earlier N.earlier_start last.log (Y.A.log (Y.files y)) (Y.A.start (Y.files y))) (λ w. Y.W.log w ≡ last.log)) result.result ∥₁ }
+    ensures comes { ∥ Comes N.begins (λ last. LeftAs result.left (λ y. RestsOn N.earlier N.earlier_start last.log (Y.A.log (Y.files y)) (Y.A.start (Y.files y))) (λ w. Y.W.log w ≡ last.log)) (λ last states. LeftAs result.left (λ y. AreCounted last states (Y.A.faults (Y.files y)) (Y.A.denied (Y.files y))) (λ w. ⊤)) result.result ∥₁ }
     ensures whole { IsOk result.result → IsWhole result.left }
 {
     let Listed {
@@ -205,7 +207,7 @@ fn run<N: Naming + Send + Sync, Y: Yard, T: Threads + Wait + Sync, G: Gate>(
     alloc: Global,
     w: Y::W,
     rs: Vec<Y::R>,
-    opened: Opened,
+    opened: Opened<Y::Front>,
     room: Room<Y::R>,
     script: &Script,
     gate: &G,
@@ -225,7 +227,7 @@ where
     requires homes { All (λ r. (Y.R.ties r).home ≡ N.home) rs.items }
     requires new { All (λ r. IsNew N.begins.first.log N.begins.start (Y.R.seen r) (Y.R.start r) (Y.R.ties r).told (Y.R.faults r) (Y.R.denied r)) rs.items }
     requires room { (room.published.items ≡ []) × (room.ends.items ≡ []) × (room.replies.items ≡ []) }
-    ensures comes { ∥ Comes N.begins (λ last. LeftAs result.left (λ y. RestsOn N.earlier N.earlier_start last.log (Y.A.log (Y.files y)) (Y.A.start (Y.files y))) (λ w. Y.W.log w ≡ last.log)) result.result ∥₁ }
+    ensures comes { ∥ Comes N.begins (λ last. LeftAs result.left (λ y. RestsOn N.earlier N.earlier_start last.log (Y.A.log (Y.files y)) (Y.A.start (Y.files y))) (λ w. Y.W.log w ≡ last.log)) (λ last states. LeftAs result.left (λ y. AreCounted last states (Y.A.faults (Y.files y)) (Y.A.denied (Y.files y))) (λ w. ⊤)) result.result ∥₁ }
     ensures whole { IsOk result.result → IsWhole result.left }
 {
     let (head, history) = opened.named::<N>();
@@ -269,7 +271,7 @@ where
     Y::R: Drop + Send,
     requires can { CanBeRun script.now }
     requires allows { (start : Tree) (log : List Op) → Y.W.allows start log }
-    ensures comes { ∥ ((x : Beginning) × BeginsOver x script.now.workers (Y.A.log (Y.files yard)) (Y.A.start (Y.files yard)) (Y.A.faults (Y.files yard)) (Y.A.denied (Y.files yard)) × Comes x (λ last. LeftAs result.left (λ y. RestsOn (Y.A.log (Y.files yard)) (Y.A.start (Y.files yard)) last.log (Y.A.log (Y.files y)) (Y.A.start (Y.files y))) (λ w. Y.W.log w ≡ last.log)) result.result) ∥₁ }
+    ensures comes { ∥ ((x : Beginning) × BeginsOver x script.now.workers (Y.A.log (Y.files yard)) (Y.A.start (Y.files yard)) (Y.A.faults (Y.files yard)) (Y.A.denied (Y.files yard)) × Comes x (λ last. LeftAs result.left (λ y. RestsOn (Y.A.log (Y.files yard)) (Y.A.start (Y.files yard)) last.log (Y.A.log (Y.files y)) (Y.A.start (Y.files y))) (λ w. Y.W.log w ≡ last.log)) (λ last states. LeftAs result.left (λ y. AreCounted last states (Y.A.faults (Y.files y)) (Y.A.denied (Y.files y))) (λ w. ⊤)) result.result) ∥₁ }
     ensures whole { IsOk result.result → IsWhole result.left }
 {
     let Ok(room) = Room::new(alloc, script.workers.as_slice()) else {

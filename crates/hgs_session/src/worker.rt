@@ -31,7 +31,7 @@ pub struct Worker<N: Naming, R: Follows> {
     pub(crate) number: u32,
     follower: Follower<N, R>,
     session: Option<Session>,
-    history: Front<N>,
+    history: Front<N, R::Front>,
     replies: Vec<Answered>,
     broken: bool,
     ghost done: { ∥ (broken ≡ false → HasDone N.begins number history (record { done = length replies.items; place = length history; told = (R.Reads.ties follower.end).told; seen = R.Reads.seen follower.end; start = R.Reads.start follower.end; view = session; faults = R.Reads.faults follower.end; denied = R.Reads.denied follower.end }) replies.items) ∥₁ },
@@ -50,7 +50,7 @@ fn write_at<N: Naming, W: Leads, T: Wait>(
     requires valid { IsValid command.now }
     requires allows { (log : List Op) → W.allows N.begins.start log }
     ensures home { IfSome result (λ done. W.Front.home done.front ≡ N.home) }
-    ensures done { IfSome result (λ done. ∥ IsDone N.begins worker job command.now (W.Front.log done.front) done.history done.answered ∥₁) }
+    ensures done { IfSome result (λ done. ∥ IsDone worker job command.now (W.Front.log done.front) done.history done.answered ∥₁) }
 {
     desk.lock(rt).write(alloc, command, worker, job)
 }
@@ -62,7 +62,7 @@ impl<N: Naming, R: Follows> Worker<N, R> {
         requires sound { self.old.broken ≡ false }
         requires job { job_in N.begins.jobs self.old.number (length self.old.replies.items) ≡ Some (Change command.now) }
         requires home { R.Front.home done.front ≡ N.home }
-        requires done { ∥ IsDone N.begins self.old.number (length self.old.replies.items) command.now (R.Front.log done.front) done.history done.answered ∥₁ }
+        requires done { ∥ IsDone self.old.number (length self.old.replies.items) command.now (R.Front.log done.front) done.history done.answered ∥₁ }
         ensures number { self.new.number ≡ self.old.number }
     {
         let Done {
@@ -194,7 +194,12 @@ impl<N: Naming, R: Follows> Worker<N, R> {
     }
 
     /// A worker of this number that has done nothing yet. `room` takes its answers.
-    pub(crate) fn new(number: u32, end: R, history: Front<N>, room: Vec<Answered>) -> Worker<N, R>
+    pub(crate) fn new(
+        number: u32,
+        end: R,
+        history: Front<N, R::Front>,
+        room: Vec<Answered>,
+    ) -> Worker<N, R>
         requires home { (R.Reads.ties end).home ≡ N.home }
         requires begins { IfSome N.begins.first.log (λ log. (R.Reads.seen end ≡ Some []) × ((R.Reads.ties end).told ≡ []) × (R.Reads.start end ≡ N.begins.start)) }
         requires faults { R.Reads.faults end ≡ 0 }
@@ -219,11 +224,11 @@ impl<N: Naming, R: Follows> Worker<N, R> {
         self,
         number: usize,
         jobs: &[Jobs],
-        history: &Front<N>,
+        history: &Front<N, R::Front>,
     ) -> (R, Option<Answers>)
         requires { jobs.now ≡ N.begins.jobs }
         ensures home { (R.Reads.ties result.0).home ≡ N.home }
-        ensures answers { IfSome result.1 (λ answers. ∥ HasEnded N.begins number history.now (R.Reads.ties result.0).told (R.Reads.seen result.0) answers ∥₁) }
+        ensures answers { IfSome result.1 (λ answers. ∥ HasEnded N.begins number history.now (record { told = (R.Reads.ties result.0).told; seen = R.Reads.seen result.0; faults = R.Reads.faults result.0; denied = R.Reads.denied result.0 }) answers ∥₁) }
     {
         let begins = self.history.begins(history);
         let Worker {

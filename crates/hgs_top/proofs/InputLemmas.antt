@@ -9,7 +9,7 @@ use Rattle.hgs_input.specs.declared.fault.InputFault.{InputFault}
 use Rattle.hgs_model.specs.declared.command.NewChange.{NewChange}
 use Rattle.hgs_schedule.specs.Read.{read_schedule}
 use Rattle.hgs_schedule.specs.declared.event.Schedule.{Schedule}
-use Rattle.hgs_top.specs.Orders.{Gave}
+use Rattle.hgs_top.specs.Orders.{Gave, IsAtEnd}
 use Rattle.hgs_top.specs.Play.{GaveSchedule}
 use Rattle.hgs_top.specs.Theorems.Inputs.{looked_at_decides}
 
@@ -48,6 +48,14 @@ all_taken (Some all) now next bytes front more most h t e z some few =
     let whole : all ≡ more = h.2 ∙ ap (λ l. bytes ++ l) (u.3 some f ∙ sym f) ∙ sym e in
     let size = ap length e ∙ length-append bytes front in
     sym (ap (take (most_input + 1)) whole ∙ take_all (most_input + 1) more (omega (arith, size, z, few)))
+
+-- none were taken, though some were asked for
+pub at_end : (now next : Option (List ℕ)) (front : List ℕ) (most : ℕ) → IsTaken now next most front → length front ≡ 0 → 0 < most → IsAtEnd next
+at_end None next front most t z some = subst IsAtEnd (sym t) tt
+at_end (Some all) next front most t z some =
+    let f = no_bytes front z in
+    let none : [] ≡ t.0 = sym (t.3 some f) ∙ (t.2 ∙ ap (λ l. l ++ t.0) f) in
+    subst IsAtEnd (sym t.1) (sym none)
 
 pub gave : ((front more : List ℕ) → most_input < length front → read_record (front ++ more) ≡ read_record front) → (left : Option (List ℕ)) (bytes : List ℕ) (given : Result NewChange InputFault) → IfSome left (λ all. bytes ≡ take (most_input + 1) all) → Gives is_memory (λ change. change) given (read_record bytes) → Gave left given
 gave long None bytes given e h = tt

@@ -1,24 +1,15 @@
 -- Why files are left over.
-use Rattle.std.proofs.Common.{◌≡◌, ◌⊎◌, ◌≤◌, ◌+◌, ℕ, zero, suc, Bool, false, inl, inr, arith, refl, subst}
-use Rattle.hgs_answers.specs.declared.answer.Answer.{Answer}
+use Rattle.std.proofs.Common.{◌⊎◌, ◌≤◌, ℕ, List, inl, inr, arith}
+use Rattle.std.specs.Prelude.{Option, Result, Ok, Err}
 use Rattle.hgs_files.specs.Reads.{Rose}
-use Rattle.hgs_machine.specs.Refusals.{WereRefused, refusals_of_left}
-use Rattle.hgs_writer.specs.Refusals.{refusals_of, refusals_of_outcome}
-use Rattle.hgs_top.specs.Orders.{LeftHasCause}
+use Rattle.hgs_files.specs.Tree.{Tree}
+use Rattle.hgs_files.specs.declared.op.Op.{Op}
+use Rattle.hgs_grown.specs.declared.commits.Stop.{Stop}
+use Rattle.hgs_grown.specs.declared.commits.Stop.TheVariants as stops
+use Rattle.hgs_index.specs.declared.node.Node.{Node}
+use Rattle.hgs_top.specs.Orders.{Grows, LeftHasCause, TellsGrown}
 use Rattle.hgs_top.specs.declared.ended.Ended.{Ended}
 use Rattle.hgs_top.specs.declared.ended.Ended.TheVariants.{Made, Exists, NotMade, NoInput, NoRecord, Refused, Answered, Recovered}
-
--- one call was refused at the least
-one : (calls failed wanting f g d e : ℕ) → 1 ≤ calls → (h : WereRefused calls f g d e) → h.failed ≡ failed → Rose f g ⊎ Rose d e
-one calls zero wanting f g d e some h is = let all = h.all in let denied = h.denied in inr (omega (arith, all, denied, is, some))
-one calls (suc failed) wanting f g d e some h is = let faults = h.faults in inl (omega (arith, faults, is))
-
-pub left_cause : (told : Bool) (answer : Answer) (f g d e : ℕ) → WereRefused (refusals_of told answer) f g d e → answer.swept ≡ false → Rose f g ⊎ Rose d e
-left_cause told answer f g d e h left =
-    let some : 1 ≤ refusals_of_outcome told answer.outcome + refusals_of_left false = omega arith in
-    let L : Bool → Type 0 = λ b. WereRefused (refusals_of_outcome told answer.outcome + refusals_of_left b) f g d e in
-    let r : WereRefused (refusals_of_outcome told answer.outcome + refusals_of_left false) f g d e = subst L left h in
-    one (refusals_of_outcome told answer.outcome + refusals_of_left false) r.failed r.wanting f g d e some r refl
 
 -- what leaves no file over
 pub left_none : (Cause : Type 0) (ended : Ended) → LeftHasCause ⊥ ended → LeftHasCause Cause ended
@@ -30,3 +21,20 @@ left_none Cause (NoRecord fault) h = tt
 left_none Cause (Refused refusal) h = tt
 left_none Cause (Answered command answer) h = λ left. absurd (h left)
 left_none Cause (Recovered r) h = λ left. absurd (h left)
+
+-- ---- a repository that grows
+
+later : (f g h : ℕ) → f ≤ g → Rose g h → Rose f h
+later f g h le rose = omega (arith, le, rose)
+
+pub causes_later : (f g h d e k : ℕ) → f ≤ g → d ≤ e → Rose g h ⊎ Rose e k → Rose f h ⊎ Rose d k
+causes_later f g h d e k le less (inl rose) = inl (later f g h le rose)
+causes_later f g h d e k le less (inr rose) = inr (later d e k less rose)
+
+tells_under : (C D : Type 0) → (C → D) → (grown : Result Node Stop) (log : Option (List Op)) (start : Tree) (status : ℕ) (old new : Option (List ℕ)) → TellsGrown C grown log start status old new → TellsGrown D grown log start status old new
+tells_under C D f (Ok tip) log start status old new h = h
+tells_under C D f (Err stops.Memory) log start status old new h = h
+tells_under C D f (Err (stops.Answered command answer)) log start status old new h = ((λ left. f (h.0 left)), h.1)
+
+pub grows_under : (C D : Type 0) → (C → D) → (seed count : ℕ) (old new : Option (List Op)) (start : Tree) (status : ℕ) (written_old written_new : Option (List ℕ)) → Grows C seed count old new start status written_old written_new → Grows D seed count old new start status written_old written_new
+grows_under C D f seed count old new start status written_old written_new h = (h.0, h.1, tells_under C D f h.0 new start status written_old written_new h.2)

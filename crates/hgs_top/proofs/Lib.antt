@@ -16,6 +16,7 @@ pub mod OpenLemmas
 pub mod PiecesLemmas
 pub mod PlayLemmas
 pub mod ReplyLemmas
+pub mod ReadLemmas
 pub mod RepositoryLemmas
 pub mod ValidLemmas
 pub mod VerifiedLemmas

@@ -207,26 +207,27 @@ TellsSummary tip status written_old written_new t =
 abbrev pub Summarizes : Node → Option (List Op) → Tree → ℕ → Option (List ℕ) → Option (List ℕ) → Type 0
 Summarizes tip log start status written_old written_new = OfTree log start (TellsSummary tip status written_old written_new) ⊎ RefusesReport ⊤ log start status written_old written_new
 
--- what is said of the commits: where all are done, what they came to; else the answer of the one that is not
-abbrev pub TellsGrown : Result Node Stop → Option (List Op) → Tree → ℕ → Option (List ℕ) → Option (List ℕ) → Type 0
-TellsGrown (Ok tip) log start status written_old written_new = Summarizes tip log start status written_old written_new
-TellsGrown (Err stops.Memory) log start status written_old written_new = EndsLine memory_line 30 status written_old written_new
-TellsGrown (Err (stops.Answered command answer)) log start status written_old written_new = EndsLine (answer_text command answer) (answer_status answer.outcome) status written_old written_new
+-- what is said of the commits: where all are done, what they came to; else the answer of the one that is not, and files are left over
+-- only where this cause was there
+abbrev pub TellsGrown : Type 0 → Result Node Stop → Option (List Op) → Tree → ℕ → Option (List ℕ) → Option (List ℕ) → Type 0
+TellsGrown Cause (Ok tip) log start status written_old written_new = Summarizes tip log start status written_old written_new
+TellsGrown Cause (Err stops.Memory) log start status written_old written_new = EndsLine memory_line 30 status written_old written_new
+TellsGrown Cause (Err (stops.Answered command answer)) log start status written_old written_new = (answer.swept ≡ false → Cause) × EndsLine (answer_text command answer) (answer_status answer.outcome) status written_old written_new
 
 -- the commits are made one after another, and then all is verified
-abbrev pub Grows : ℕ → ℕ → Option (List Op) → Option (List Op) → Tree → ℕ → Option (List ℕ) → Option (List ℕ) → Type 0
-Grows seed count old new start status written_old written_new =
-    (grown : Result Node Stop) × GoesOn old new (GrowsTo lock_text seed count grown (tree_now old start)) × TellsGrown grown new start status written_old written_new
+abbrev pub Grows : Type 0 → ℕ → ℕ → Option (List Op) → Option (List Op) → Tree → ℕ → Option (List ℕ) → Option (List ℕ) → Type 0
+Grows Cause seed count old new start status written_old written_new =
+    (grown : Result Node Stop) × GoesOn old new (GrowsTo lock_text seed count grown (tree_now old start)) × TellsGrown Cause grown new start status written_old written_new
 
 abbrev pub IsNotMade : Ended → Type 0
 IsNotMade Made = ⊥
 IsNotMade ended = ⊤
 
 -- A repository is made as by `init`, and where it is, it grows.
-abbrev pub Generates : ℕ → ℕ → Option (List Op) → Option (List Op) → Tree → ℕ → Option (List ℕ) → Option (List ℕ) → Type 0
-Generates seed count old new start status written_old written_new =
+abbrev pub Generates : Type 0 → ℕ → ℕ → Option (List Op) → Option (List Op) → Tree → ℕ → Option (List ℕ) → Option (List ℕ) → Type 0
+Generates Cause seed count old new start status written_old written_new =
     ((ended : Ended) × ComesTo do_init None old new start ended × IsNotMade ended × EndsLine (ended_text ended) (ended_status ended) status written_old written_new)
-    ⊎ ((made : Option (List Op)) × ComesTo do_init None old made start Made × Grows seed count made new start status written_old written_new)
+    ⊎ ((made : Option (List Op)) × ComesTo do_init None old made start Made × Grows Cause seed count made new start status written_old written_new)
 
 -- A run that has something to do does it; a question, and words that don't fit, change no file. Files are left over only where this
 -- cause was there.
@@ -236,7 +237,7 @@ Obeys Cause (Ok (to_answer question)) left old new start status written_old writ
 Obeys Cause (Ok to_play) left old new start status written_old written_new = new ≡ old
 Obeys Cause (Ok to_session) left old new start status written_old written_new = ⊤
 Obeys Cause (Ok (to_verify jobs)) left old new start status written_old written_new = new ≡ old
-Obeys Cause (Ok (to_generate seed count)) left old new start status written_old written_new = Generates seed count old new start status written_old written_new
+Obeys Cause (Ok (to_generate seed count)) left old new start status written_old written_new = Generates Cause seed count old new start status written_old written_new
 Obeys Cause (Err place) left old new start status written_old written_new = new ≡ old
 
 -- only a commit reads the input
@@ -252,3 +253,19 @@ KeepsInput (Ok to_session) old new faults_old faults_new = ⊤
 KeepsInput (Ok (to_verify jobs)) old new faults_old faults_new = (new ≡ old) × (faults_new ≡ faults_old)
 KeepsInput (Ok (to_generate seed count)) old new faults_old faults_new = (new ≡ old) × (faults_new ≡ faults_old)
 KeepsInput (Err place) old new faults_old faults_new = (new ≡ old) × (faults_new ≡ faults_old)
+
+-- the input was read to its end, where it is told
+abbrev pub IsAtEnd : Option (List ℕ) → Type 0
+IsAtEnd left = IfSome left (λ bytes. bytes ≡ [])
+
+-- a commit is done only where its input was read to its end
+abbrev pub IsReadBy : Job → ℕ → Option (List ℕ) → Type 0
+IsReadBy do_commit status left = status ≡ 0 → IsAtEnd left
+IsReadBy job status left = ⊤
+
+-- so is all that reads an input
+abbrev pub IsRead : Result Request ℕ → ℕ → Option (List ℕ) → Type 0
+IsRead (Ok (to_do job)) status left = IsReadBy job status left
+IsRead (Ok to_play) status left = status ≡ 0 → IsAtEnd left
+IsRead (Ok to_session) status left = status ≡ 0 → IsAtEnd left
+IsRead asked status left = ⊤

@@ -86,7 +86,7 @@ fn grow<T: Threads + Sync, F: Files, K: Sink>(
     requires some { 1 ≤ count }
     requires few { count ≤ 5000 }
     requires allows { (log : List Op) → F.allows (F.start files.old) log }
-    ensures grows { Grows seed count (F.log files.old) (F.log files.new) (F.start files.old) result (K.written out.old) (K.written out.new) }
+    ensures grows { Grows (Rose (F.faults files.old) (F.faults files.new) ⊎ Rose (F.denied files.old) (F.denied files.new)) seed count (F.log files.old) (F.log files.new) (F.start files.old) result (K.written out.old) (K.written out.new) }
     ensures fault { result ≡ 16 → Rose (F.faults files.old) (F.faults files.new) }
     ensures unfinished { result ≡ 17 → Rose (F.faults files.old) (F.faults files.new) ⊎ Rose (F.denied files.old) (F.denied files.new) }
     ensures no_input { (a b : ℕ) → result ≡ 18 → Rose a b }
@@ -116,7 +116,7 @@ pub fn run_generate<T: Threads + Sync, F: Files, K: Sink>(
     requires some { 1 ≤ count }
     requires few { count ≤ 5000 }
     requires allows { (log : List Op) → F.allows (F.start files.old) log }
-    ensures generates { Generates seed count (F.log files.old) (F.log files.new) (F.start files.old) result (K.written out.old) (K.written out.new) }
+    ensures generates { Generates (Rose (F.faults files.old) (F.faults files.new) ⊎ Rose (F.denied files.old) (F.denied files.new)) seed count (F.log files.old) (F.log files.new) (F.start files.old) result (K.written out.old) (K.written out.new) }
     ensures fault { result ≡ 16 → Rose (F.faults files.old) (F.faults files.new) }
     ensures unfinished { result ≡ 17 → Rose (F.faults files.old) (F.faults files.new) ⊎ Rose (F.denied files.old) (F.denied files.new) }
     ensures no_input { (a b : ℕ) → result ≡ 18 → Rose a b }

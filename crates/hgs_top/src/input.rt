@@ -1,8 +1,9 @@
 //! The whole of an input.
-ghost use Rattle.std.specs.Prelude.{◌≡◌, ◌≤◌, ◌+◌, take, IfOk, IfSome, IsErrOf};
+ghost use Rattle.std.specs.Prelude.{◌≡◌, ◌≤◌, ◌+◌, length, take, IfOk, IfSome, IsErrOf};
 ghost use Rattle.hgs_files.specs.Reads.{Rose};
 ghost use Rattle.hgs_files.specs.declared.streams.IoFault.TheVariants.{Failed};
 ghost use Rattle.hgs_input.specs.Record.{most_input};
+ghost use Rattle.hgs_top.specs.Orders.{IsAtEnd};
 
 use hgs_files::streams::{IoFault, Source};
 use std::alloc::Global;
@@ -16,6 +17,7 @@ const PIECE: usize = 65_536;
 /// The bytes of an input up to its end, or up to the first past the limit of a record.
 pub fn read_input<S: Source>(alloc: Global, input: &mut S) -> Result<Vec<u8>, IoFault>
     ensures read { IfOk result (λ bytes. IfSome (S.left input.old) (λ left. bytes.items ≡ take (most_input + 1) left)) }
+    ensures whole { IfOk result (λ bytes. length bytes.items ≤ most_input → IsAtEnd (S.left input.new)) }
     ensures failed { IsErrOf result Failed → Rose (S.faults input.old) (S.faults input.new) }
 {
     let mut bytes = Vec::new(alloc);

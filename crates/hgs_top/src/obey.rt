@@ -1,5 +1,5 @@
 //! Doing what a command asks for that changes files.
-ghost use Rattle.std.specs.Prelude.{◌≡◌, ◌≤◌, ◌⊎◌, ℕ, List, Option, IfOk, IfErr, false, true};
+ghost use Rattle.std.specs.Prelude.{◌≡◌, ◌≢◌, ◌≤◌, ◌⊎◌, ℕ, List, Option, IfOk, IfErr, false, true};
 ghost use Rattle.hgs_answers.specs.declared.outcome.Outcome.TheVariants.{Fault, Unfinished};
 ghost use Rattle.hgs_answers.specs.declared.outcome.Published.{Published};
 ghost use Rattle.hgs_files.specs.Files.{GoesOn};
@@ -10,7 +10,7 @@ ghost use Rattle.hgs_index.specs.MarkName.{is_mark_name};
 ghost use Rattle.hgs_machine.specs.Carry.{tree_now};
 ghost use Rattle.hgs_model.specs.Valid.{IsValid};
 ghost use Rattle.hgs_model.specs.declared.command.Command.{Command as ModelCommand};
-ghost use Rattle.hgs_top.specs.Orders.{AllowedHasCause, ComesTo, HasCause, IsAllowed, IsCommandOf, IsFit, LeavesInput, LeftHasCause, lock_text};
+ghost use Rattle.hgs_top.specs.Orders.{AllowedHasCause, ComesTo, HasCause, IsAllowed, IsAtEnd, IsCommandOf, IsFit, IsReadBy, LeavesInput, LeftHasCause, ended_status, lock_text};
 ghost use Rattle.hgs_writer.specs.Written.{IsWritten};
 ghost use Rattle.hgs_top.specs.Words.{Job, do_commit, do_mark, do_move, do_unmark, job_of};
 
@@ -41,6 +41,8 @@ fn commit_from<S: Source>(alloc: Global, input: &mut S) -> Result<Command, Ended
     ensures valid { IfOk result (λ command. IsValid command) }
     ensures command { IfOk result (λ command. IsCommandOf do_commit (S.left input.old) command) }
     ensures refused { IfErr result (λ ended. (log : Option (List Op)) (start : Tree) → ComesTo do_commit (S.left input.old) log log start ended) }
+    ensures whole { IfOk result (λ command. IsAtEnd (S.left input.new)) }
+    ensures other { IfErr result (λ ended. ended_status ended ≢ 0) }
     ensures left { IfErr result (λ ended. LeftHasCause ⊥ ended) }
     ensures cause { IfErr result (λ ended. (faults_old faults_new denied_old denied_new : ℕ) → HasCause faults_old faults_new denied_old denied_new (S.faults input.old) (S.faults input.new) ended) }
 {
@@ -156,6 +158,7 @@ fn obey_named<F: Files>(alloc: Global, files: &mut F, command: Result<Command, A
 fn commit<F: Files, S: Source>(alloc: Global, files: &mut F, input: &mut S) -> Ended
     requires { (log : List Op) → F.allows (F.start files.old) log }
     ensures comes { ComesTo do_commit (S.left input.old) (F.log files.old) (F.log files.new) (F.start files.old) result }
+    ensures whole { ended_status result ≡ 0 → IsAtEnd (S.left input.new) }
     ensures left { LeftHasCause (Rose (F.faults files.old) (F.faults files.new) ⊎ Rose (F.denied files.old) (F.denied files.new)) result }
     ensures cause { HasCause (F.faults files.old) (F.faults files.new) (F.denied files.old) (F.denied files.new) (S.faults input.old) (S.faults input.new) result }
     ensures same_start { F.start files.new ≡ F.start files.old }
@@ -178,6 +181,7 @@ pub fn do_order<F: Files, S: Source>(
     ensures comes { ComesTo (job_of order.entry) (S.left input.old) (F.log files.old) (F.log files.new) (F.start files.old) result }
     ensures left { LeftHasCause (Rose (F.faults files.old) (F.faults files.new) ⊎ Rose (F.denied files.old) (F.denied files.new)) result }
     ensures cause { HasCause (F.faults files.old) (F.faults files.new) (F.denied files.old) (F.denied files.new) (S.faults input.old) (S.faults input.new) result }
+    ensures whole { IsReadBy (job_of order.entry) (ended_status result) (S.left input.new) }
     ensures input { LeavesInput (job_of order.entry) (S.left input.old) (S.left input.new) (S.faults input.old) (S.faults input.new) }
     ensures same_start { F.start files.new ≡ F.start files.old }
 {

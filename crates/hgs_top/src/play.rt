@@ -3,6 +3,7 @@ ghost use Rattle.std.specs.Prelude.{◌≡◌, ◌∷◌, [], List};
 ghost use Rattle.hgs_files.specs.Reads.{Rose};
 ghost use Rattle.std.specs.List.{AllByRecursion};
 ghost use Rattle.hgs_schedule.specs.Schedule.{CanCome};
+ghost use Rattle.hgs_top.specs.Orders.{IsAtEnd};
 ghost use Rattle.hgs_top.specs.Play.{PlaysInput, WritesPlay};
 ghost use Rattle.hgs_top.specs.Run.{IsOneOf};
 
@@ -13,7 +14,9 @@ use crate::output::write_all;
 use crate::told::say;
 use hgs_files::streams::{IoFault, Sink, Source};
 use hgs_schedule::event::Schedule;
-use hgs_schedule::laws::{long_inputs_are_decided, read_schedules_can_be_played};
+use hgs_schedule::laws::{
+    long_inputs_are_decided, read_schedules_are_schedules, read_schedules_can_be_played,
+};
 use hgs_schedule::schedule::read_schedule;
 use hgs_world::seen::Seen;
 use hgs_world::state::World;
@@ -45,6 +48,7 @@ fn play<K: Sink>(alloc: Global, schedule: Schedule, out: &mut K) -> u8
 /// first event happens.
 pub fn run_play<S: Source, K: Sink>(alloc: Global, input: &mut S, out: &mut K) -> u8
     ensures plays { PlaysInput (S.left input.old) result (K.written out.old) (K.written out.new) }
+    ensures whole { result ≡ 0 → IsAtEnd (S.left input.new) }
     ensures failed { result ≡ 18 → Rose (S.faults input.old) (S.faults input.new) }
     ensures sink { result ≡ 19 → Rose (K.faults out.old) (K.faults out.new) }
     ensures statuses { IsOneOf (0 ∷ 14 ∷ 18 ∷ 19 ∷ 20 ∷ 30 ∷ []) result }
@@ -55,6 +59,7 @@ pub fn run_play<S: Source, K: Sink>(alloc: Global, input: &mut S, out: &mut K) -
         Err(IoFault::Memory) => return end_with(out, OUT_OF_MEMORY, 30),
     };
     read_schedules_can_be_played();
+    read_schedules_are_schedules();
     long_inputs_are_decided();
     match read_schedule(alloc, &bytes) {
         Ok(schedule) => play(alloc, schedule, out),

@@ -4,7 +4,7 @@ ghost use Rattle.std.specs.String.{string_bytes};
 ghost use Rattle.hgs_files.specs.Reads.{Rose};
 ghost use Rattle.hgs_files.specs.declared.op.Op.{Op};
 ghost use Rattle.hgs_top.specs.Given.{ReadsAsked};
-ghost use Rattle.hgs_top.specs.Orders.{KeepsInput, Obeys};
+ghost use Rattle.hgs_top.specs.Orders.{IsRead, KeepsInput, Obeys};
 ghost use Rattle.hgs_top.specs.Play.{PlaysAsked};
 ghost use Rattle.hgs_top.specs.Repository.{SaysOfRepository};
 ghost use Rattle.hgs_top.specs.Run.{Says, IsOneOf};
@@ -48,6 +48,7 @@ pub fn run_words<T: Threads + Sync, F: Files, S: Source, K: Sink, P: Progress>(
     ensures sink { result ≡ 19 → Rose (K.faults out.old) (K.faults out.new) }
     ensures orders { Obeys (Rose (F.faults files.old) (F.faults files.new) ⊎ Rose (F.denied files.old) (F.denied files.new)) (request_of_words (map string_bytes words.now)) (S.left input.old) (F.log files.old) (F.log files.new) (F.start files.old) result (K.written out.old) (K.written out.new) }
     ensures input { KeepsInput (request_of_words (map string_bytes words.now)) (S.left input.old) (S.left input.new) (S.faults input.old) (S.faults input.new) }
+    ensures whole { IsRead (request_of_words (map string_bytes words.now)) result (S.left input.new) }
     ensures plays { PlaysAsked (request_of_words (map string_bytes words.now)) (S.left input.old) result (K.written out.old) (K.written out.new) }
     ensures given { ReadsAsked (request_of_words (map string_bytes words.now)) (F.given files.old) (F.given files.new) (F.seen files.old) (F.start files.old) (F.seen files.new) }
     ensures same_start { F.start files.new ≡ F.start files.old }

@@ -31,10 +31,11 @@ use Rattle.hgs_path.specs.declared.name.Ext.TheVariants.{I, D}
 use Rattle.hgs_path.specs.ListedNames.{names_of}
 use Rattle.hgs_path.specs.StoreName.{store_name}
 use Rattle.hgs_planned.specs.Commits.{AnswersWith, CanBeRead}
-use Rattle.hgs_planned.specs.Free.{HasRoomFor, IsFree}
+use Rattle.hgs_planned.specs.Free.{HasRoomFor, IsFree, new_lines}
 use Rattle.hgs_planned.specs.Ready.{NeedsNoTest}
 use Rattle.hgs_load.specs.Answer.{is_of_outside}
 use Rattle.hgs_load.specs.declared.answer.ReadAnswer.{ReadAnswer}
+use Rattle.hgs_loading.specs.Small.{most_fncache}
 use Rattle.hgs_revlog.specs.Held.{AreWithinLimits}
 use Rattle.hgs_revlog.specs.Load.{most_data}
 use Rattle.hgs_stands.specs.Places.{changelog_data, changelog_index, fncache_path, manifest_data, manifest_index}
@@ -108,6 +109,7 @@ module _ (laws : Below) (t : Tree) (who : List ℕ) (locking : List Op) (locks :
     changelog = revlog-stays changelog_index changelog_data (history r.changesets).changelog (history next.changesets).changelog (bytes-stay changelog_index refl refl) (bytes-stay changelog_data refl refl) free.changelog;
     manifest = revlog-stays manifest_index manifest_data (history r.changesets).manifest (history next.changesets).manifest (bytes-stay manifest_index refl refl) (bytes-stay manifest_data refl refl) free.manifest;
     filelogs = λ path. revlog-stays (store_name path I) (store_name path D) ((history r.changesets).filelog path) ((history next.changesets).filelog path) (filelog-stays path I) (filelog-stays path D) (free.filelogs path);
+    list = subst (λ (b : List ℕ). length b + length (new_lines r next) ≤ most_fncache) list-stays free.list;
     files = λ path ext there none. sym (filelog-stays path ext) ∙ free.files path ext there none;
   }
 

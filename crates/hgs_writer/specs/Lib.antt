@@ -5,4 +5,5 @@ pub mod Limits
 pub mod Outcomes
 pub mod Planning
 pub mod Refusals
+pub mod Theorems
 pub mod Written

@@ -22,3 +22,8 @@ step_of-requires-clause-manifest c =
     let P : Option Growth → Type 0 = λ m. AppendsTo manifest_index l.manifest m in
     subst P (sym c.in-Ok.ensures.manifest)
     (c.requires.manifest (separate-logs l.changelog.inline l.manifest.inline (is_met c.meet_inline.new.met) c.meet_inline.ensures.inline c.in-Ok.ensures.free).1)
+
+pub returns-in-Ok-step_of-clause-separate : goal.returns-in-Ok-step_of-clause-separate
+returns-in-Ok-step_of-clause-separate c =
+    let l = c.args.loaded.now in
+    (separate-logs l.changelog.inline l.manifest.inline (is_met c.meet_inline.new.met) c.meet_inline.ensures.inline c.in-Ok.ensures.free).0

@@ -1,7 +1,7 @@
 use Rattle.std.proofs.Common.{map, sym, ◌∙◌}
 use Rattle.std.specs.String.{string_bytes}
 use Rattle.hgs_top.specs.Words.{request_of_words}
-use Rattle.hgs_run.proofs.Asked.{asked_keeps_yard, asked_makes_none, if_whole, if_whole_map, others_ask_none, others_keep_start, others_keep_yard}
+use Rattle.hgs_run.proofs.Asked.{asked_keeps_yard, asked_makes_none, asked_reads, if_whole, if_whole_map, others_ask_none, others_keep_start, others_keep_yard}
 use Rattle.hgs_run.proofs.run.run.Goals as goal
 
 pub returns-then-asks_session-clause-history : goal.returns-then-asks_session-clause-history
@@ -15,6 +15,9 @@ returns-then-asks_session-clause-session g c = λ asked. c.run_session.ensures.s
 
 pub returns-then-asks_session-clause-whole : goal.returns-then-asks_session-clause-whole
 returns-then-asks_session-clause-whole g c = asked_keeps_yard (request_of_words (map string_bytes c.args.words.now)) (sym c.asks_session.ensures ∙ c.if-asks_session.true) c.run_session.ensures.whole
+
+pub returns-then-asks_session-clause-read : goal.returns-then-asks_session-clause-read
+returns-then-asks_session-clause-read g c = asked_reads (request_of_words (map string_bytes c.args.words.now)) (sym c.asks_session.ensures ∙ c.if-asks_session.true) c.run_session.result.status (g.S.Source.left c.run_session.new.input) c.run_session.ensures.read
 
 pub returns-else-asks_session-clause-same_start : goal.returns-else-asks_session-clause-same_start
 returns-else-asks_session-clause-same_start g c =

@@ -43,7 +43,7 @@ returns-in-Ok-start-clause-comes g c =
     ∥∥₁_map c.run.ensures.comes (λ r. (
       x,
       begun c.args.script.now.workers log start (g.Y.A.Reads.faults A) (g.Y.A.Reads.denied A) (g.Y.W.Files.log w) (g.Y.W.Reads.start w) (g.Y.W.Reads.faults w) (g.Y.W.Reads.denied w) ties b c.in-Ok-start.ensures.counts,
-      comes_under x _ _ c.run.result.result
+      comes_under x _ _ _ c.run.result.result
           (λ last. left_as c.run.result.left
           (λ y f. rests_begun log start (g.Y.W.Files.log w) (g.Y.W.Reads.start w) ties b last.log (g.Y.A.Files.log (g.Y.Yard.files y)) (g.Y.A.Reads.start (g.Y.Yard.files y)) f)
           (λ e f. f))

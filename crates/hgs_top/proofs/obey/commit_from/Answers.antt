@@ -1,6 +1,7 @@
-use Rattle.std.proofs.Common.{◌≡◌, ℕ, ◌+◌, List, Ok, Err, IfSome, take, refl, sym, subst}
+use Rattle.std.proofs.Common.{◌≡◌, ◌≤◌, ℕ, ◌+◌, length, List, Ok, Err, IfSome, take, refl, sym, subst}
 use Rattle.hgs_input.specs.Record.{most_input}
 use Rattle.hgs_top.proofs.InputLemmas.{gave}
+use Rattle.hgs_top.proofs.ReadLemmas.{refused_otherwise}
 use Rattle.hgs_top.proofs.obey.commit_from.Goals as goal
 
 pub returns-in-Ok-read_commit-clause-valid : goal.returns-in-Ok-read_commit-clause-valid
@@ -25,3 +26,11 @@ returns-clause-refused g c =
       gave c.long_inputs_are_decided.ensures left c.deref.result.now (Err c.in-Err.fault) (subst P (sym c.deref.ensures.value) c.in-Ok.ensures.read) c.in-Err.ensures,
       refl,
     )
+
+pub returns-in-Ok-read_commit-clause-whole : goal.returns-in-Ok-read_commit-clause-whole
+returns-in-Ok-read_commit-clause-whole g c =
+    let is = c.read_records_are_records.ensures c.deref.result.now c.in-Ok-read_commit.change c.in-Ok-read_commit.ensures in
+    c.in-Ok.ensures.whole (subst (λ (bytes : List ℕ). length bytes ≤ most_input) c.deref.ensures.value is.size)
+
+pub returns-clause-other : goal.returns-clause-other
+returns-clause-other g c = refused_otherwise c.in-Err.fault

@@ -1,5 +1,5 @@
 use Rattle.std.specs.Prelude.{is_some}
-use Rattle.hgs_top.proofs.LeftLemmas.{left_cause}
+use Rattle.hgs_writer.specs.Theorems.LeftLemmas.{left_cause}
 use Rattle.hgs_top.proofs.obey.written.Goals as goal
 
 pub returns-clause-left : goal.returns-clause-left

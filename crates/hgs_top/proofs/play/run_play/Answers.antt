@@ -1,4 +1,4 @@
-use Rattle.std.proofs.Common.{◌≡◌, ◌+◌, inr, Ok, Err, IfSome, take, sym, subst}
+use Rattle.std.proofs.Common.{◌≡◌, ◌≤◌, ℕ, List, ◌+◌, inr, length, Ok, Err, IfSome, take, sym, subst}
 use Rattle.hgs_input.specs.Record.{most_input}
 use Rattle.hgs_input.specs.declared.fault.InputFault.TheVariants as input_faults
 use Rattle.hgs_top.proofs.InputLemmas.{gave_schedule}
@@ -22,3 +22,8 @@ returns-clause-plays g c =
     let left = g.S.Source.left c.args.input.now in
     let taken = subst (λ bytes. IfSome left (λ all. bytes ≡ take (most_input + 1) all)) (sym c.deref.ensures.value) c.in-Ok.ensures.read in
     inr (Err c.in-Err.fault, gave_schedule c.long_inputs_are_decided.ensures left c.deref.result.now (Err c.in-Err.fault) taken c.in-Err.ensures, c.say-in-Err.ensures.line)
+
+pub returns-in-Ok-read_schedule-clause-whole : goal.returns-in-Ok-read_schedule-clause-whole
+returns-in-Ok-read_schedule-clause-whole g c =
+    let is = c.read_schedules_are_schedules.ensures c.deref.result.now c.in-Ok-read_schedule.schedule c.in-Ok-read_schedule.ensures in
+    λ z. c.in-Ok.ensures.whole (subst (λ (bytes : List ℕ). length bytes ≤ most_input) c.deref.ensures.value is.size)

@@ -1,8 +1,14 @@
 use Rattle.hgs_top.proofs.EndedLemmas.{says_fault, says_unfinished, says_no_input, says_status}
+use Rattle.hgs_top.proofs.ReadLemmas.{read_said}
+use Rattle.hgs_top.specs.Orders.{ended_status}
+use Rattle.hgs_top.specs.Words.{job_of}
 use Rattle.hgs_top.proofs.told.run_order.Goals as goal
 
 pub returns-clause-does : goal.returns-clause-does
 returns-clause-does g c = (c.do_order-ended.result, c.do_order-ended.ensures.comes, c.do_order-ended.ensures.left, c.say.ensures.line)
+
+pub returns-clause-whole : goal.returns-clause-whole
+returns-clause-whole g c = read_said (job_of c.args.order) c.say.result (ended_status c.do_order-ended.result) (g.S.Source.left c.do_order-ended.new.input) c.say.ensures.statuses c.do_order-ended.ensures.whole
 
 pub returns-clause-statuses : goal.returns-clause-statuses
 returns-clause-statuses g c = says_status c.say.result c.do_order-ended.result c.say.ensures.statuses

@@ -1,13 +1,12 @@
-use Rattle.std.proofs.Common.{ℕ, Bool, false, List, ◌++◌, ◌∷◌, [], ◌∙◌, subst}
+use Rattle.std.proofs.Common.{ℕ, Bool, false, List, ◌++◌, ◌∷◌, [], ◌≡◌, sym, ◌∙◌, subst}
 use Rattle.std.proofs.Math.Logic.{∥∥₁_map}
 use Rattle.hgs_files.specs.Files.{GoesOn}
 use Rattle.hgs_files.specs.Tree.{Tree}
 use Rattle.hgs_machine.specs.Carry.{tree_now}
 use Rattle.hgs_writer.specs.Written.{IsWrittenFor}
-use Rattle.hgs_session.specs.declared.call.Call.{Call}
-use Rattle.hgs_session.specs.Calls.{IsCall, Stage, name_of, published_by, unsure_with}
+use Rattle.hgs_session.specs.Calls.{Call, IsCall, Stage, name_of, published_by, unsure_with}
 use Rattle.hgs_session.specs.Desk.{HasMade}
-use Rattle.hgs_session.proofs.CallLemmas.{made_broken, made_more}
+use Rattle.hgs_session.proofs.CallLemmas.{made_broken, made_more, stage_same}
 use Rattle.hgs_session.proofs.desk.Desk.call.Goals as goal
 
 pub returns-clause-made : goal.returns-clause-made
@@ -17,13 +16,14 @@ returns-clause-made g c =
     let w = c.write_told-answer in
     let now : Stage = record { log = g.W.Files.log c.args.self.now.leader.end; faults = g.W.Reads.faults c.args.self.now.leader.end; denied = g.W.Reads.denied c.args.self.now.leader.end } in
     let next : Stage = record { log = g.W.Files.log c.write_told-answer.new.files.end; faults = g.W.Reads.faults c.write_told-answer.new.files.end; denied = g.W.Reads.denied c.write_told-answer.new.files.end } in
-    let call : Call = record { worker = c.args.worker; job = c.args.job; answer = w.result.answer; changeset = w.result.changeset } in
+    let call : Call = record { worker = c.args.worker; job = c.args.job; answer = w.result.answer; changeset = w.result.changeset; log = g.W.Front.Told.log c.front.result } in
     let P : List ℕ → Type 0 = λ n. GoesOn now.log next.log (IsWrittenFor n c.args.command.now (tree_now now.log (g.W.Reads.start c.args.self.now.leader.end)) w.result.answer w.result.changeset) in
     let Q : Tree → Type 0 = λ t. GoesOn now.log next.log (IsWrittenFor (name_of c.args.worker c.args.job) c.args.command.now (tree_now now.log t) w.result.answer w.result.changeset) in
     let is_call : IsCall x now call next = record {
       command = c.args.command.now;
       job = c.requires.job;
       log = subst Q desk.start (subst P c.requires.name w.ensures.log);
+      behind = c.front.ensures.told;
       fault = w.ensures.fault;
       refused = w.ensures.calls;
       faults = w.ensures.later;
@@ -31,7 +31,10 @@ returns-clause-made g c =
     } in
     let M : Bool → Type 0 = λ b. ∥ HasMade x now desk.history desk.published.items desk.unsure b ∥₁ in
     let made = ∥∥₁_map (subst M c.requires.sound desk.made) (λ m. made_more x now next desk.history desk.published.items desk.unsure call m is_call) in
-    made
+    let then : Stage = record { log = g.W.Files.log c.front.new.self.end; faults = g.W.Reads.faults c.front.new.self.end; denied = g.W.Reads.denied c.front.new.self.end } in
+    let f = c.front.ensures in
+    let same : next ≡ then = stage_same next then (sym f.same_log) (sym f.same_faults) (sym f.same_denied) in
+    subst (λ (s : Stage). ∥ HasMade x s (desk.history ++ call ∷ []) (desk.published.items ++ published_by call) (unsure_with desk.unsure call) false ∥₁) same made
 
 pub invariant_of-self : goal.invariant_of-self
 invariant_of-self g c =
@@ -40,13 +43,14 @@ invariant_of-self g c =
     let w = c.write_told-answer in
     let now : Stage = record { log = g.W.Files.log c.args.self.now.leader.end; faults = g.W.Reads.faults c.args.self.now.leader.end; denied = g.W.Reads.denied c.args.self.now.leader.end } in
     let next : Stage = record { log = g.W.Files.log c.write_told-answer.new.files.end; faults = g.W.Reads.faults c.write_told-answer.new.files.end; denied = g.W.Reads.denied c.write_told-answer.new.files.end } in
-    let call : Call = record { worker = c.args.worker; job = c.args.job; answer = w.result.answer; changeset = w.result.changeset } in
+    let call : Call = record { worker = c.args.worker; job = c.args.job; answer = w.result.answer; changeset = w.result.changeset; log = g.W.Front.Told.log c.front.result } in
     let P : List ℕ → Type 0 = λ n. GoesOn now.log next.log (IsWrittenFor n c.args.command.now (tree_now now.log (g.W.Reads.start c.args.self.now.leader.end)) w.result.answer w.result.changeset) in
     let Q : Tree → Type 0 = λ t. GoesOn now.log next.log (IsWrittenFor (name_of c.args.worker c.args.job) c.args.command.now (tree_now now.log t) w.result.answer w.result.changeset) in
     let is_call : IsCall x now call next = record {
       command = c.args.command.now;
       job = c.requires.job;
       log = subst Q desk.start (subst P c.requires.name w.ensures.log);
+      behind = c.front.ensures.told;
       fault = w.ensures.fault;
       refused = w.ensures.calls;
       faults = w.ensures.later;
@@ -54,7 +58,10 @@ invariant_of-self g c =
     } in
     let M : Bool → Type 0 = λ b. ∥ HasMade x now desk.history desk.published.items desk.unsure b ∥₁ in
     let made = ∥∥₁_map (subst M c.requires.sound desk.made) (λ m. made_more x now next desk.history desk.published.items desk.unsure call m is_call) in
+    let then : Stage = record { log = g.W.Files.log c.front.new.self.end; faults = g.W.Reads.faults c.front.new.self.end; denied = g.W.Reads.denied c.front.new.self.end } in
+    let f = c.front.ensures in
+    let same : next ≡ then = stage_same next then (sym f.same_log) (sym f.same_faults) (sym f.same_denied) in
     record {
-      start = w.ensures.same_start ∙ desk.start;
-      made = ∥∥₁_map made (λ m. made_broken x next (desk.history ++ call ∷ []) desk.history (desk.published.items ++ published_by call) desk.published.items (unsure_with desk.unsure call) desk.unsure false m);
+      start = f.same_start ∙ (w.ensures.same_start ∙ desk.start);
+      made = ∥∥₁_map (subst (λ (s : Stage). ∥ HasMade x s (desk.history ++ call ∷ []) (desk.published.items ++ published_by call) (unsure_with desk.unsure call) false ∥₁) same made) (λ m. made_broken x then (desk.history ++ call ∷ []) desk.history (desk.published.items ++ published_by call) desk.published.items (unsure_with desk.unsure call) desk.unsure false m);
     }

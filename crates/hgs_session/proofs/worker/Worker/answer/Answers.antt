@@ -32,6 +32,6 @@ invariant_of-self g c =
     } in
     let items : c.push.new.self.items ≡ me.replies.items ++ a.result ∷ [] = c.in-Ok.ensures.items in
     let more : next.done ≡ suc now.done = ap length items ∙ omega (arith, length-append me.replies.items (a.result ∷ [])) in
-    let job : DoesJob x me.number me.history now a.result next = asks c.args.question.now next c.requires.job a.ensures.asked a.ensures.seen more refl (ap (λ t. t.told) a.ensures.same_ties) a.ensures.same_start a.ensures.later a.ensures.later_denied in
+    let job : DoesJob x me.number me.history now a.result next = asks c.args.question.now next c.requires.job a.ensures.asked a.ensures.seen more refl (ap (λ t. t.told) a.ensures.same_ties) a.ensures.same_start a.ensures.later a.ensures.later_denied a.ensures.statuses a.ensures.fault in
     let P : List Answered → Type 0 = λ l. HasDone x me.number me.history next l in
     record { done = ∥∥₁_map me.done (λ h. λ sound. subst P (sym items) (done_more x me.number me.history now next me.replies.items a.result (h c.requires.sound) job)) }
