@@ -184,11 +184,18 @@ ROWS = [
     *(({**ALL_INLINE, name: ALL_INLINE[name].ljust(MOST_INLINE, b"\x7f")}, [f"{name} 2 17"], 2, 1) for name in (CHANGELOG, MANIFEST)),
 ]
 
+# The most bytes of each small file.
+MOST_BYTES = (("bookmarks", 16_777_216), ("dirstate", 33_554_432), ("store/phaseroots", 67_108_864))
+
 # A store, the words, what is written, and the status.
 REFUSALS = [
     ({}, ["verify"], b"abort: not a repository\n", 24),
     ({**DRAFTS, "requires": b"dotencode\nfncache\ntreemanifest\n"}, ["verify"], b"abort: requirement treemanifest\n", 27),
     *(({**ALL_INLINE, name: ALL_INLINE[name].ljust(MOST_INLINE + 1, b"\x7f")}, ["verify"], b"abort: limit 9\n", 20) for name in (CHANGELOG, MANIFEST)),
+    # small files of one byte more than may be read
+    *(({**DRAFTS, name: b"\x7f" * (most + 1)}, ["verify"], b"abort: limit 9\n", 20) for name, most in MOST_BYTES),
+    # a text that an entry says is longer than 16 MiB
+    *((at(name, 12, b"\2"), ["verify"], b"abort: limit 4\n", 20) for name in (CHANGELOG, MANIFEST)),
     (DRAFTS, ["verify", "x"], b"abort: bad word 1\n", 28),
     (DRAFTS, ["verify", "--jobs=2"], b"abort: bad word 1\n", 28),
     (DRAFTS, ["verify", "x", "--jobs", "2"], b"abort: bad word 1\n", 28),

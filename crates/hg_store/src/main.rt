@@ -7,8 +7,6 @@
 mod command_line;
 mod files;
 mod folder;
-#[cfg(test)]
-mod gates;
 mod hints;
 mod progress;
 mod streams;

@@ -21,8 +21,8 @@ use std::alloc::Global;
 /// log that writers make and that begins so, the session is a view of the moments since the call began, none of them before
 /// what the end was told. Within the limits damage is not answered, and a fault only where one was met.
 pub fn open(alloc: Global, files: &mut HubReader<HgProtocol>) -> Result<Session, ReadAnswer>
-    requires { IsLegal (start_by files.old) (seen_by files.old) }
-    ensures legal { IsLegal (start_by files.new) (seen_by files.new) }
+    requires { ∥ IsLegal (start_by files.old) (seen_by files.old) ∥₁ }
+    ensures legal { ∥ IsLegal (start_by files.new) (seen_by files.new) ∥₁ }
     ensures view { (h : WritersLog) → h.start ≡ start_by files.old → IsPrefixOf (seen_by files.new) h.log → OpensAlong (course_of h) (seen_by files.old) (seen_by files.new) → OpensBeside h (ties_by files.old).told (seen_by files.old) (seen_by files.new) result }
     ensures same_start { start_by files.new ≡ start_by files.old }
     ensures same_ties { ties_by files.new ≡ ties_by files.old }
@@ -34,8 +34,8 @@ pub fn open(alloc: Global, files: &mut HubReader<HgProtocol>) -> Result<Session,
 
 /// Loads again what may have changed. None of the four numbers of the session is less than it was.
 pub fn refresh(session: &mut Session, files: &mut HubReader<HgProtocol>) -> Result<(), ReadAnswer>
-    requires { IsLegal (start_by files.old) (seen_by files.old) }
-    ensures legal { IsLegal (start_by files.new) (seen_by files.new) }
+    requires { ∥ IsLegal (start_by files.old) (seen_by files.old) ∥₁ }
+    ensures legal { ∥ IsLegal (start_by files.new) (seen_by files.new) ∥₁ }
     ensures view { (h : WritersLog) (began ended : List Op) (v : Numbers) → h.start ≡ start_by files.old → IsPrefixOf (seen_by files.new) h.log → OpensAlong (course_of h) (seen_by files.old) (seen_by files.new) → IsLoadedBetween (course_of h) began ended v session.old → IsPrefixOf ended (seen_by files.old) → RefreshesBeside h (ties_by files.old).told (seen_by files.old) (seen_by files.new) v session.old session.new result }
     ensures same_start { start_by files.new ≡ start_by files.old }
     ensures same_ties { ties_by files.new ≡ ties_by files.old }

@@ -1,6 +1,6 @@
 -- What is done at a tree, and then what is done at the tree that this leaves.
 use Rattle.std.proofs.Common.{◌≡◌, ◌++◌, List, ◌∙◌, ap, subst, append_assoc}
-use Rattle.std.specs.Prelude.{Option, Some, None}
+use Rattle.std.specs.Prelude.{Option, Some, None, is_some}
 use Rattle.hgs_files.specs.declared.op.Op.{Op}
 use Rattle.hgs_files.specs.Files.{GoesOn}
 use Rattle.hgs_files.specs.Tree.{Tree, after_all}
@@ -18,3 +18,8 @@ then (Some log) mid after start start_mid P Q R same f h k =
 pub as-well : (before after : Option (List Op)) (P Q : List Op → Type 0) → ((more : List Op) → P more → Q more) → GoesOn before after P → GoesOn before after Q
 as-well None after P Q f h = h
 as-well (Some old) after P Q f h = (h.0, h.1, f h.0 h.2)
+
+-- a log that is told stays told
+pub told-on : (before after : Option (List Op)) (P : List Op → Type 0) → GoesOn before after P → is_some after ≡ is_some before
+told-on None after P h = ap is_some h
+told-on (Some old) after P h = ap is_some h.1

@@ -1,5 +1,5 @@
 -- Commits that were done lead from a repository to the next, one after another.
-use Rattle.std.proofs.Common.{◌≡◌, ◌⊎◌, inl, inr, ℕ, suc, ◌+◌, ◌<◌, ◌≤◌, ◌^◌, List, [], ◌++◌, append-nil, refl, sym, ◌∙◌, ap, subst, arith}
+use Rattle.std.proofs.Common.{◌≡◌, ◌⊎◌, inl, inr, Bool, ℕ, suc, ◌+◌, ◌<◌, ◌≤◌, ◌^◌, List, [], ◌++◌, append-nil, refl, sym, ◌∙◌, ap, subst, arith}
 use Rattle.std.specs.Prelude.{Option, Some, None, Result, Ok, Err}
 use Rattle.std.specs.Option.{option_and_then}
 use Rattle.hgs_answers.specs.declared.answer.Answer.{Answer}
@@ -9,6 +9,7 @@ use Rattle.hgs_files.specs.Theorems.TreeLemmas.{after_all-append}
 use Rattle.hgs_files.specs.Reads.{Rose}
 use Rattle.hgs_gen.specs.Generated.{change_of, files_after, generated, next_number, number_after, path_of, text_of, with_text}
 use Rattle.hgs_index.specs.declared.node.Node.{Node}
+use Rattle.hgs_machine.specs.Refusals.{WereRefused}
 use Rattle.hgs_model.specs.Repo.{Repo}
 use Rattle.hgs_model.specs.Step.{Next, step}
 use Rattle.hgs_model.specs.Valid.{IsNewChange}
@@ -18,6 +19,7 @@ use Rattle.hgs_model.specs.declared.files.NewFile.{NewFile}
 use Rattle.hgs_model.specs.declared.command.Refusal.{Refusal}
 use Rattle.hgs_stands.specs.Stands.{Stands}
 use Rattle.hgs_writer.specs.Alone.{HasWhatItNeeds, IsAnswered, IsDoneAs}
+use Rattle.hgs_writer.specs.Refusals.{refusals_of}
 use Rattle.hgs_writer.specs.Written.{IsWritten}
 use Rattle.hgs_grown.specs.Grown.{AreCommitted, CommitsNext, GrowsTo, HasWhatAllNeed, StopHasCause, grown, next_repo, nothing, one_more}
 use Rattle.hgs_grown.specs.declared.commits.Stop.{Stop}
@@ -72,9 +74,17 @@ module _ (G : Type 0) (who : List ℕ) (seed count : ℕ) where
 pub rose-since : (old mid new : ℕ) → old ≤ mid → Rose mid new → Rose old new
 rose-since old mid new le h = omega (arith, le, h)
 
-pub cause-since : (stop : Stop) (a b c x y z : ℕ) → a ≤ b → x ≤ y → StopHasCause b c y z stop → StopHasCause a c x z stop
-cause-since Memory a b c x y z p q h = tt
-cause-since (Answered command answer) a b c x y z p q h = (λ e. rose-since a b c p (h.0 e), λ published e. by (h.1 published e), λ left. by (h.2 left))
+-- and calls that were refused since were refused all in all
+refused-since : (n a b c x y z : ℕ) → a ≤ b → x ≤ y → WereRefused n b c y z → WereRefused n a c x z
+refused-since n a b c x y z p q h = record { failed = h.failed; wanting = h.wanting; all = h.all; faults = omega (arith, p, h.faults); denied = omega (arith, q, h.denied) }
+
+pub cause-since : (told now : Bool) (stop : Stop) (a b c x y z : ℕ) → now ≡ told → a ≤ b → x ≤ y → StopHasCause now b c y z stop → StopHasCause told a c x z stop
+cause-since told now Memory a b c x y z same p q h = tt
+cause-since told now (Answered command answer) a b c x y z same p q h = (
+  λ e. rose-since a b c p (h.0 e),
+  λ published e. by (h.1 published e),
+  refused-since (refusals_of told answer) a b c x y z p q (subst (λ t. WereRefused (refusals_of t answer) b c y z) same h.2),
+)
   where
     by : Rose b c ⊎ Rose y z → Rose a c ⊎ Rose x z
     by (inl r) = inl (rose-since a b c p r)

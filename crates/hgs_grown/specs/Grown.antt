@@ -1,5 +1,5 @@
 -- The changesets of a generator, committed one after another.
-use Rattle.std.specs.Prelude.{◌≡◌, ◌<◌, ◌⊎◌, ℕ, zero, suc, false, List, [], ◌++◌, Option, Some, None, Result, Ok, Err, ⊤}
+use Rattle.std.specs.Prelude.{◌≡◌, ◌<◌, ◌⊎◌, ℕ, zero, suc, Bool, List, [], ◌++◌, Option, Some, None, Result, Ok, Err, ⊤}
 use Rattle.std.specs.Option.{option_and_then}
 use Rattle.hgs_answers.specs.declared.answer.Answer.{Answer}
 use Rattle.hgs_answers.specs.declared.outcome.Outcome.{Outcome}
@@ -10,6 +10,7 @@ use Rattle.hgs_files.specs.Reads.{Rose}
 use Rattle.hgs_files.specs.Tree.{Tree, after_all}
 use Rattle.hgs_gen.specs.Generated.{generated}
 use Rattle.hgs_index.specs.declared.node.Node.{Node}
+use Rattle.hgs_machine.specs.Refusals.{WereRefused}
 use Rattle.hgs_model.specs.declared.command.Command.{Command}
 use Rattle.hgs_model.specs.declared.command.Command.TheVariants.{Commit}
 use Rattle.hgs_model.specs.Repo.{Repo}
@@ -17,6 +18,7 @@ use Rattle.hgs_model.specs.Step.{Next, step}
 use Rattle.hgs_model.specs.declared.command.Refusal.{Refusal}
 use Rattle.hgs_stands.specs.Stands.{Stands}
 use Rattle.hgs_writer.specs.Alone.{HasWhatItNeeds}
+use Rattle.hgs_writer.specs.Refusals.{refusals_of}
 use Rattle.hgs_writer.specs.Written.{IsWritten}
 use Rattle.hgs_grown.specs.declared.commits.Stop.{Stop}
 use Rattle.hgs_grown.specs.declared.commits.Stop.TheVariants.{Memory, Answered}
@@ -56,12 +58,12 @@ CommitsNext who seed made (Ok next) t ops = (answer : Answer) × (rev : ℕ) × 
 CommitsNext who seed made (Err Memory) t ops = ops ≡ []
 CommitsNext who seed made (Err (Answered command answer)) t ops = (command ≡ Commit (generated seed made)) × IsWritten who command t answer ops × IsNotDone answer.outcome
 
--- a failure is answered, and a file left behind, only where a count rose
-abbrev pub StopHasCause : ℕ → ℕ → ℕ → ℕ → Stop → Type 0
-StopHasCause faults_old faults_new denied_old denied_new Memory = ⊤
-StopHasCause faults_old faults_new denied_old denied_new (Answered command answer) =
+-- a failure is answered only where a count rose, and as many calls were refused as the answer tells of
+abbrev pub StopHasCause : Bool → ℕ → ℕ → ℕ → ℕ → Stop → Type 0
+StopHasCause told faults_old faults_new denied_old denied_new Memory = ⊤
+StopHasCause told faults_old faults_new denied_old denied_new (Answered command answer) =
     (answer.outcome ≡ Fault → Rose faults_old faults_new) × ((published : Published) → answer.outcome ≡ Unfinished published → Rose faults_old faults_new ⊎ Rose denied_old denied_new)
-    × (answer.swept ≡ false → Rose faults_old faults_new ⊎ Rose denied_old denied_new)
+    × WereRefused (refusals_of told answer) faults_old faults_new denied_old denied_new
 
 -- ---- the repository
 

@@ -1,5 +1,5 @@
 //! Commits of the changesets that a number gives.
-ghost use Rattle.std.specs.Prelude.{◌≡◌, ◌≤◌, ◌<◌, ◌+◌, ◌*◌, ℕ, List, Some, Ok, IfOk, IfErr, IsOk, length};
+ghost use Rattle.std.specs.Prelude.{◌≡◌, ◌≤◌, ◌<◌, ◌+◌, ◌*◌, ℕ, List, Some, Ok, IfOk, IfErr, IsOk, is_some, length};
 ghost use Rattle.hgs_files.specs.declared.op.Op.{Op};
 ghost use Rattle.hgs_files.specs.Files.{GoesOn};
 ghost use Rattle.hgs_gen.specs.Generated.{files_after, generated, number_after};
@@ -64,7 +64,7 @@ fn commit_next<F: Files>(
     requires allows { (log : List Op) → F.allows (F.start store.old) log }
     ensures made { IfOk result (λ next. (next.0.seed ≡ growing.seed) × (next.0.generator.made ≡ growing.generator.made + 1)) }
     ensures log { GoesOn (F.log store.old) (F.log store.new) (CommitsNext who.now growing.seed growing.generator.made result (tree_now (F.log store.old) (F.start store.old))) }
-    ensures cause { IfErr result (StopHasCause (F.faults store.old) (F.faults store.new) (F.denied store.old) (F.denied store.new)) }
+    ensures cause { IfErr result (StopHasCause (is_some (F.log store.old)) (F.faults store.old) (F.faults store.new) (F.denied store.old) (F.denied store.new)) }
     ensures later { F.faults store.old ≤ F.faults store.new }
     ensures denied { F.denied store.old ≤ F.denied store.new }
     ensures same_start { F.start store.new ≡ F.start store.old }
@@ -107,7 +107,7 @@ pub fn commit_all<F: Files>(
     requires most { length who.now ≤ 255 }
     requires allows { (log : List Op) → F.allows (F.start store.old) log }
     ensures log { GoesOn (F.log store.old) (F.log store.new) (GrowsTo who.now seed count result (tree_now (F.log store.old) (F.start store.old))) }
-    ensures cause { IfErr result (StopHasCause (F.faults store.old) (F.faults store.new) (F.denied store.old) (F.denied store.new)) }
+    ensures cause { IfErr result (StopHasCause (is_some (F.log store.old)) (F.faults store.old) (F.faults store.new) (F.denied store.old) (F.denied store.new)) }
     ensures later { F.faults store.old ≤ F.faults store.new }
     ensures same_start { F.start store.new ≡ F.start store.old }
 {

@@ -194,6 +194,8 @@ module _ (b : Below) (x : Beginning) (r : Repo) (stands : Stands x.start r) (sha
     call-at = record {
       command = made.command;
       job = made.job;
+      done = made.more;
+      does = made.written;
       refusal = refusal-at stood.left stood.at_rest;
       outcome = outcome-at stood.left stood.at_rest;
       held = λ holder is none. b.held s.files made.command (name_of c.worker c.job) c.answer made.more holder none written is;

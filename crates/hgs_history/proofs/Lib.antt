@@ -8,3 +8,4 @@ pub mod Published
 pub mod Refused
 pub mod Histories
 pub mod Working
+pub mod Kept

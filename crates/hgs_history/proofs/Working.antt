@@ -26,7 +26,7 @@ job-grows x worker calls p a _ (changes command call n job place there who numbe
 job-grows x worker calls p a q (asks question _ job asked grows done place told start faults denied status fault) = grows
 
 -- so it does along the jobs
-seen-grows : (x : Beginning) (worker : ℕ) (calls : List Call) (p : Progress) (answers : List Answered) (now : Progress) → FoldsTo (DoesJob x worker calls) p answers now → Grows p.seen now.seen
+pub seen-grows : (x : Beginning) (worker : ℕ) (calls : List Call) (p : Progress) (answers : List Answered) (now : Progress) → FoldsTo (DoesJob x worker calls) p answers now → Grows p.seen now.seen
 seen-grows x worker calls p [] now does = subst (λ (q : Progress). Grows p.seen q.seen) does (grows-refl p.seen)
 seen-grows x worker calls p (a ∷ answers) now does = grows-trans p.seen does.0.seen now.seen (job-grows x worker calls p a does.0 does.1) (seen-grows x worker calls does.0 answers now does.2)
 
@@ -34,7 +34,7 @@ some-is : (a c : List Op) → Some a ≡ Some c → a ≡ c
 some-is a c e = cc
 
 -- what grows from a list that is told is told, and goes on from it
-grown : (seen : List Op) (o : Option (List Op)) → Grows (Some seen) o → (last : List Op) × (o ≡ Some last) × IsPrefixOf seen last
+pub grown : (seen : List Op) (o : Option (List Op)) → Grows (Some seen) o → (last : List Op) × (o ≡ Some last) × IsPrefixOf seen last
 grown seen o g = (seen ++ g.0, g.1, (g.0, refl))
 
 known-on : (h : WritersLog) (seen last : List Op) (v : Numbers) (o : Option View) → IsPrefixOf seen last → IfSome o (IsKnown h seen v) → IfSome o (IsKnown h last v)

@@ -3,6 +3,8 @@ use Rattle.std.specs.Prelude.{◌≡◌, ◌⊎◌, ℕ, Bool, true, false, List
 use Rattle.std.specs.List.{FoldsTo}
 use Rattle.hgs_answers.specs.declared.outcome.Outcome.{Outcome}
 use Rattle.hgs_answers.specs.declared.outcome.Outcome.TheVariants.{Abandoned, Done, LockHeld, NeedsForce, NothingChanged, UnknownRevision}
+use Rattle.hgs_files.specs.declared.op.Op.{Op}
+use Rattle.hgs_files.specs.Tree.{Tree}
 use Rattle.hgs_journal.specs.Names.{journal_path}
 use Rattle.hgs_legal.specs.LegalLog.{State, Turn, current}
 use Rattle.hgs_legal.specs.Numbers.{acknowledged_of, b_of, n_of, w_of}
@@ -15,11 +17,12 @@ use Rattle.hgs_model.specs.declared.command.Command.{Command}
 use Rattle.hgs_script.specs.declared.job.Job.{Job}
 use Rattle.hgs_script.specs.declared.job.Job.TheVariants.{Change}
 use Rattle.hgs_script.specs.declared.result.PublishedJob.{PublishedJob}
-use Rattle.hgs_session.specs.Calls.{Beginning, Call, IsCall, Stage, job_in, name_of, published_of, unsure_of}
+use Rattle.hgs_session.specs.Calls.{Beginning, Call, IsCall, Makes, Stage, job_in, name_of, published_of, unsure_of}
 use Rattle.hgs_stands.specs.Stands.{Stands}
 use Rattle.hgs_pieces.specs.Made.{HasNoLocks}
 use Rattle.hgs_writer.specs.Alone.{HasWhatItNeeds, IsBarred, IsOutcomeOf, ReadsWithin}
 use Rattle.hgs_writer.specs.Limits.{LoadsWithin}
+use Rattle.hgs_writer.specs.Written.{IsWrittenFor}
 
 -- ---- transactions of jobs
 
@@ -80,10 +83,12 @@ IsRefusedBy stepped outcome = Unit {0}
 
 -- A call from this state of the log, for the command of its job. A refusal of that is the one of the repository there. Within the limits
 -- it comes to what that makes of the command, or a journal stands and bars it. A lock is held only where one stands, and
--- a transaction is abandoned only where a journal stands.
+-- a transaction is abandoned only where a journal stands. Every other answer has the cause in these files that a call has which is alone.
 pub record IsMadeAt (jobs : List (List Job)) (c : Call) (s : State) : Type 0 where
   pub command : Command
   pub job : job_in jobs c.worker c.job ≡ Some (Change command)
+  pub done : List Op
+  pub does : IsWrittenFor (name_of c.worker c.job) command s.files c.answer c.changeset done
   pub refusal : IsRefusedBy (step (current s) command) c.answer.outcome
   pub outcome : LoadsWithin s.files (current s) → ReadsWithin s.files (current s) command → IsOutcomeOf s.files (current s) command (step (current s) command) c.answer.outcome ⊎ ((s.files journal_path ≡ None → ⊥) × IsBarred c.answer.outcome)
   pub held : (holder : Option (List ℕ)) → c.answer.outcome ≡ LockHeld holder → HasNoLocks s.files → ⊥
@@ -102,3 +107,8 @@ abbrev pub HaveWhatTheyNeed : (x : Beginning) (old : Stage) (calls : List Call) 
 HaveWhatTheyNeed x old calls last makes =
     (front back : List Call) (c : Call) (now : Repo) (command : Command) → calls ≡ front ++ c ∷ back → job_in x.jobs c.worker c.job ≡ Some (Change command)
     → Stands (tree_now (stage_behind x old calls last makes front).log x.start) now → HasWhatItNeeds (tree_now (stage_behind x old calls last makes front).log x.start) now command
+
+-- So it is whatever calls the jobs make from this tree.
+abbrev pub AlwaysHaveWhatTheyNeed : List (List Job) → Tree → Type 0
+AlwaysHaveWhatTheyNeed jobs start =
+    (x : Beginning) (calls : List Call) (last : Stage) (makes : Makes x calls last) → x.jobs ≡ jobs → x.start ≡ start → x.first.log ≡ Some [] → HaveWhatTheyNeed x x.first calls last makes

@@ -1,3 +1,4 @@
 pub mod History
 pub mod Once
 pub mod Workers
+pub mod Kept

@@ -5,9 +5,10 @@ ghost use Rattle.std.specs.List.{AllByRecursion, FoldsTo};
 ghost use Rattle.hgs_asked.specs.Beside.{AreNoOlder};
 ghost use Rattle.hgs_bytes.specs.Bytes.{IsPrefixOf};
 ghost use Rattle.hgs_files.specs.Reads.{greatest};
+ghost use Rattle.hgs_files.specs.Tree.{Tree, after_all};
 ghost use Rattle.hgs_files.specs.declared.op.Op.{Op};
 ghost use Rattle.hgs_headline.specs.WritersLog.{WritersLog, course_of, state_after};
-ghost use Rattle.hgs_legal.specs.LegalLog.{Turn};
+ghost use Rattle.hgs_legal.specs.LegalLog.{IsLegal, Turn};
 ghost use Rattle.hgs_model.specs.Repo.{Repo};
 ghost use Rattle.hgs_script.specs.Script.{IsShare};
 ghost use Rattle.hgs_script.specs.declared.job.Job.{Job};
@@ -15,12 +16,13 @@ ghost use Rattle.hgs_script.specs.declared.result.PublishedJob.{PublishedJob};
 ghost use Rattle.hgs_session.specs.Calls.{Beginning, Call, IsCall, Makes, Stage, published_of, unsure_of};
 ghost use Rattle.hgs_stands.specs.Stands.{Stands};
 ghost use Rattle.hgs_session.specs.Jobs.{DoesJob, IsFresh, Progress};
-ghost use Rattle.hgs_session.specs.Session.{AreCounted, EndState, IsSession};
+ghost use Rattle.hgs_session.specs.Session.{AreCounted, EndState, IsSession, MayRun};
 ghost use Rattle.hgs_script.specs.declared.result.SessionResult.{SessionResult};
 ghost use Rattle.hgs_script.specs.declared.result.Answered.{Answered};
 ghost use Rattle.hgs_views.specs.Course.{OpensAlong, ReadsAlong};
 ghost use Rattle.hgs_views.specs.Seen.{Numbers};
-ghost use Rattle.hgs_history.specs.History.{ArePublished, HaveWhatTheyNeed, IsBehind, IsMadeAt, is_last_done, stage_behind};
+ghost use Rattle.hgs_history.specs.History.{AlwaysHaveWhatTheyNeed, ArePublished, HaveWhatTheyNeed, IsBehind, IsMadeAt, is_last_done, stage_behind};
+ghost use Rattle.hgs_history.specs.Kept.{KeepsHistory};
 ghost use Rattle.hgs_history.specs.Once.{AreCallsFrom, IsCleanAt, IsListed, IsUnharmed, calls_by, how_many, one_if_failed, one_if_faulted};
 ghost use Rattle.hgs_history.specs.Workers.{GoesBeside, Knows};
 
@@ -37,8 +39,9 @@ use hgs_writer::laws::{calls_clean_up, calls_come_to_steps, calls_leave_what_the
 /// changeset that is listed; and behind them at most that of the job of which it is not known. So it is of each front of the
 /// calls, and of the log that they led to, which is a front of the whole; where the last of them is done, its bookmarks and
 /// working parents are as new as its changesets there, and all of it is acknowledged. A call that is refused as its command is,
-/// is refused as the repository refuses that behind the calls before it; and within the limits each call comes to what that
-/// repository makes of its command, or is barred by a journal that stands.
+/// is refused as the repository refuses that behind the calls before it; within the limits each call comes to what that
+/// repository makes of its command, or is barred by a journal that stands; and each call answers what one does that is alone with
+/// the files there.
 pub fn sessions_publish_what_they_list()
     ensures { (x : Beginning) (r : Repo) (calls : List Call) (last : Stage) (makes : Makes x calls last) → Stands x.start r → x.first.log ≡ Some [] → AllByRecursion IsShare x.jobs → HaveWhatTheyNeed x x.first calls last makes →
         (h : WritersLog) × (h.start ≡ x.start) × (h.first ≡ r) × (last.log ≡ Some h.log) × ArePublished x.jobs (published_of calls) (unsure_of calls) h.last.published ×
@@ -53,6 +56,15 @@ pub fn sessions_publish_what_they_list()
     calls_leave_what_they_answer();
     calls_come_to_steps();
     calls_clean_up();
+}
+
+/// So that log is legal. Where the files have what commits need, a writing end that takes each list of which it is known that it is
+/// legal takes whatever a session may leave.
+pub fn sessions_make_legal_logs()
+    ensures legal { (x : Beginning) (calls : List Call) (last : Stage) (log : List Op) (makes : Makes x calls last) → x.first.log ≡ Some [] → AllByRecursion IsShare x.jobs → HaveWhatTheyNeed x x.first calls last makes → last.log ≡ Some log → IsLegal x.start log }
+    ensures taken { (jobs : List (List Job)) (old : List Op) (start : Tree) → AllByRecursion IsShare jobs → AlwaysHaveWhatTheyNeed jobs (after_all old start) → MayRun jobs (Some old) start (λ t log. ∥ IsLegal t log ∥₁) }
+{
+    sessions_publish_what_they_list();
 }
 
 /// A worker that has done nothing knows its end's start, where the list of the writing end is told from there.
@@ -112,6 +124,18 @@ pub fn workers_never_fall_back()
         (w : Numbers) × FoldsTo (GoesBeside h x.jobs worker) (p, v) answers (now, w) }
 {
     questions_beside_writers();
+}
+
+/// All of this together of a session that has a result, over files that stood for a repository and have what its commits need.
+pub fn sessions_keep_their_history()
+    ensures { (x : Beginning) (r : Repo) (calls : List Call) (last : Stage) (states : List EndState) (result : SessionResult) (makes : Makes x calls last) → IsSession x calls last states result → Stands x.start r → x.first.log ≡ Some [] → AllByRecursion IsShare x.jobs → HaveWhatTheyNeed x x.first calls last makes → KeepsHistory x r calls last result }
+{
+    sessions_publish_what_they_list();
+    sessions_make_legal_logs();
+    results_list_what_is_published();
+    sessions_do_each_job_once();
+    fresh_workers_know_nothing();
+    workers_never_fall_back();
 }
 
 /// A view that is no older than the log behind some calls has at least as many changesets and phases as these calls list; and where

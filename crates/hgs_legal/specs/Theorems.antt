@@ -4,3 +4,4 @@ pub mod TreeFacts
 pub mod Runs
 pub mod Prefixes
 pub mod StopLemmas
+pub mod Protocol

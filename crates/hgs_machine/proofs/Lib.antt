@@ -13,3 +13,4 @@ pub mod Plans
 pub mod Stopping
 pub mod Going
 pub mod Counting
+pub mod Allowed

@@ -35,7 +35,7 @@ piece-whole (Remove path) = (refl, refl)
 piece-whole (Sync path) = (refl, refl)
 piece-whole Settle = (refl, refl)
 
-done-whole : (op : Op) (more : List Op) → more ≡ op ∷ [] → IsDone (op ∷ []) more []
+pub done-whole : (op : Op) (more : List Op) → more ≡ op ∷ [] → IsDone (op ∷ []) more []
 done-whole op more e = subst (λ (l : List Op). IsDone (op ∷ []) l []) (sym e) ([], ([], piece-whole op, refl), refl)
 
 pub done-none : (ops more : List Op) → more ≡ [] → IsDone ops more ops

@@ -1,8 +1,10 @@
 -- Carrying a plan out over files.
 use Rattle.std.specs.Prelude.{◌≡◌, ◌⊎◌, ℕ, ◌≤◌, List, [], ◌++◌, Bool, false, Option, Some, None, Result, Ok, Err}
+use Rattle.std.specs.Option.{ForSome}
 use Rattle.hgs_files.specs.declared.files.FileFault.{FileFault}
 use Rattle.hgs_files.specs.declared.files.FileFault.TheVariants.{Failed as CallFailed, Memory as NoMemory}
 use Rattle.hgs_files.specs.declared.op.Op.{Op}
+use Rattle.hgs_files.specs.Files.{MayDo}
 use Rattle.hgs_files.specs.Reads.{Rises, Rose}
 use Rattle.hgs_files.specs.Tree.{Tree, after_all}
 use Rattle.hgs_machine.specs.declared.ended.Short.{Short}
@@ -10,7 +12,9 @@ use Rattle.hgs_machine.specs.declared.ended.Short.TheVariants.{Done as AllDone, 
 use Rattle.hgs_machine.specs.declared.machine.Machine.{Machine}
 use Rattle.hgs_machine.specs.declared.machine.Reply.{Reply}
 use Rattle.hgs_machine.specs.declared.machine.Reply.TheVariants.{Done, Failed, Memory, Size, SizeFailed, SizeMemory}
-use Rattle.hgs_machine.specs.Asked.{Question}
+use Rattle.hgs_transaction.specs.declared.assemble.Plan.{Plan}
+use Rattle.hgs_machine.specs.Asked.{Doing, Question}
+use Rattle.hgs_machine.specs.Course.{CarriedOut}
 use Rattle.hgs_machine.specs.SoFar.{Replies, SoFar}
 
 -- what became of an operation
@@ -50,6 +54,15 @@ CountsReply faults_old faults_new denied_old denied_new (Some reply) = Counted f
 -- What was done more is the next step of the machine, from whatever tree it began at that has become the tree now.
 abbrev pub IsStep : Tree → Machine → Machine → List Op → Type 0
 IsStep now old new more = (t : Tree) (done : List Op) → after_all done t ≡ now → SoFar t old done → SoFar t new (done ++ more)
+
+-- the files take what a machine asks for
+abbrev pub MayAsk : Option (List Op) → (List Op → Type 0) → Question → Type 0
+MayAsk log allows (Doing op) = MayDo log allows op
+MayAsk log allows question = Unit {0}
+
+-- The files take whatever a plan leaves that is carried out from the tree now, also where it breaks off.
+abbrev pub MayCarry : Option (List Op) → (List Op → Type 0) → Tree → Plan → Type 0
+MayCarry log allows start plan = ForSome log (λ l. (outcome : Short) (swept : Bool) (more : List Op) → CarriedOut (after_all l start) plan outcome swept more → allows (l ++ more))
 
 -- A machine began at some tree that has become this one.
 pub record IsUnderWay (now : Tree) (m : Machine) : Type 0 where

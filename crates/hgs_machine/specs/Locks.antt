@@ -1,5 +1,6 @@
 -- The two locks of a writer.
 use Rattle.std.specs.Prelude.{◌≡◌, ◌⊎◌, ℕ, ◌≤◌, List, [], ◌∷◌, ◌++◌, take, Bool, true, false, Option, Some, None, Result, Ok, Err, IfSome, IsSome}
+use Rattle.std.specs.Option.{ForSome}
 use Rattle.hgs_files.specs.declared.op.Op.{Op}
 use Rattle.hgs_files.specs.declared.op.Op.TheVariants.{Create, Remove}
 use Rattle.hgs_files.specs.Log.{IsDone}
@@ -66,6 +67,14 @@ pub record AreLocked (who : List ℕ) (t : Tree) (done : List Op) : Type 0 where
 abbrev pub TakesLocks : {T : Type 0} → List ℕ → Tree → Result T NotLocked → List Op → Type 0
 TakesLocks who t (Ok x) done = AreLocked who t done
 TakesLocks who t (Err refusal) done = IsTurnedAway who t refusal.why refusal.swept done
+
+-- the files take whatever taking the locks leaves from the tree now
+abbrev pub MayLock : List ℕ → Option (List Op) → (List Op → Type 0) → Tree → Type 0
+MayLock who log allows start = ForSome log (λ l. (result : Result Unit NotLocked) (more : List Op) → TakesLocks who (after_all l start) result more → allows (l ++ more))
+
+-- they take whatever removing both leaves
+abbrev pub MayRelease : Option (List Op) → (List Op → Type 0) → Type 0
+MayRelease log allows = ForSome log (λ l. (swept : Bool) (more : List Op) → AreRemoved lock_removals swept more → allows (l ++ more))
 
 -- a fault comes only where the count rose
 abbrev pub IsWhy : ℕ → ℕ → LockRefusal → Type 0

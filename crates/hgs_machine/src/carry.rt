@@ -6,7 +6,7 @@ ghost use Rattle.hgs_files.specs.Files.{GoesOn, MayDo};
 ghost use Rattle.hgs_files.specs.Reads.{Counts};
 ghost use Rattle.hgs_files.specs.Tree.{after_all};
 ghost use Rattle.hgs_machine.specs.Asked.{Ending, asked};
-ghost use Rattle.hgs_machine.specs.Carry.{CountsReply, IsCausedSince, IsReplied, IsStep, IsUnderWay, reply_of, size_reply_of, tree_now};
+ghost use Rattle.hgs_machine.specs.Carry.{CountsReply, IsCausedSince, IsReplied, IsStep, IsUnderWay, MayAsk, MayCarry, reply_of, size_reply_of, tree_now};
 ghost use Rattle.hgs_machine.specs.Course.{CarriedOut};
 ghost use Rattle.hgs_machine.specs.Planned.{HasSource, IsPlanned};
 ghost use Rattle.hgs_machine.specs.Refusals.{WereRefused, refusals_of_ended, refusals_so_far};
@@ -40,7 +40,7 @@ fn size_reply_of(outcome: Result<Option<u64>, FileFault>) -> Reply
 
 /// Does an operation.
 pub fn do_op<F: Files>(files: &mut F, op: &Op) -> Result<(), FileFault>
-    requires allowed { (log : List Op) → F.allows (F.start files.old) log }
+    requires allowed { MayDo (F.log files.old) (F.allows (F.start files.old)) op.now }
     requires source { ForSome (F.log files.old) (λ log. HasSource op.now (after_all log (F.start files.old))) }
     ensures done { GoesOn (F.log files.old) (F.log files.new) (Leaves op.now (reply_of result)) }
     ensures same_start { F.start files.new ≡ F.start files.old }
@@ -59,7 +59,7 @@ pub fn do_op<F: Files>(files: &mut F, op: &Op) -> Result<(), FileFault>
 
 /// Makes the call that a machine asks for; none where it asks for nothing more.
 fn call<F: Files>(files: &mut F, machine: &Machine) -> Option<Reply>
-    requires allowed { (log : List Op) → F.allows (F.start files.old) log }
+    requires allowed { MayAsk (F.log files.old) (F.allows (F.start files.old)) (asked machine.now) }
     requires under_way { ForSome (F.log files.old) (λ log. IsUnderWay (after_all log (F.start files.old)) machine.now) }
     ensures fits { IfSome result (Fits (asked machine.now)) }
     ensures ended { result ≡ None → asked machine.now ≡ Ending }
@@ -76,7 +76,7 @@ fn call<F: Files>(files: &mut F, machine: &Machine) -> Option<Reply>
 
 /// Makes the call that a machine asks for, and tells it what became of it. False where it asks for nothing more.
 fn step<F: Files>(files: &mut F, machine: &mut Machine) -> bool
-    requires allowed { (log : List Op) → F.allows (F.start files.old) log }
+    requires allowed { MayAsk (F.log files.old) (F.allows (F.start files.old)) (asked machine.old) }
     requires under_way { ForSome (F.log files.old) (λ log. IsUnderWay (after_all log (F.start files.old)) machine.old) }
     ensures log { GoesOn (F.log files.old) (F.log files.new) (IsStep (tree_now (F.log files.old) (F.start files.old)) machine.old machine.new) }
     ensures ended { result ≡ false → asked machine.new ≡ Ending }
@@ -97,9 +97,10 @@ fn step<F: Files>(files: &mut F, machine: &mut Machine) -> bool
 
 /// Carries a plan out. Where an operation fails, or finds no memory, before the transaction is published, it is taken back.
 ///
-/// No file but the plan's is touched, and no memory is taken beside that of the files.
+/// No file but the plan's is touched, and no memory is taken beside that of the files. The files need take no more than carrying the
+/// plan out may leave, wherever it breaks off.
 pub fn carry_out<F: Files>(files: &mut F, plan: Plan) -> Ended
-    requires allowed { (log : List Op) → F.allows (F.start files.old) log }
+    requires allowed { MayCarry (F.log files.old) (F.allows (F.start files.old)) (F.start files.old) plan }
     requires planned { ForSome (F.log files.old) (λ log. IsPlanned (after_all log (F.start files.old)) plan) }
     ensures log { GoesOn (F.log files.old) (F.log files.new) (CarriedOut (tree_now (F.log files.old) (F.start files.old)) plan result.outcome result.swept) }
     ensures same_start { F.start files.new ≡ F.start files.old }

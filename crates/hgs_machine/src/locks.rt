@@ -1,13 +1,13 @@
 //! The two locks of a writer.
-ghost use Rattle.std.specs.Prelude.{◌≡◌, ◌∷◌, [], ℕ, List, None, IfSome, IfOk, IfErr, IsSome, is_some};
+ghost use Rattle.std.specs.Prelude.{◌≡◌, ◌∷◌, [], ℕ, None, IfSome, IfOk, IfErr, IsSome, is_some};
 ghost use Rattle.hgs_files.specs.declared.op.Op.{Op};
-ghost use Rattle.hgs_files.specs.Files.{GoesOn};
+ghost use Rattle.hgs_files.specs.Files.{GoesOn, MayCreate, MayDo};
 ghost use Rattle.hgs_files.specs.Tree.{after_all};
 ghost use Rattle.hgs_journal.specs.Names.{journal_path};
 ghost use Rattle.hgs_ops.specs.Operations.{lock_path, wlock_path};
 ghost use Rattle.hgs_machine.specs.Carry.{tree_now};
 ghost use Rattle.hgs_machine.specs.Course.{lock_removals};
-ghost use Rattle.hgs_machine.specs.Locks.{AreRemoved, CausesLeft, CausesNotLocked, CausesRefusal, IsFrontOf, Looks, Makes, NeverFall, TakesLocks};
+ghost use Rattle.hgs_machine.specs.Locks.{AreRemoved, CausesLeft, CausesNotLocked, CausesRefusal, IsFrontOf, Looks, Makes, MayLock, MayRelease, NeverFall, TakesLocks};
 ghost use Rattle.hgs_machine.specs.Refusals.{WereRefused, refusals_of_lock, refusals_of_locks};
 
 use hgs_bytes::bytes::Bytes;
@@ -69,7 +69,7 @@ fn make<F: Files>(
     path: &StorePath,
     who: &[u8],
 ) -> Result<(), LockRefusal>
-    requires { (log : List Op) → F.allows (F.start files.old) log }
+    requires { MayCreate (F.log files.old) (F.allows (F.start files.old)) (F.start files.old) path.now who.now }
     ensures log { GoesOn (F.log files.old) (F.log files.new) (Makes path.now who.now (tree_now (F.log files.old) (F.start files.old)) result) }
     ensures same_start { F.start files.new ≡ F.start files.old }
     ensures counts { NeverFall (F.faults files.old) (F.faults files.new) (F.denied files.old) (F.denied files.new) }
@@ -86,7 +86,7 @@ fn make<F: Files>(
 
 /// Removes a file, and answers whether it is removed.
 fn remove<F: Files>(files: &mut F, path: &StorePath) -> bool
-    requires { (log : List Op) → F.allows (F.start files.old) log }
+    requires { MayDo (F.log files.old) (F.allows (F.start files.old)) (Op.Remove path.now) }
     ensures log { GoesOn (F.log files.old) (F.log files.new) (AreRemoved (Op.Remove path.now ∷ []) result) }
     ensures same_start { F.start files.new ≡ F.start files.old }
     ensures counts { NeverFall (F.faults files.old) (F.faults files.new) (F.denied files.old) (F.denied files.new) }
@@ -122,7 +122,7 @@ impl Locks {
 
     /// Removes both locks, and answers whether they are removed. Takes no memory beside that of the files.
     pub fn release<F: Files>(&self, files: &mut F) -> bool
-        requires { (log : List Op) → F.allows (F.start files.old) log }
+        requires { MayRelease (F.log files.old) (F.allows (F.start files.old)) }
         ensures log { GoesOn (F.log files.old) (F.log files.new) (AreRemoved lock_removals result) }
         ensures same_start { F.start files.new ≡ F.start files.old }
         ensures counts { NeverFall (F.faults files.old) (F.faults files.new) (F.denied files.old) (F.denied files.new) }
@@ -135,7 +135,7 @@ impl Locks {
 
     /// Takes both locks where no journal stands.
     fn take<F: Files>(&self, alloc: Global, files: &mut F, who: &[u8]) -> Result<(), NotLocked>
-        requires { (log : List Op) → F.allows (F.start files.old) log }
+        requires { MayLock who.now (F.log files.old) (F.allows (F.start files.old)) (F.start files.old) }
         ensures log { GoesOn (F.log files.old) (F.log files.new) (TakesLocks who.now (tree_now (F.log files.old) (F.start files.old)) result) }
         ensures same_start { F.start files.new ≡ F.start files.old }
         ensures counts { NeverFall (F.faults files.old) (F.faults files.new) (F.denied files.old) (F.denied files.new) }
@@ -158,9 +158,9 @@ impl Locks {
 }
 
 /// Takes both locks: makes `wlock` and then the store's, each with these bytes, and then looks for a journal. Where one of
-/// these is refused, the locks that this call made are removed again, and no other.
+/// these is refused, the locks that this call made are removed again, and no other. The files need take no more than what this may leave.
 pub fn take_locks<F: Files>(alloc: Global, files: &mut F, who: &[u8]) -> Result<Locks, NotLocked>
-    requires { (log : List Op) → F.allows (F.start files.old) log }
+    requires allowed { MayLock who.now (F.log files.old) (F.allows (F.start files.old)) (F.start files.old) }
     ensures log { GoesOn (F.log files.old) (F.log files.new) (TakesLocks who.now (tree_now (F.log files.old) (F.start files.old)) result) }
     ensures same_start { F.start files.new ≡ F.start files.old }
     ensures counts { NeverFall (F.faults files.old) (F.faults files.new) (F.denied files.old) (F.denied files.new) }

@@ -71,7 +71,7 @@ abbrev pub KeepsStart : Result Request ℕ → Tree → Tree → Type 0
 KeepsStart (Ok to_session) old new = ⊤
 KeepsStart asked old new = new ≡ old
 
--- the yard is left whole, by a session at least where all went well
+-- the yard is left whole, by a session unless it says that there was no memory
 abbrev pub KeepsYard : Result Request ℕ → ℕ → Type 0 → Type 0
-KeepsYard (Ok to_session) status Whole = status ≡ 0 → Whole
+KeepsYard (Ok to_session) status Whole = (status ≡ 30 → ⊥) → Whole
 KeepsYard asked status Whole = Whole

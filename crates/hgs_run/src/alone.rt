@@ -3,6 +3,7 @@ ghost use Rattle.std.specs.Prelude.{◌≡◌, ◌⊎◌, Err, map, ℕ, [], ◌
 ghost use Rattle.std.specs.String.{string_bytes};
 ghost use Rattle.hgs_files.specs.Reads.{Rose};
 ghost use Rattle.hgs_files.specs.Yard.{IfWhole};
+ghost use Rattle.hgs_machine.specs.Refusals.{WereRefused};
 ghost use Rattle.hgs_session.specs.Session.{IsWhole};
 ghost use Rattle.hgs_top.specs.Given.{ReadsAsked};
 ghost use Rattle.hgs_top.specs.Histories.{MakesHistory};
@@ -43,7 +44,7 @@ pub fn run_alone<T: Threads + Sync, Y: Yard, S: Source, K: Sink, P: Progress>(
     ensures unfinished { result.status ≡ 17 → IfWhole result.left (λ y. Rose (Y.A.faults (Y.files yard)) (Y.A.faults (Y.files y)) ⊎ Rose (Y.A.denied (Y.files yard)) (Y.A.denied (Y.files y))) }
     ensures failed { result.status ≡ 18 → Rose (S.faults input.old) (S.faults input.new) }
     ensures sink { result.status ≡ 19 → Rose (K.faults out.old) (K.faults out.new) }
-    ensures orders { IfWhole result.left (λ y. Obeys (Rose (Y.A.faults (Y.files yard)) (Y.A.faults (Y.files y)) ⊎ Rose (Y.A.denied (Y.files yard)) (Y.A.denied (Y.files y))) (request_of_words (map string_bytes words.now)) (S.left input.old) (Y.A.log (Y.files yard)) (Y.A.log (Y.files y)) (Y.A.start (Y.files yard)) result.status (K.written out.old) (K.written out.new)) }
+    ensures orders { IfWhole result.left (λ y. Obeys (λ n. WereRefused n (Y.A.faults (Y.files yard)) (Y.A.faults (Y.files y)) (Y.A.denied (Y.files yard)) (Y.A.denied (Y.files y))) (request_of_words (map string_bytes words.now)) (S.left input.old) (Y.A.log (Y.files yard)) (Y.A.log (Y.files y)) (Y.A.start (Y.files yard)) result.status (K.written out.old) (K.written out.new)) }
     ensures history { IfWhole result.left (λ y. MakesHistory (map string_bytes words.now) (S.left input.old) (Y.A.log (Y.files yard)) (Y.A.log (Y.files y)) (Y.A.start (Y.files yard))) }
     ensures given { IfWhole result.left (λ y. ReadsAsked (request_of_words (map string_bytes words.now)) (Y.A.given (Y.files yard)) (Y.A.given (Y.files y)) (Y.A.seen (Y.files yard)) (Y.A.start (Y.files yard)) (Y.A.seen (Y.files y))) }
     ensures same_start { IfWhole result.left (λ y. Y.A.start (Y.files y) ≡ Y.A.start (Y.files yard)) }

@@ -1,16 +1,15 @@
 //! A session whose script stands on the input.
-ghost use Rattle.std.specs.Prelude.{◌≡◌, ◌≤◌, ⊤, [], ◌∷◌, Err, List};
+ghost use Rattle.std.specs.Prelude.{◌≡◌, ◌≤◌, ⊤, [], ◌∷◌, Err};
 ghost use Rattle.hgs_bytes.specs.Answer.{Gives};
 ghost use Rattle.hgs_files.specs.Reads.{Rose};
-ghost use Rattle.hgs_files.specs.Tree.{Tree};
 ghost use Rattle.hgs_files.specs.Yard.{IfWhole};
-ghost use Rattle.hgs_files.specs.declared.op.Op.{Op};
 ghost use Rattle.hgs_load.specs.Answer.{is_of_outside};
 ghost use Rattle.hgs_load.specs.declared.answer.ReadAnswer.TheVariants.{Fault};
 ghost use Rattle.hgs_loading.specs.Found.{required_in};
 ghost use Rattle.hgs_run.specs.Session.{RunsScript, RunsSession, Stays, TellsSession};
 ghost use Rattle.hgs_script.specs.Script.{CanBeRun};
-ghost use Rattle.hgs_session.specs.Session.{AreCounted, IsWhole, LeftAs, RestsOn};
+ghost use Rattle.hgs_script.specs.declared.script.Script.{Script};
+ghost use Rattle.hgs_session.specs.Session.{AreCounted, AreOfOneStart, IfParts, IsWhole, LeftAs, MayRun, RestsOn};
 ghost use Rattle.hgs_top.specs.Orders.{IsAtEnd};
 ghost use Rattle.hgs_top.specs.Run.{IsOneOf, OfTree};
 
@@ -59,6 +58,20 @@ fn tell<K: Sink>(alloc: Global, told: &Result<SessionResult, NoResult>, out: &mu
     }
 }
 
+// The status of a script that was run: where the ends could not be put together, that there was no memory.
+fn status_with<Y: Yard>(left: &Left<Y>, told: u8) -> u8
+    ensures whole { (result ≡ 30 → ⊥) → IsWhole left.now }
+    ensures same { IsWhole left.now → result ≡ told }
+    ensures parts { (IsWhole left.now → ⊥) → result ≡ 30 }
+    ensures sink { result ≡ 19 → told ≡ 19 }
+    ensures statuses { IsOneOf (0 ∷ 19 ∷ 30 ∷ []) told → IsOneOf (0 ∷ 19 ∷ 30 ∷ []) result }
+{
+    match left {
+        Left::Whole(_) => told,
+        Left::Parts(_, _) => 30,
+    }
+}
+
 // Runs a script, and says what it came to.
 fn run_script<T: Threads + Wait + Sync, Y: Yard, K: Sink>(
     rt: &T,
@@ -71,14 +84,16 @@ where
     Y::W: Send,
     Y::R: Drop + Send,
     requires can { CanBeRun script.now }
-    requires allows { (start : Tree) (log : List Op) → Y.W.allows start log }
+    requires allows { MayRun script.now.workers (Y.A.log (Y.files yard)) (Y.A.start (Y.files yard)) Y.W.allows }
     ensures runs { ∥ RunsScript script.now.workers (Y.A.log (Y.files yard)) (Y.A.start (Y.files yard)) (Y.A.faults (Y.files yard)) (Y.A.denied (Y.files yard)) result.status (K.written out.old) (K.written out.new) (λ last. LeftAs result.left (λ y. RestsOn (Y.A.log (Y.files yard)) (Y.A.start (Y.files yard)) last.log (Y.A.log (Y.files y)) (Y.A.start (Y.files y))) (λ w. Y.W.log w ≡ last.log)) (λ last states. LeftAs result.left (λ y. AreCounted last states (Y.A.faults (Y.files y)) (Y.A.denied (Y.files y))) (λ w. ⊤)) (IsWhole result.left) ∥₁ }
+    ensures parts { IfParts result.left (λ w rs. AreOfOneStart (Y.A.log (Y.files yard)) (Y.A.start (Y.files yard)) (Y.W.ties w) (λ r. Y.R.ties r) rs) }
     ensures sink { result.status ≡ 19 → Rose (K.faults out.old) (K.faults out.new) }
     ensures statuses { IsOneOf (0 ∷ 19 ∷ 30 ∷ []) result.status }
-    ensures whole { result.status ≡ 0 → IsWhole result.left }
+    ensures whole { (result.status ≡ 30 → ⊥) → IsWhole result.left }
 {
     let SessionEnd { left, result } = session(rt, alloc, yard, script, &OpenGate);
-    let status = tell(alloc, &result, out);
+    let told = tell(alloc, &result, out);
+    let status = status_with(&left, told);
     Ran { status, left }
 }
 
@@ -94,14 +109,15 @@ pub fn run_session<T: Threads + Wait + Sync, Y: Yard, S: Source, K: Sink>(
 where
     Y::W: Send,
     Y::R: Drop + Send,
-    requires allows { (start : Tree) (log : List Op) → Y.W.allows start log }
+    requires allows { (script : Script) → CanBeRun script → MayRun script.workers (Y.A.log (Y.files yard)) (Y.A.start (Y.files yard)) Y.W.allows }
     ensures session { RunsSession (S.left input.old) (Y.A.log (Y.files yard)) (Y.A.start (Y.files yard)) (Y.A.faults (Y.files yard)) (Y.A.denied (Y.files yard)) result.status (K.written out.old) (K.written out.new) (LeftAs result.left (λ y. Stays (Y.A.log (Y.files yard)) (Y.A.start (Y.files yard)) (Y.A.log (Y.files y)) (Y.A.start (Y.files y))) (λ w. ⊥)) (λ last. LeftAs result.left (λ y. RestsOn (Y.A.log (Y.files yard)) (Y.A.start (Y.files yard)) last.log (Y.A.log (Y.files y)) (Y.A.start (Y.files y))) (λ w. Y.W.log w ≡ last.log)) (λ last states. LeftAs result.left (λ y. AreCounted last states (Y.A.faults (Y.files y)) (Y.A.denied (Y.files y))) (λ w. ⊤)) (IsWhole result.left) }
+    ensures parts { IfParts result.left (λ w rs. AreOfOneStart (Y.A.log (Y.files yard)) (Y.A.start (Y.files yard)) (Y.W.ties w) (λ r. Y.R.ties r) rs) }
     ensures fault { result.status ≡ 16 → IfWhole result.left (λ y. Rose (Y.A.faults (Y.files yard)) (Y.A.faults (Y.files y))) }
     ensures failed { result.status ≡ 18 → Rose (S.faults input.old) (S.faults input.new) }
     ensures sink { result.status ≡ 19 → Rose (K.faults out.old) (K.faults out.new) }
     ensures statuses { IsOneOf (0 ∷ 14 ∷ 15 ∷ 16 ∷ 18 ∷ 19 ∷ 20 ∷ 23 ∷ 24 ∷ 27 ∷ 30 ∷ []) result.status }
     ensures read { result.status ≡ 0 → IsAtEnd (S.left input.new) }
-    ensures whole { result.status ≡ 0 → IsWhole result.left }
+    ensures whole { (result.status ≡ 30 → ⊥) → IsWhole result.left }
 {
     let script = match script_from(alloc, input) {
         Ok(script) => script,

@@ -6,6 +6,8 @@ mod outside;
 #[cfg(test)]
 mod refresh;
 #[cfg(test)]
+mod rows;
+#[cfg(test)]
 mod stops;
 #[cfg(test)]
 mod stores;

@@ -1,12 +1,23 @@
 -- One call more.
-use Rattle.std.proofs.Common.{◌≡◌, ℕ, Bool, true, false, List, [], ◌∷◌, ◌++◌, Option, None, refl, ap, sym, ◌∙◌, true≢false}
+use Rattle.std.proofs.Common.{◌≡◌, ◌≤◌, ◌+◌, ℕ, suc, Bool, true, false, List, [], ◌∷◌, ◌++◌, Option, Some, None, refl, ap, sym, ◌∙◌, subst, arith, true≢false}
+use Rattle.std.specs.Prelude.{is_some, min}
 use Rattle.std.proofs.lemmas.Grind.{flat_map-append}
 use Rattle.std.proofs.lemmas.List.{append-nil}
 use Rattle.std.proofs.lemmas.List.Sums.{fold-append}
 use Rattle.hgs_legal.specs.Theorems.Runs.{run-join}
+use Rattle.hgs_answers.specs.declared.answer.Answer.{Answer}
 use Rattle.hgs_files.specs.declared.op.Op.{Op}
+use Rattle.hgs_files.specs.Files.{GoesOn}
+use Rattle.hgs_files.specs.Reads.{Rose, greatest}
+use Rattle.hgs_files.specs.Tree.{after_all}
+use Rattle.hgs_index.specs.declared.node.Node.{Node}
+use Rattle.hgs_machine.specs.Carry.{tree_now}
+use Rattle.hgs_model.specs.declared.command.Command.{Command}
+use Rattle.hgs_script.specs.declared.job.Job.TheVariants.{Change}
+use Rattle.hgs_writer.specs.Refusals.{refusals_of}
+use Rattle.hgs_writer.specs.Written.{IsWrittenFor}
 use Rattle.hgs_script.specs.declared.result.PublishedJob.{PublishedJob}
-use Rattle.hgs_session.specs.Calls.{Beginning, Call, IsCall, Makes, Stage, published_by, published_of, unsure_of, unsure_with}
+use Rattle.hgs_session.specs.Calls.{Beginning, Call, IsCall, IsLedTo, Makes, Stage, job_in, name_of, published_by, published_of, unsure_of, unsure_with}
 use Rattle.hgs_session.specs.Desk.{HasMade}
 
 pub makes_more : (x : Beginning) (calls : List Call) (c : Call) (now next : Stage) → Makes x calls now → IsCall x now c next → Makes x (calls ++ c ∷ []) next
@@ -47,3 +58,37 @@ made_broken x now history history' published published' unsure unsure' b m = rec
   published_is = λ e. absurd (true≢false e);
   unsure_is = λ e. absurd (true≢false e);
 }
+
+-- ---- what the files are asked to take
+
+below : (f n g : ℕ) → min (f + n) g ≤ f + suc n
+below f n g = omega arith
+
+at_rest : (d g : ℕ) → min (d + 0) g ≤ d
+at_rest d g = omega arith
+
+-- a call that ended so leads on from what was made
+pub led_more : (x : Beginning) (now : Stage) (history : List Call) (published : List PublishedJob) (unsure : Option (ℕ × ℕ)) (b : Bool) (worker job : ℕ) (command : Command) (answer : Answer) (changeset : Option (ℕ × Node)) (l done : List Op)
+    → HasMade x now history published unsure b → job_in x.jobs worker job ≡ Some (Change command) → now.log ≡ Some l → IsWrittenFor (name_of worker job) command (after_all l x.start) answer changeset done → IsLedTo x (l ++ done)
+led_more x now history published unsure b worker job command answer changeset l done m is told written =
+    let n = refusals_of (is_some now.log) answer in
+    let call : Call = record { worker = worker; job = job; answer = answer; changeset = changeset; log = Some (l ++ done) } in
+    let next : Stage = record { log = Some (l ++ done); faults = now.faults + suc n; denied = now.denied } in
+    let P : Option (List Op) → Type 0 = λ o. GoesOn o next.log (IsWrittenFor (name_of worker job) command (tree_now o x.start) answer changeset) in
+    let is_call : IsCall x now call next = record {
+      command = command;
+      job = is;
+      log = subst P (sym told) (done, refl, written);
+      behind = refl;
+      fault = λ e. rose now.faults n;
+      refused = record { failed = n; wanting = 0; all = let h : n ≤ n + 0 = omega arith in h; faults = below now.faults n greatest; denied = at_rest now.denied greatest };
+      faults = let h : now.faults ≤ now.faults + suc n = omega arith in h;
+      denied = let h : now.denied ≤ now.denied = omega arith in h;
+    } in
+    record { calls = m.calls ++ call ∷ []; last = next; makes = makes_more x m.calls call now next m.makes is_call; told = refl }
+  where
+    rose : (f n : ℕ) → Rose f (f + suc n)
+    rose f n = one f n greatest
+      where
+        one : (f n g : ℕ) → min (f + 1) g ≤ f + suc n
+        one f n g = omega arith

@@ -9,7 +9,7 @@ use Rattle.std.specs.List.{AllByRecursion}
 use Rattle.hgs_files.specs.declared.op.Op.{Op}
 use Rattle.hgs_files.specs.declared.yard.Left.{Left}
 use Rattle.hgs_files.specs.declared.yard.Left.TheVariants.{Whole, Parts}
-use Rattle.hgs_files.specs.Ends.{EndsWithin, Follow, total_of}
+use Rattle.hgs_files.specs.Ends.{Begins, EndsWithin, Follow, total_of}
 use Rattle.hgs_files.specs.Reads.{counted}
 use Rattle.hgs_files.specs.Ties.{Ties}
 use Rattle.hgs_files.specs.Tree.{Tree}
@@ -21,7 +21,7 @@ use Rattle.hgs_session.specs.declared.session.NoResult.{NoResult}
 use Rattle.hgs_session.specs.Calls.{Beginning, Call, Stage}
 use Rattle.hgs_session.specs.Desk.{HasMade}
 use Rattle.hgs_session.specs.Jobs.{HasDone, Progress}
-use Rattle.hgs_session.specs.Session.{AreCounted, Comes, EndState, EndedFrom, HasEnded, IsWithin, LeftAs, RestsOn, Tells, changes_in, count_of, state_of}
+use Rattle.hgs_session.specs.Session.{AreCounted, AreOfOneStart, AreOfStart, Comes, EndState, EndedFrom, HasEnded, IfParts, IsWithin, LeftAs, RestsOn, Tells, changes_in, count_of, state_of}
 use Rattle.hgs_session.proofs.JobLemmas.{done_on}
 
 pub ended_more : (x : Beginning) (worker : ℕ) (calls : List Call) (states : List EndState) (replies : List (List Answered)) (m : EndState) (a : List Answered)
@@ -153,3 +153,16 @@ counts_of faults_at denied_at faults_of denied_of state now rs (Whole y) same h 
     let F : total_of (λ (m : EndState). m.faults) (map state rs) ≡ total_of faults_of rs = totals state (λ (m : EndState). m.faults) rs ∙ total_same (λ s. (state s).faults) faults_of (λ s. (same s).0) rs in
     let D : total_of (λ (m : EndState). m.denied) (map state rs) ≡ total_of denied_of rs = totals state (λ (m : EndState). m.denied) rs ∙ total_same (λ s. (state s).denied) denied_of (λ s. (same s).1) rs in
     record { faults_are = h.0 ∙ ap (counted now.faults) (sym F); denied_are = h.1 ∙ ap (counted now.denied) (sym D) }
+
+-- ---- ends that could not be put together
+
+pub if_parts : {Y A Rest Front W R : Type 0} {P Q : W → List R → Type 0} → (left : Left Y A Rest Front W R) → ((w : W) (rs : List R) → P w rs → Q w rs) → IfParts left P → IfParts left Q
+if_parts (Whole y) f h = h
+if_parts (Parts w rs) f h = f w rs.items h
+
+pub of_start : {R : Type 0} (was : Ties) (earlier : Option (List Op)) (start : Tree) (lead : Ties) (ties : R → Ties) (rs : List R) → was.earlier ≡ earlier → was.earlier_start ≡ start → AreOfStart was.earlier was.earlier_start lead ties rs → AreOfStart earlier start lead ties rs
+of_start was earlier start lead ties rs e s h = (h.0 ∙ e, h.1 ∙ s, h.2)
+
+pub of_one_start : {R : Type 0} (log : Option (List Op)) (start : Tree) (first : Option (List Op)) (first_start : Tree) (was lead : Ties) (ties : R → Ties) (rs : List R) → Begins log start first first_start was → AreOfStart was.earlier was.earlier_start lead ties rs → AreOfOneStart log start lead ties rs
+of_one_start None start first first_start was lead ties rs b h = (tt, h.2)
+of_one_start (Some old) start first first_start was lead ties rs b h = ((h.0 ∙ b.2, h.1 ∙ b.3), h.2)

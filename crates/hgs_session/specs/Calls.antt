@@ -72,6 +72,17 @@ pub record IsCall (x : Beginning) (old : Stage) (c : Call) (new : Stage) : Type 
 abbrev pub Makes : Beginning → List Call → Stage → Type 0
 Makes x calls last = FoldsTo (IsCall x) x.first calls last
 
+-- These calls lead to this log, where it is told.
+pub record IsLedTo (x : Beginning) (log : List Op) : Type 0 where
+  pub calls : List Call
+  pub last : Stage
+  pub makes : Makes x calls last
+  pub told : last.log ≡ Some log
+
+-- the files take each log to which such calls lead, whichever they are
+abbrev pub MayMake : Beginning → (Tree → List Op → Type 0) → Type 0
+MayMake x allows = (log : List Op) → ∥ IsLedTo x log ∥₁ → allows x.start log
+
 -- ---- what was published
 
 abbrev pub is_published : Outcome → Bool

@@ -1,17 +1,18 @@
 -- What a session did, and what its result says of it.
 use Rattle.std.specs.List.{AllByRecursion}
-use Rattle.std.specs.Prelude.{◌≡◌, ℕ, suc, List, [], ◌∷◌, ◌++◌, length, fold, ◌+◌, Option, Some, None, Result, IfOk, IfSome, slice_get}
+use Rattle.std.specs.Prelude.{◌≡◌, ℕ, suc, List, [], ◌∷◌, ◌++◌, length, fold, ◌+◌, All, Option, Some, None, Result, IfOk, IfSome, slice_get}
 use Rattle.hgs_files.specs.declared.op.Op.{Op}
 use Rattle.hgs_files.specs.declared.yard.Left.{Left}
 use Rattle.hgs_files.specs.declared.yard.Left.TheVariants.{Whole, Parts}
 use Rattle.hgs_files.specs.Ends.{EndsWithin, total_of}
 use Rattle.hgs_files.specs.Reads.{counted}
+use Rattle.hgs_files.specs.Ties.{Ties}
 use Rattle.hgs_files.specs.Tree.{Tree, after_all}
 use Rattle.hgs_script.specs.declared.job.Job.{Job}
 use Rattle.hgs_script.specs.declared.result.Answered.{Answered}
 use Rattle.hgs_script.specs.declared.result.SessionResult.{SessionResult}
 use Rattle.hgs_session.specs.declared.session.NoResult.{NoResult}
-use Rattle.hgs_session.specs.Calls.{Beginning, Call, Makes, Stage, one_if_change, published_of, unsure_of}
+use Rattle.hgs_session.specs.Calls.{Beginning, Call, Makes, MayMake, Stage, one_if_change, published_of, unsure_of}
 use Rattle.hgs_session.specs.Jobs.{HasDone, Progress}
 
 -- how many of these jobs write
@@ -69,12 +70,20 @@ pub record IsSession (x : Beginning) (calls : List Call) (last : Stage) (states 
 abbrev pub IsNew : Option (List Op) → Tree → Option (List Op) → Tree → List (List Op) → ℕ → ℕ → Type 0
 IsNew log start seen seen_start told faults denied = IfSome log (λ l. (seen ≡ Some []) × (told ≡ []) × (seen_start ≡ start)) × (faults ≡ 0) × (denied ≡ 0)
 
+-- A writing end begins with nothing done, from the tree of the files at rest, where their log is told.
+abbrev pub BeginsAt : Beginning → Option (List Op) → Tree → Type 0
+BeginsAt x log start = IfSome log (λ old. (x.first.log ≡ Some []) × (x.start ≡ after_all old start))
+
 -- A session begins over files with this log and these counts.
 pub record BeginsOver (x : Beginning) (jobs : List (List Job)) (log : Option (List Op)) (start : Tree) (faults denied : ℕ) : Type 0 where
   pub jobs_are : x.jobs ≡ jobs
-  pub log_is : IfSome log (λ old. (x.first.log ≡ Some []) × (x.start ≡ after_all old start))
+  pub log_is : BeginsAt x log start
   pub faults_are : x.first.faults ≡ faults
   pub denied_are : x.first.denied ≡ denied
+
+-- the writing end takes whatever a session of these jobs may leave of the files
+abbrev pub MayRun : List (List Job) → Option (List Op) → Tree → (Tree → List Op → Type 0) → Type 0
+MayRun jobs log start allows = (x : Beginning) → x.jobs ≡ jobs → BeginsAt x log start → MayMake x allows
 
 -- the log at rest is the earlier one and then that of the writing end
 abbrev pub RestsOn : Option (List Op) → Tree → Option (List Op) → Option (List Op) → Tree → Type 0
@@ -89,6 +98,19 @@ LeftAs (Parts w rs) OfYard OfEnd = OfEnd w
 abbrev pub IsWhole : {Y A Rest Front W R : Type 0} → Left Y A Rest Front W R → Type 0
 IsWhole (Whole yard) = Unit {0}
 IsWhole (Parts w rs) = ⊥
+
+-- where the ends could not be put together, this holds of them
+abbrev pub IfParts : {Y A Rest Front W R : Type 0} → Left Y A Rest Front W R → (W → List R → Type 0) → Type 0
+IfParts (Whole yard) Holds = Unit {0}
+IfParts (Parts w rs) Holds = Holds w rs.items
+
+-- The reading ends are of the writing end's start, and that keeps this earlier log: so they may be put together yet.
+abbrev pub AreOfStart : {R : Type 0} → Option (List Op) → Tree → Ties → (R → Ties) → List R → Type 0
+AreOfStart earlier start lead ties rs = (lead.earlier ≡ earlier) × (lead.earlier_start ≡ start) × All (λ r. (ties r).home ≡ lead.home) rs
+
+-- the same, where the log of the files at rest was told
+abbrev pub AreOfOneStart : {R : Type 0} → Option (List Op) → Tree → Ties → (R → Ties) → List R → Type 0
+AreOfOneStart log start lead ties rs = IfSome log (λ old. (lead.earlier ≡ Some old) × (lead.earlier_start ≡ start)) × All (λ r. (ties r).home ≡ lead.home) rs
 
 -- the counts at rest are those of the writing end, and what the reading ends have counted
 pub record AreCounted (last : Stage) (states : List EndState) (faults denied : ℕ) : Type 0 where

@@ -1,10 +1,9 @@
 //! What lies under the lock of a session: the writing end, with the history of what was done by it.
-ghost use Rattle.std.specs.Prelude.{◌≡◌, ◌++◌, ◌∷◌, ◌≤◌, [], List, Some, IfOk, IfSome, OnOk, false, true, length};
+ghost use Rattle.std.specs.Prelude.{◌≡◌, ◌++◌, ◌∷◌, ◌≤◌, [], Some, IfOk, IfSome, OnOk, false, true, length};
 ghost use Rattle.hgs_answers.specs.Answer.{answer_text, status_of};
-ghost use Rattle.hgs_files.specs.declared.op.Op.{Op};
 ghost use Rattle.hgs_model.specs.Valid.{IsValid};
 ghost use Rattle.hgs_script.specs.declared.job.Job.TheVariants.{Change};
-ghost use Rattle.hgs_session.specs.Calls.{is_published, is_unsure, job_in, name_of, published_by, unsure_with};
+ghost use Rattle.hgs_session.specs.Calls.{MayMake, is_published, is_unsure, job_in, name_of, published_by, unsure_with};
 ghost use Rattle.hgs_session.specs.Desk.{HasMade, IsDone};
 ghost use Rattle.hgs_session.specs.Noted.{call_of};
 
@@ -171,7 +170,7 @@ impl<N: Naming, W: Leads> Desk<N, W> {
         requires valid { IsValid command.now }
         requires least { 1 ≤ length name.now }
         requires most { length name.now ≤ 255 }
-        requires allows { (log : List Op) → W.allows N.begins.start log }
+        requires allows { MayMake N.begins W.allows }
         ensures broken { self.new.broken ≡ true }
         ensures worker { result.worker ≡ worker }
         ensures job { result.job ≡ job }
@@ -215,7 +214,7 @@ impl<N: Naming, W: Leads> Desk<N, W> {
     ) -> Option<Done<N, W::Front>>
         requires job { job_in N.begins.jobs worker job ≡ Some (Change command.now) }
         requires valid { IsValid command.now }
-        requires allows { (log : List Op) → W.allows N.begins.start log }
+        requires allows { MayMake N.begins W.allows }
         ensures home { IfSome result (λ done. W.Front.home done.front ≡ N.home) }
         ensures done { IfSome result (λ done. ∥ IsDone worker job command.now (W.Front.log done.front) done.history done.answered ∥₁) }
     {

@@ -1,12 +1,10 @@
 //! A session: its workers do their jobs at the same time, over shared files.
 ghost use Rattle.std.specs.Prelude.{◌≡◌, ◌≤◌, ⊤, [], false, List, All, IfOk, IsOk, Ok, length, map, true};
-ghost use Rattle.hgs_files.specs.declared.op.Op.{Op};
 ghost use Rattle.hgs_files.specs.Ends.{EndsWithin, Follow, total_of};
 ghost use Rattle.hgs_files.specs.Reads.{counted};
-ghost use Rattle.hgs_files.specs.Tree.{Tree};
 ghost use Rattle.hgs_script.specs.Script.{CanBeRun};
-ghost use Rattle.hgs_session.specs.Calls.{Beginning};
-ghost use Rattle.hgs_session.specs.Session.{AreCounted, BeginsOver, Comes, EndedFrom, IsNew, IsWhole, LeftAs, RestsOn, changes_in};
+ghost use Rattle.hgs_session.specs.Calls.{Beginning, MayMake};
+ghost use Rattle.hgs_session.specs.Session.{AreCounted, AreOfOneStart, AreOfStart, BeginsOver, Comes, EndedFrom, IfParts, IsNew, IsWhole, LeftAs, MayRun, RestsOn, changes_in};
 
 use crate::close::{Gathered, gather};
 use crate::desk::{Desk, Listed};
@@ -73,7 +71,7 @@ fn run_worker<N: Naming, R: Follows + Drop, W: Leads<Front = R::Front>, T: Wait,
 )
     requires jobs { script.now.workers ≡ N.begins.jobs }
     requires can { CanBeRun script.now }
-    requires allows { (log : List Op) → W.allows N.begins.start log }
+    requires allows { MayMake N.begins W.allows }
 {
     if let Some(jobs) = script.workers.as_slice().get(worker.number as usize) {
         worker.work(rt, alloc, desk, jobs.as_slice(), gate);
@@ -97,7 +95,7 @@ fn work_all<
 )
     requires jobs { script.now.workers ≡ N.begins.jobs }
     requires can { CanBeRun script.now }
-    requires allows { (log : List Op) → W.allows N.begins.start log }
+    requires allows { MayMake N.begins W.allows }
 {
     let threads = workers.len();
     if threads == 0 {
@@ -108,7 +106,7 @@ fn work_all<
         workers.as_mut_slice(),
         threads,
         &|_, worker: &mut Worker<N, R>|
-            requires { (script.now.workers ≡ N.begins.jobs) × CanBeRun script.now × ((log : List Op) → W.allows N.begins.start log) }
+            requires { (script.now.workers ≡ N.begins.jobs) × CanBeRun script.now × MayMake N.begins W.allows }
         { run_worker(rt, alloc, desk, worker, script, gate) },
     );
 }
@@ -126,6 +124,7 @@ where
     ensures told { IfOk result.result (λ r. told ≡ Ok r) }
     ensures within { IfOk result.result (λ r. All (λ r. EndsWithin (Y.W.log w) (Y.R.seen r) (Y.R.ties r).told) rs.items) }
     ensures counts { IsOk result.result → LeftAs result.left (λ y. (Y.A.faults (Y.files y) ≡ counted (Y.W.faults w) (total_of Y.R.faults rs.items)) × (Y.A.denied (Y.files y) ≡ counted (Y.W.denied w) (total_of Y.R.denied rs.items))) (λ end. ⊤) }
+    ensures parts { IfParts result.left (λ end rs. AreOfStart (Y.W.ties w).earlier (Y.W.ties w).earlier_start (Y.W.ties end) (λ r. Y.R.ties r) rs) }
     ensures whole { IsOk result.result → IsWhole result.left }
 {
     match Y::finish(w, rs) {
@@ -182,6 +181,7 @@ where
     requires whole { gathered.whole ≡ true → ∥ EndedFrom N.begins 0 listed.history (map (λ r. record { told = (Y.R.ties r).told; seen = Y.R.seen r; faults = Y.R.faults r; denied = Y.R.denied r }) gathered.ends.items) gathered.replies.items ∥₁ }
     requires count { gathered.whole ≡ true → length gathered.replies.items ≡ length script.now.workers }
     ensures comes { ∥ Comes N.begins (λ last. LeftAs result.left (λ y. RestsOn N.earlier N.earlier_start last.log (Y.A.log (Y.files y)) (Y.A.start (Y.files y))) (λ w. Y.W.log w ≡ last.log)) (λ last states. LeftAs result.left (λ y. AreCounted last states (Y.A.faults (Y.files y)) (Y.A.denied (Y.files y))) (λ w. ⊤)) result.result ∥₁ }
+    ensures parts { IfParts result.left (λ w rs. AreOfStart N.earlier N.earlier_start (Y.W.ties w) (λ r. Y.R.ties r) rs) }
     ensures whole { IsOk result.result → IsWhole result.left }
 {
     let Listed {
@@ -217,7 +217,7 @@ where
     Y::R: Drop + Send,
     requires jobs { script.now.workers ≡ N.begins.jobs }
     requires can { CanBeRun script.now }
-    requires allows { (log : List Op) → Y.W.allows N.begins.start log }
+    requires allows { MayMake N.begins Y.W.allows }
     requires book { opened.seen.book ≡ N.book }
     requires home { (Y.W.ties w).home ≡ N.home }
     requires earlier { (Y.W.ties w).earlier ≡ N.earlier }
@@ -228,6 +228,7 @@ where
     requires new { All (λ r. IsNew N.begins.first.log N.begins.start (Y.R.seen r) (Y.R.start r) (Y.R.ties r).told (Y.R.faults r) (Y.R.denied r)) rs.items }
     requires room { (room.published.items ≡ []) × (room.ends.items ≡ []) × (room.replies.items ≡ []) }
     ensures comes { ∥ Comes N.begins (λ last. LeftAs result.left (λ y. RestsOn N.earlier N.earlier_start last.log (Y.A.log (Y.files y)) (Y.A.start (Y.files y))) (λ w. Y.W.log w ≡ last.log)) (λ last states. LeftAs result.left (λ y. AreCounted last states (Y.A.faults (Y.files y)) (Y.A.denied (Y.files y))) (λ w. ⊤)) result.result ∥₁ }
+    ensures parts { IfParts result.left (λ w rs. AreOfStart N.earlier N.earlier_start (Y.W.ties w) (λ r. Y.R.ties r) rs) }
     ensures whole { IsOk result.result → IsWhole result.left }
 {
     let (head, history) = opened.named::<N>();
@@ -257,6 +258,8 @@ where
 /// nothing is older than what the worker's own jobs wrote before. A job that writes holds the writing end alone, and the locks are
 /// taken by the name `hg-store W J` of its worker and its number. The gate is told of each job before it and after it.
 ///
+/// The writing end need take no more than what the script's writing jobs may leave, one behind another, from the tree of the files at rest.
+///
 /// There is no result where there was no memory for it; the writing jobs that were done stand in the files all the same. A thread
 /// that cannot be started is no refusal: its worker then does its jobs before or behind another one's.
 pub fn session<T: Threads + Wait + Sync, Y: Yard, G: Gate>(
@@ -270,8 +273,9 @@ where
     Y::W: Send,
     Y::R: Drop + Send,
     requires can { CanBeRun script.now }
-    requires allows { (start : Tree) (log : List Op) → Y.W.allows start log }
+    requires allows { MayRun script.now.workers (Y.A.log (Y.files yard)) (Y.A.start (Y.files yard)) Y.W.allows }
     ensures comes { ∥ ((x : Beginning) × BeginsOver x script.now.workers (Y.A.log (Y.files yard)) (Y.A.start (Y.files yard)) (Y.A.faults (Y.files yard)) (Y.A.denied (Y.files yard)) × Comes x (λ last. LeftAs result.left (λ y. RestsOn (Y.A.log (Y.files yard)) (Y.A.start (Y.files yard)) last.log (Y.A.log (Y.files y)) (Y.A.start (Y.files y))) (λ w. Y.W.log w ≡ last.log)) (λ last states. LeftAs result.left (λ y. AreCounted last states (Y.A.faults (Y.files y)) (Y.A.denied (Y.files y))) (λ w. ⊤)) result.result) ∥₁ }
+    ensures parts { IfParts result.left (λ w rs. AreOfOneStart (Y.A.log (Y.files yard)) (Y.A.start (Y.files yard)) (Y.W.ties w) (λ r. Y.R.ties r) rs) }
     ensures whole { IsOk result.result → IsWhole result.left }
 {
     let Ok(room) = Room::new(alloc, script.workers.as_slice()) else {

@@ -1,11 +1,10 @@
 //! A worker of a session.
-ghost use Rattle.std.specs.Prelude.{◌≡◌, [], List, Some, IfSome, length, slice_get, false};
+ghost use Rattle.std.specs.Prelude.{◌≡◌, [], Some, IfSome, length, slice_get, false};
 ghost use Rattle.std.specs.List.{AllByRecursion};
-ghost use Rattle.hgs_files.specs.declared.op.Op.{Op};
 ghost use Rattle.hgs_model.specs.Valid.{IsValid};
 ghost use Rattle.hgs_script.specs.declared.job.Job.TheVariants.{Ask, Change};
 ghost use Rattle.hgs_script.specs.Script.{CanBeDone};
-ghost use Rattle.hgs_session.specs.Calls.{job_in};
+ghost use Rattle.hgs_session.specs.Calls.{MayMake, job_in};
 ghost use Rattle.hgs_session.specs.Desk.{IsDone};
 ghost use Rattle.hgs_session.specs.Jobs.{HasDone};
 ghost use Rattle.hgs_session.specs.Session.{HasEnded};
@@ -48,7 +47,7 @@ fn write_at<N: Naming, W: Leads, T: Wait>(
 ) -> Option<Done<N, W::Front>>
     requires job { job_in N.begins.jobs worker job ≡ Some (Change command.now) }
     requires valid { IsValid command.now }
-    requires allows { (log : List Op) → W.allows N.begins.start log }
+    requires allows { MayMake N.begins W.allows }
     ensures home { IfSome result (λ done. W.Front.home done.front ≡ N.home) }
     ensures done { IfSome result (λ done. ∥ IsDone worker job command.now (W.Front.log done.front) done.history done.answered ∥₁) }
 {
@@ -100,7 +99,7 @@ impl<N: Naming, R: Follows> Worker<N, R> {
         requires number { job ≡ length self.old.replies.items }
         requires job { job_in N.begins.jobs self.old.number job ≡ Some (Change command.now) }
         requires valid { IsValid command.now }
-        requires allows { (log : List Op) → W.allows N.begins.start log }
+        requires allows { MayMake N.begins W.allows }
         ensures number { self.new.number ≡ self.old.number }
     {
         match write_at(rt, alloc, desk, command, self.number, job) {
@@ -136,7 +135,7 @@ impl<N: Naming, R: Follows> Worker<N, R> {
         requires place { number ≡ length self.old.replies.items }
         requires job { job_in N.begins.jobs self.old.number number ≡ Some job.now }
         requires can { CanBeDone job.now }
-        requires allows { (log : List Op) → W.allows N.begins.start log }
+        requires allows { MayMake N.begins W.allows }
         ensures number { self.new.number ≡ self.old.number }
     {
         match job {
@@ -156,7 +155,7 @@ impl<N: Naming, R: Follows> Worker<N, R> {
     ) -> bool
         requires jobs { slice_get N.begins.jobs self.old.number ≡ Some jobs.now }
         requires can { AllByRecursion CanBeDone jobs.now }
-        requires allows { (log : List Op) → W.allows N.begins.start log }
+        requires allows { MayMake N.begins W.allows }
         ensures number { self.new.number ≡ self.old.number }
     {
         let place = self.replies.len();
@@ -183,7 +182,7 @@ impl<N: Naming, R: Follows> Worker<N, R> {
     )
         requires jobs { slice_get N.begins.jobs self.old.number ≡ Some jobs.now }
         requires can { AllByRecursion CanBeDone jobs.now }
-        requires allows { (log : List Op) → W.allows N.begins.start log }
+        requires allows { MayMake N.begins W.allows }
         ensures number { self.new.number ≡ self.old.number }
     {
         for _ in 0..jobs.len() {

@@ -1,40 +1,48 @@
--- Why files are left over.
-use Rattle.std.proofs.Common.{◌⊎◌, ◌≤◌, ℕ, List, inl, inr, arith}
-use Rattle.std.specs.Prelude.{Option, Result, Ok, Err}
+-- How many calls on the files were refused.
+use Rattle.std.proofs.Common.{◌≡◌, ◌⊎◌, ◌≤◌, ℕ, Bool, true, false, List, inl, inr, refl, arith}
+use Rattle.std.specs.Prelude.{Option, is_some, Result, Ok, Err}
 use Rattle.hgs_files.specs.Reads.{Rose}
 use Rattle.hgs_files.specs.Tree.{Tree}
 use Rattle.hgs_files.specs.declared.op.Op.{Op}
 use Rattle.hgs_grown.specs.declared.commits.Stop.{Stop}
 use Rattle.hgs_grown.specs.declared.commits.Stop.TheVariants as stops
 use Rattle.hgs_index.specs.declared.node.Node.{Node}
+use Rattle.hgs_machine.specs.Refusals.{WereRefused, refusals_of_left}
 use Rattle.hgs_top.specs.Orders.{Grows, LeftHasCause, TellsGrown}
 use Rattle.hgs_top.specs.declared.ended.Ended.{Ended}
 use Rattle.hgs_top.specs.declared.ended.Ended.TheVariants.{Made, Exists, NotMade, NoInput, NoRecord, Refused, Answered, Recovered}
+use Rattle.hgs_writer.specs.Refusals.{refusals_of}
 
--- what leaves no file over
-pub left_none : (Cause : Type 0) (ended : Ended) → LeftHasCause ⊥ ended → LeftHasCause Cause ended
-left_none Cause Made h = tt
-left_none Cause Exists h = tt
-left_none Cause (NotMade fault) h = tt
-left_none Cause NoInput h = tt
-left_none Cause (NoRecord fault) h = tt
-left_none Cause (Refused refusal) h = tt
-left_none Cause (Answered command answer) h = λ left. absurd (h left)
-left_none Cause (Recovered r) h = λ left. absurd (h left)
+-- what no writer answered
+pub left_none : (AreRefused : ℕ → Type 0) (told : Bool) (ended : Ended) → LeftHasCause (λ n. ⊥) false ended → LeftHasCause AreRefused told ended
+left_none AreRefused told Made h = tt
+left_none AreRefused told Exists h = tt
+left_none AreRefused told (NotMade fault) h = tt
+left_none AreRefused told NoInput h = tt
+left_none AreRefused told (NoRecord fault) h = tt
+left_none AreRefused told (Refused refusal) h = tt
+left_none AreRefused told (Answered command answer) h = absurd h
+left_none AreRefused told (Recovered r) h = absurd h
+
+-- what recovering left over
+pub left_refused : (f g d e : ℕ) (swept : Bool) → f ≤ g → d ≤ e → (swept ≡ false → Rose f g ⊎ Rose d e) → WereRefused (refusals_of_left swept) f g d e
+left_refused f g d e true le less h = record { failed = 0; wanting = 0; all = omega arith; faults = omega (arith, le); denied = omega (arith, less) }
+left_refused f g d e false le less h = by (h refl)
+  where
+    by : Rose f g ⊎ Rose d e → WereRefused (refusals_of_left false) f g d e
+    by (inl rose) = record { failed = 1; wanting = 0; all = omega arith; faults = rose; denied = omega (arith, less) }
+    by (inr rose) = record { failed = 0; wanting = 1; all = omega arith; faults = omega (arith, le); denied = rose }
+
+-- calls that were refused later were refused
+pub refused_later : (f g h d e k : ℕ) → f ≤ g → d ≤ e → (n : ℕ) → WereRefused n g h e k → WereRefused n f h d k
+refused_later f g h d e k le less n calls = record { failed = calls.failed; wanting = calls.wanting; all = calls.all; faults = omega (arith, le, calls.faults); denied = omega (arith, less, calls.denied) }
 
 -- ---- a repository that grows
 
-later : (f g h : ℕ) → f ≤ g → Rose g h → Rose f h
-later f g h le rose = omega (arith, le, rose)
+tells_under : (C D : ℕ → Type 0) → ((n : ℕ) → C n → D n) → (told : Bool) (grown : Result Node Stop) (log : Option (List Op)) (start : Tree) (status : ℕ) (old new : Option (List ℕ)) → TellsGrown C told grown log start status old new → TellsGrown D told grown log start status old new
+tells_under C D f told (Ok tip) log start status old new h = h
+tells_under C D f told (Err stops.Memory) log start status old new h = h
+tells_under C D f told (Err (stops.Answered command answer)) log start status old new h = (f (refusals_of told answer) h.0, h.1)
 
-pub causes_later : (f g h d e k : ℕ) → f ≤ g → d ≤ e → Rose g h ⊎ Rose e k → Rose f h ⊎ Rose d k
-causes_later f g h d e k le less (inl rose) = inl (later f g h le rose)
-causes_later f g h d e k le less (inr rose) = inr (later d e k less rose)
-
-tells_under : (C D : Type 0) → (C → D) → (grown : Result Node Stop) (log : Option (List Op)) (start : Tree) (status : ℕ) (old new : Option (List ℕ)) → TellsGrown C grown log start status old new → TellsGrown D grown log start status old new
-tells_under C D f (Ok tip) log start status old new h = h
-tells_under C D f (Err stops.Memory) log start status old new h = h
-tells_under C D f (Err (stops.Answered command answer)) log start status old new h = ((λ left. f (h.0 left)), h.1)
-
-pub grows_under : (C D : Type 0) → (C → D) → (seed count : ℕ) (old new : Option (List Op)) (start : Tree) (status : ℕ) (written_old written_new : Option (List ℕ)) → Grows C seed count old new start status written_old written_new → Grows D seed count old new start status written_old written_new
-grows_under C D f seed count old new start status written_old written_new h = (h.0, h.1, tells_under C D f h.0 new start status written_old written_new h.2)
+pub grows_under : (C D : ℕ → Type 0) → ((n : ℕ) → C n → D n) → (seed count : ℕ) (old new : Option (List Op)) (start : Tree) (status : ℕ) (written_old written_new : Option (List ℕ)) → Grows C seed count old new start status written_old written_new → Grows D seed count old new start status written_old written_new
+grows_under C D f seed count old new start status written_old written_new h = (h.0, h.1, tells_under C D f (is_some old) h.0 new start status written_old written_new h.2)

@@ -38,13 +38,13 @@ module _ (taken : Taken) (words : List (List ℕ)) (job : Job) (bytes : List ℕ
       (history.0, history.1, history.2.pieces)
   by-end (Recovered done) comes = absurd (subst IsWriting comes.0 writing)
 
-obeyed : (taken : Taken) (words : List (List ℕ)) (bytes : List ℕ) (log : List Op) (new : Option (List Op)) (start : Tree) (request : Result Request ℕ) (status : ℕ) (written_old written_new : Option (List ℕ)) (Cause : Type 0) → request_of_words words ≡ request
-    → Obeys Cause request (Some bytes) (Some log) new start status written_old written_new → (job : Job) → request ≡ Ok (to_do job) → IsWriting job → MakesPieces job bytes log new start
-obeyed taken words bytes log new start request status written_old written_new Cause is obeys job e writing = λ r stands needs.
-    let does = subst (λ (q : Result Request ℕ). Obeys Cause q (Some bytes) (Some log) new start status written_old written_new) e obeys in
+obeyed : (taken : Taken) (words : List (List ℕ)) (bytes : List ℕ) (log : List Op) (new : Option (List Op)) (start : Tree) (request : Result Request ℕ) (status : ℕ) (written_old written_new : Option (List ℕ)) (AreRefused : ℕ → Type 0) → request_of_words words ≡ request
+    → Obeys AreRefused request (Some bytes) (Some log) new start status written_old written_new → (job : Job) → request ≡ Ok (to_do job) → IsWriting job → MakesPieces job bytes log new start
+obeyed taken words bytes log new start request status written_old written_new AreRefused is obeys job e writing = λ r stands needs.
+    let does = subst (λ (q : Result Request ℕ). Obeys AreRefused q (Some bytes) (Some log) new start status written_old written_new) e obeys in
     by-end taken words job bytes log new start (is ∙ e) writing r stands needs does.0 does.1
 
-pub made : (taken : Taken) (words : List (List ℕ)) (left : Option (List ℕ)) (old new : Option (List Op)) (start : Tree) (status : ℕ) (written_old written_new : Option (List ℕ)) (Cause : Type 0) → Obeys Cause (request_of_words words) left old new start status written_old written_new → MakesHistory words left old new start
-made taken words None old new start status written_old written_new Cause obeys = tt
-made taken words (Some bytes) None new start status written_old written_new Cause obeys = tt
-made taken words (Some bytes) (Some log) new start status written_old written_new Cause obeys = obeyed taken words bytes log new start (request_of_words words) status written_old written_new Cause refl obeys
+pub made : (taken : Taken) (words : List (List ℕ)) (left : Option (List ℕ)) (old new : Option (List Op)) (start : Tree) (status : ℕ) (written_old written_new : Option (List ℕ)) (AreRefused : ℕ → Type 0) → Obeys AreRefused (request_of_words words) left old new start status written_old written_new → MakesHistory words left old new start
+made taken words None old new start status written_old written_new AreRefused obeys = tt
+made taken words (Some bytes) None new start status written_old written_new AreRefused obeys = tt
+made taken words (Some bytes) (Some log) new start status written_old written_new AreRefused obeys = obeyed taken words bytes log new start (request_of_words words) status written_old written_new AreRefused refl obeys

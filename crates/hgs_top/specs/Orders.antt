@@ -1,5 +1,5 @@
 -- What a command that changes files comes to, and what it leaves.
-use Rattle.std.specs.Prelude.{◌≡◌, ◌≤◌, ◌⊎◌, ℕ, false, List, [], ◌∷◌, ◌++◌, Option, None, Result, Ok, Err, IfSome, IsSome, codes, decimal, ⊤, true}
+use Rattle.std.specs.Prelude.{◌≡◌, ◌≤◌, ◌⊎◌, ℕ, Bool, List, [], ◌∷◌, ◌++◌, Option, None, is_some, Result, Ok, Err, IfSome, IsSome, codes, decimal, ⊤, true}
 use Rattle.hgs_answers.specs.Answer.{answer_text, status_of as answer_status}
 use Rattle.hgs_answers.specs.declared.answer.Answer.{Answer}
 use Rattle.hgs_answers.specs.declared.outcome.Outcome.{Outcome}
@@ -28,11 +28,13 @@ use Rattle.hgs_load.specs.Open.{requires_path}
 use Rattle.hgs_load.specs.declared.answer.ReadAnswer.{ReadAnswer}
 use Rattle.hgs_load.specs.declared.answer.ReadAnswer.TheVariants.{Fault}
 use Rattle.hgs_machine.specs.Carry.{tree_now}
+use Rattle.hgs_machine.specs.Refusals.{refusals_of_left}
 use Rattle.hgs_recover.specs.Answer.{recovered_text, status_of as recover_status}
 use Rattle.hgs_recover.specs.Found.{answer_in}
 use Rattle.hgs_recover.specs.Recovering.{Answers, RecoversBy}
 use Rattle.hgs_recover.specs.declared.answer.RecoverAnswer.{RecoverAnswer}
 use Rattle.hgs_recover.specs.declared.answer.RecoverAnswer.TheVariants as recoveries
+use Rattle.hgs_writer.specs.Refusals.{refusals_of}
 use Rattle.hgs_writer.specs.Written.{IsWritten}
 use Rattle.hgs_top.specs.declared.ended.Ended.{Ended}
 use Rattle.hgs_top.specs.declared.ended.Ended.TheVariants.{Made, Exists, NotMade, NoInput, NoRecord, Refused, Answered, Recovered}
@@ -185,16 +187,16 @@ HasCause faults_old faults_new denied_old denied_new input_old input_new (Refuse
 HasCause faults_old faults_new denied_old denied_new input_old input_new (Answered command answer) = AnswerHasCause faults_old faults_new denied_old denied_new answer.outcome
 HasCause faults_old faults_new denied_old denied_new input_old input_new (Recovered r) = RecoveredHasCause faults_old faults_new denied_old denied_new r.outcome
 
--- A command that says that files are left over does so only where this was so.
-abbrev pub LeftHasCause : Type 0 → Ended → Type 0
-LeftHasCause Cause (Answered command answer) = answer.swept ≡ false → Cause
-LeftHasCause Cause (Recovered r) = r.swept ≡ false → Cause
-LeftHasCause Cause ended = ⊤
+-- As many calls on the files were refused as a writer's answer tells of, and one where recovering left files over.
+abbrev pub LeftHasCause : (ℕ → Type 0) → Bool → Ended → Type 0
+LeftHasCause AreRefused told (Answered command answer) = AreRefused (refusals_of told answer)
+LeftHasCause AreRefused told (Recovered r) = AreRefused (refusals_of_left r.swept)
+LeftHasCause AreRefused told ended = ⊤
 
 -- a run that does a job says what it came to
-abbrev pub Does : Type 0 → Job → Option (List ℕ) → Option (List Op) → Option (List Op) → Tree → ℕ → Option (List ℕ) → Option (List ℕ) → Type 0
-Does Cause job left old new start status written_old written_new =
-    (ended : Ended) × ComesTo job left old new start ended × LeftHasCause Cause ended × EndsLine (ended_text ended) (ended_status ended) status written_old written_new
+abbrev pub Does : (ℕ → Type 0) → Job → Option (List ℕ) → Option (List Op) → Option (List Op) → Tree → ℕ → Option (List ℕ) → Option (List ℕ) → Type 0
+Does AreRefused job left old new start status written_old written_new =
+    (ended : Ended) × ComesTo job left old new start ended × LeftHasCause AreRefused (is_some old) ended × EndsLine (ended_text ended) (ended_status ended) status written_old written_new
 
 -- ---- a generated repository
 
@@ -207,38 +209,38 @@ TellsSummary tip status written_old written_new t =
 abbrev pub Summarizes : Node → Option (List Op) → Tree → ℕ → Option (List ℕ) → Option (List ℕ) → Type 0
 Summarizes tip log start status written_old written_new = OfTree log start (TellsSummary tip status written_old written_new) ⊎ RefusesReport ⊤ log start status written_old written_new
 
--- what is said of the commits: where all are done, what they came to; else the answer of the one that is not, and files are left over
--- only where this cause was there
-abbrev pub TellsGrown : Type 0 → Result Node Stop → Option (List Op) → Tree → ℕ → Option (List ℕ) → Option (List ℕ) → Type 0
-TellsGrown Cause (Ok tip) log start status written_old written_new = Summarizes tip log start status written_old written_new
-TellsGrown Cause (Err stops.Memory) log start status written_old written_new = EndsLine memory_line 30 status written_old written_new
-TellsGrown Cause (Err (stops.Answered command answer)) log start status written_old written_new = (answer.swept ≡ false → Cause) × EndsLine (answer_text command answer) (answer_status answer.outcome) status written_old written_new
+-- what is said of the commits: where all are done, what they came to; else the answer of the one that is not, and as many calls were
+-- refused as it tells of
+abbrev pub TellsGrown : (ℕ → Type 0) → Bool → Result Node Stop → Option (List Op) → Tree → ℕ → Option (List ℕ) → Option (List ℕ) → Type 0
+TellsGrown AreRefused told (Ok tip) log start status written_old written_new = Summarizes tip log start status written_old written_new
+TellsGrown AreRefused told (Err stops.Memory) log start status written_old written_new = EndsLine memory_line 30 status written_old written_new
+TellsGrown AreRefused told (Err (stops.Answered command answer)) log start status written_old written_new = AreRefused (refusals_of told answer) × EndsLine (answer_text command answer) (answer_status answer.outcome) status written_old written_new
 
 -- the commits are made one after another, and then all is verified
-abbrev pub Grows : Type 0 → ℕ → ℕ → Option (List Op) → Option (List Op) → Tree → ℕ → Option (List ℕ) → Option (List ℕ) → Type 0
-Grows Cause seed count old new start status written_old written_new =
-    (grown : Result Node Stop) × GoesOn old new (GrowsTo lock_text seed count grown (tree_now old start)) × TellsGrown Cause grown new start status written_old written_new
+abbrev pub Grows : (ℕ → Type 0) → ℕ → ℕ → Option (List Op) → Option (List Op) → Tree → ℕ → Option (List ℕ) → Option (List ℕ) → Type 0
+Grows AreRefused seed count old new start status written_old written_new =
+    (grown : Result Node Stop) × GoesOn old new (GrowsTo lock_text seed count grown (tree_now old start)) × TellsGrown AreRefused (is_some old) grown new start status written_old written_new
 
 abbrev pub IsNotMade : Ended → Type 0
 IsNotMade Made = ⊥
 IsNotMade ended = ⊤
 
 -- A repository is made as by `init`, and where it is, it grows.
-abbrev pub Generates : Type 0 → ℕ → ℕ → Option (List Op) → Option (List Op) → Tree → ℕ → Option (List ℕ) → Option (List ℕ) → Type 0
-Generates Cause seed count old new start status written_old written_new =
+abbrev pub Generates : (ℕ → Type 0) → ℕ → ℕ → Option (List Op) → Option (List Op) → Tree → ℕ → Option (List ℕ) → Option (List ℕ) → Type 0
+Generates AreRefused seed count old new start status written_old written_new =
     ((ended : Ended) × ComesTo do_init None old new start ended × IsNotMade ended × EndsLine (ended_text ended) (ended_status ended) status written_old written_new)
-    ⊎ ((made : Option (List Op)) × ComesTo do_init None old made start Made × Grows Cause seed count made new start status written_old written_new)
+    ⊎ ((made : Option (List Op)) × ComesTo do_init None old made start Made × Grows AreRefused seed count made new start status written_old written_new)
 
--- A run that has something to do does it; a question, and words that don't fit, change no file. Files are left over only where this
--- cause was there.
-abbrev pub Obeys : Type 0 → Result Request ℕ → Option (List ℕ) → Option (List Op) → Option (List Op) → Tree → ℕ → Option (List ℕ) → Option (List ℕ) → Type 0
-Obeys Cause (Ok (to_do job)) left old new start status written_old written_new = Does Cause job left old new start status written_old written_new
-Obeys Cause (Ok (to_answer question)) left old new start status written_old written_new = new ≡ old
-Obeys Cause (Ok to_play) left old new start status written_old written_new = new ≡ old
-Obeys Cause (Ok to_session) left old new start status written_old written_new = ⊤
-Obeys Cause (Ok (to_verify jobs)) left old new start status written_old written_new = new ≡ old
-Obeys Cause (Ok (to_generate seed count)) left old new start status written_old written_new = Generates Cause seed count old new start status written_old written_new
-Obeys Cause (Err place) left old new start status written_old written_new = new ≡ old
+-- A run that has something to do does it, and as many calls are refused as its answer tells of; a question, and words that don't fit,
+-- change no file.
+abbrev pub Obeys : (ℕ → Type 0) → Result Request ℕ → Option (List ℕ) → Option (List Op) → Option (List Op) → Tree → ℕ → Option (List ℕ) → Option (List ℕ) → Type 0
+Obeys AreRefused (Ok (to_do job)) left old new start status written_old written_new = Does AreRefused job left old new start status written_old written_new
+Obeys AreRefused (Ok (to_answer question)) left old new start status written_old written_new = new ≡ old
+Obeys AreRefused (Ok to_play) left old new start status written_old written_new = new ≡ old
+Obeys AreRefused (Ok to_session) left old new start status written_old written_new = ⊤
+Obeys AreRefused (Ok (to_verify jobs)) left old new start status written_old written_new = new ≡ old
+Obeys AreRefused (Ok (to_generate seed count)) left old new start status written_old written_new = Generates AreRefused seed count old new start status written_old written_new
+Obeys AreRefused (Err place) left old new start status written_old written_new = new ≡ old
 
 -- only a commit reads the input
 abbrev pub LeavesInput : Job → Option (List ℕ) → Option (List ℕ) → ℕ → ℕ → Type 0

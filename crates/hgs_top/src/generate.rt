@@ -4,6 +4,7 @@ ghost use Rattle.hgs_files.specs.Reads.{Rose};
 ghost use Rattle.hgs_files.specs.declared.op.Op.{Op};
 ghost use Rattle.hgs_index.specs.Hex.{hex};
 ghost use Rattle.hgs_judge.specs.Report.{findings_in};
+ghost use Rattle.hgs_machine.specs.Refusals.{WereRefused};
 ghost use Rattle.hgs_top.specs.Orders.{Generates, Grows, Summarizes};
 ghost use Rattle.hgs_top.specs.Run.{EndsLine, IsOneOf};
 ghost use Rattle.hgs_top.specs.Verified.{report_status, summary_text};
@@ -86,7 +87,7 @@ fn grow<T: Threads + Sync, F: Files, K: Sink>(
     requires some { 1 ≤ count }
     requires few { count ≤ 5000 }
     requires allows { (log : List Op) → F.allows (F.start files.old) log }
-    ensures grows { Grows (Rose (F.faults files.old) (F.faults files.new) ⊎ Rose (F.denied files.old) (F.denied files.new)) seed count (F.log files.old) (F.log files.new) (F.start files.old) result (K.written out.old) (K.written out.new) }
+    ensures grows { Grows (λ n. WereRefused n (F.faults files.old) (F.faults files.new) (F.denied files.old) (F.denied files.new)) seed count (F.log files.old) (F.log files.new) (F.start files.old) result (K.written out.old) (K.written out.new) }
     ensures fault { result ≡ 16 → Rose (F.faults files.old) (F.faults files.new) }
     ensures unfinished { result ≡ 17 → Rose (F.faults files.old) (F.faults files.new) ⊎ Rose (F.denied files.old) (F.denied files.new) }
     ensures no_input { (a b : ℕ) → result ≡ 18 → Rose a b }
@@ -116,7 +117,7 @@ pub fn run_generate<T: Threads + Sync, F: Files, K: Sink>(
     requires some { 1 ≤ count }
     requires few { count ≤ 5000 }
     requires allows { (log : List Op) → F.allows (F.start files.old) log }
-    ensures generates { Generates (Rose (F.faults files.old) (F.faults files.new) ⊎ Rose (F.denied files.old) (F.denied files.new)) seed count (F.log files.old) (F.log files.new) (F.start files.old) result (K.written out.old) (K.written out.new) }
+    ensures generates { Generates (λ n. WereRefused n (F.faults files.old) (F.faults files.new) (F.denied files.old) (F.denied files.new)) seed count (F.log files.old) (F.log files.new) (F.start files.old) result (K.written out.old) (K.written out.new) }
     ensures fault { result ≡ 16 → Rose (F.faults files.old) (F.faults files.new) }
     ensures unfinished { result ≡ 17 → Rose (F.faults files.old) (F.faults files.new) ⊎ Rose (F.denied files.old) (F.denied files.new) }
     ensures no_input { (a b : ℕ) → result ≡ 18 → Rose a b }

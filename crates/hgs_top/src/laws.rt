@@ -23,6 +23,7 @@ ghost use Rattle.hgs_top.specs.Words.{Job, Question, request_of_words, to_do};
 ghost use Rattle.hgs_answers.specs.declared.answer.Answer.{Answer};
 ghost use Rattle.hgs_files.specs.declared.op.Op.{Op};
 ghost use Rattle.hgs_files.specs.Tree.{after_all};
+ghost use Rattle.hgs_machine.specs.Refusals.{WereRefused};
 ghost use Rattle.hgs_model.specs.Valid.{IsValid};
 ghost use Rattle.hgs_model.specs.declared.command.Command.{Command};
 ghost use Rattle.hgs_stands.specs.Stands.{Stands};
@@ -98,7 +99,7 @@ pub fn answered_commands_make_histories()
 /// So a run that did what its words ask for, if that is a command whose operations are those of a transaction, made pieces of a
 /// legal log of the repository that the files stood for, or nothing.
 pub fn runs_make_histories()
-    ensures { (words : List (List ℕ)) (left : Option (List ℕ)) (old new : Option (List Op)) (start : Tree) (status : ℕ) (written_old written_new : Option (List ℕ)) (faults_old faults_new denied_old denied_new : ℕ) → Obeys (Rose faults_old faults_new ⊎ Rose denied_old denied_new) (request_of_words words) left old new start status written_old written_new → MakesHistory words left old new start }
+    ensures { (words : List (List ℕ)) (left : Option (List ℕ)) (old new : Option (List Op)) (start : Tree) (status : ℕ) (written_old written_new : Option (List ℕ)) (faults_old faults_new denied_old denied_new : ℕ) → Obeys (λ n. WereRefused n faults_old faults_new denied_old denied_new) (request_of_words words) left old new start status written_old written_new → MakesHistory words left old new start }
 {
     commands_are_valid();
     answered_commands_make_histories();

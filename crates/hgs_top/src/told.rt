@@ -2,6 +2,7 @@
 ghost use Rattle.std.specs.Prelude.{◌≡◌, ◌⊎◌, ◌∷◌, [], List};
 ghost use Rattle.hgs_files.specs.Reads.{Rose};
 ghost use Rattle.hgs_files.specs.declared.op.Op.{Op};
+ghost use Rattle.hgs_machine.specs.Refusals.{WereRefused};
 ghost use Rattle.hgs_top.specs.Orders.{Does, HasCause, IsFit, IsReadBy, LeavesInput, ended_status, ended_text};
 ghost use Rattle.hgs_top.specs.Run.{EndsLine, IsOneOf};
 ghost use Rattle.hgs_top.specs.Words.{job_of};
@@ -37,7 +38,7 @@ pub fn run_order<F: Files, S: Source, K: Sink>(
 ) -> u8
     requires fit { IsFit order }
     requires allows { (log : List Op) → F.allows (F.start files.old) log }
-    ensures does { Does (Rose (F.faults files.old) (F.faults files.new) ⊎ Rose (F.denied files.old) (F.denied files.new)) (job_of order.entry) (S.left input.old) (F.log files.old) (F.log files.new) (F.start files.old) result (K.written out.old) (K.written out.new) }
+    ensures does { Does (λ n. WereRefused n (F.faults files.old) (F.faults files.new) (F.denied files.old) (F.denied files.new)) (job_of order.entry) (S.left input.old) (F.log files.old) (F.log files.new) (F.start files.old) result (K.written out.old) (K.written out.new) }
     ensures fault { result ≡ 16 → Rose (F.faults files.old) (F.faults files.new) }
     ensures unfinished { result ≡ 17 → Rose (F.faults files.old) (F.faults files.new) ⊎ Rose (F.denied files.old) (F.denied files.new) }
     ensures failed { result ≡ 18 → Rose (S.faults input.old) (S.faults input.new) }

@@ -10,3 +10,4 @@ pub mod CleanLemmas
 pub mod StandingLemmas
 pub mod OutcomeLemmas
 pub mod RefusalLemmas
+pub mod AllowedLemmas

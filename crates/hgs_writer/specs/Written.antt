@@ -1,5 +1,6 @@
 -- What a call leaves in the log of the files, by its answer.
 use Rattle.std.specs.Prelude.{◌≡◌, ℕ, List, ◌++◌, Option, Some, None, Ok, Err}
+use Rattle.std.specs.Option.{ForSome}
 use Rattle.hgs_answers.specs.declared.answer.Answer.{Answer}
 use Rattle.hgs_commit.specs.declared.fault.CommitFault.{CommitFault}
 use Rattle.hgs_files.specs.declared.op.Op.{Op}
@@ -36,3 +37,8 @@ pub data IsWrittenFor (who : List ℕ) (command : Command) (t : Tree) (answer : 
   has_no_plan : (done : List Op) → IsRefused who command t answer done → IsWrittenFor who command t answer None done
   has_plan : (planned : Planned) (locking carrying done : List Op) → AreLocked who t locking → Plans command (after_all locking t) (Ok planned) → IsCarriedOut (after_all locking t) planned answer carrying
       → done ≡ locking ++ carrying → IsWrittenFor who command t answer (Some (planned.rev, planned.node)) done
+
+-- The files take whatever a call may leave from the tree now.
+abbrev pub MayWrite : List ℕ → Command → Option (List Op) → (List Op → Type 0) → Tree → Type 0
+MayWrite who command log allows start =
+    ForSome log (λ l. (answer : Answer) (changeset : Option (ℕ × Node)) (done : List Op) → IsWrittenFor who command (after_all l start) answer changeset done → allows (l ++ done))

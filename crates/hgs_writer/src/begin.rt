@@ -1,9 +1,8 @@
 //! The beginning of a command that writes: up to its plan.
-ghost use Rattle.std.specs.Prelude.{◌≡◌, ◌≤◌, List, length, is_some};
+ghost use Rattle.std.specs.Prelude.{◌≡◌, ◌≤◌, length, is_some};
 ghost use Rattle.std.specs.Option.{ForSome};
 ghost use Rattle.hgs_answers.specs.declared.outcome.Outcome.TheVariants.{Fault, Unfinished};
 ghost use Rattle.hgs_answers.specs.declared.outcome.Published.{Published};
-ghost use Rattle.hgs_files.specs.declared.op.Op.{Op};
 ghost use Rattle.hgs_files.specs.Files.{GoesOn};
 ghost use Rattle.hgs_files.specs.Reads.{Rose};
 ghost use Rattle.hgs_files.specs.Tree.{after_all};
@@ -13,6 +12,7 @@ ghost use Rattle.hgs_machine.specs.Refusals.{WereRefused};
 ghost use Rattle.hgs_model.specs.Valid.{IsValid};
 ghost use Rattle.hgs_writer.specs.Begun.{Begins, IfReady, IfRefused};
 ghost use Rattle.hgs_writer.specs.Refusals.{refusals_of};
+ghost use Rattle.hgs_writer.specs.Written.{MayWrite};
 
 use crate::answers::{of_commit, of_locks};
 use crate::plan::{Planned, plan};
@@ -37,7 +37,7 @@ pub fn begin<F: Files>(alloc: Global, files: &mut F, command: &Command, who: &[u
     requires valid { IsValid command.now }
     requires least { 1 ≤ length who.now }
     requires most { length who.now ≤ 255 }
-    requires allows { (log : List Op) → F.allows (F.start files.old) log }
+    requires allows { MayWrite who.now command.now (F.log files.old) (F.allows (F.start files.old)) (F.start files.old) }
     ensures log { GoesOn (F.log files.old) (F.log files.new) (Begins who.now command.now (tree_now (F.log files.old) (F.start files.old)) result) }
     ensures planned { IfReady result (λ planned. ForSome (F.log files.new) (λ log. IsPlanned (after_all log (F.start files.new)) planned.plan)) }
     ensures fault { IfRefused result (λ answer. answer.outcome ≡ Fault → Rose (F.faults files.old) (F.faults files.new)) }

@@ -1,17 +1,16 @@
 //! A command that writes.
-ghost use Rattle.std.specs.Prelude.{◌≡◌, ◌≤◌, ◌⊎◌, Bool, List, length, is_some};
+ghost use Rattle.std.specs.Prelude.{◌≡◌, ◌≤◌, ◌⊎◌, Bool, length, is_some};
 ghost use Rattle.hgs_answers.specs.declared.outcome.Outcome.TheVariants.{Fault, Unfinished};
 ghost use Rattle.hgs_answers.specs.declared.outcome.Published.{Published};
-ghost use Rattle.hgs_files.specs.declared.op.Op.{Op};
 ghost use Rattle.hgs_files.specs.Reads.{Rose};
 ghost use Rattle.std.specs.Option.{ForSome};
 ghost use Rattle.hgs_files.specs.Tree.{after_all};
 ghost use Rattle.hgs_machine.specs.Planned.{IsPlanned};
 ghost use Rattle.hgs_machine.specs.Refusals.{WereRefused};
-ghost use Rattle.hgs_machine.specs.Carry.{tree_now};
+ghost use Rattle.hgs_machine.specs.Carry.{MayCarry, tree_now};
 ghost use Rattle.hgs_files.specs.Files.{GoesOn};
 ghost use Rattle.hgs_writer.specs.Refusals.{refusals_of};
-ghost use Rattle.hgs_writer.specs.Written.{IsCarriedOut, IsWritten, IsWrittenFor};
+ghost use Rattle.hgs_writer.specs.Written.{IsCarriedOut, IsWritten, IsWrittenFor, MayWrite};
 ghost use Rattle.hgs_model.specs.Valid.{IsValid};
 
 use crate::answers::of_ended;
@@ -26,7 +25,7 @@ use std::alloc::Global;
 
 // Carries out what was planned.
 fn carried<F: Files>(files: &mut F, planned: Planned) -> Answer
-    requires allows { (log : List Op) → F.allows (F.start files.old) log }
+    requires allows { MayCarry (F.log files.old) (F.allows (F.start files.old)) (F.start files.old) planned.plan }
     requires planned { ForSome (F.log files.old) (λ log. IsPlanned (after_all log (F.start files.old)) planned.plan) }
     ensures log { GoesOn (F.log files.old) (F.log files.new) (IsCarriedOut (tree_now (F.log files.old) (F.start files.old)) planned result) }
     ensures fault { result.outcome ≡ Fault → Rose (F.faults files.old) (F.faults files.new) }
@@ -52,12 +51,13 @@ pub struct Written {
 }
 
 /// Carries out a command: takes the locks, with these bytes in them, reads what the command needs, plans its transaction and
-/// does the plan's operations. Where it is refused before that, the locks that were made are removed again.
+/// does the plan's operations. Where it is refused before that, the locks that were made are removed again. The files need take no more
+/// than what such a call may leave.
 pub fn write_told<F: Files>(alloc: Global, files: &mut F, command: &Command, who: &[u8]) -> Written
     requires valid { IsValid command.now }
     requires least { 1 ≤ length who.now }
     requires most { length who.now ≤ 255 }
-    requires allows { (log : List Op) → F.allows (F.start files.old) log }
+    requires allows { MayWrite who.now command.now (F.log files.old) (F.allows (F.start files.old)) (F.start files.old) }
     ensures log { GoesOn (F.log files.old) (F.log files.new) (IsWrittenFor who.now command.now (tree_now (F.log files.old) (F.start files.old)) result.answer result.changeset) }
     ensures fault { result.answer.outcome ≡ Fault → Rose (F.faults files.old) (F.faults files.new) }
     ensures unfinished { (published : Published) → result.answer.outcome ≡ Unfinished published → Rose (F.faults files.old) (F.faults files.new) ⊎ Rose (F.denied files.old) (F.denied files.new) }
@@ -86,7 +86,7 @@ pub fn write<F: Files>(alloc: Global, files: &mut F, command: &Command, who: &[u
     requires valid { IsValid command.now }
     requires least { 1 ≤ length who.now }
     requires most { length who.now ≤ 255 }
-    requires allows { (log : List Op) → F.allows (F.start files.old) log }
+    requires allows { MayWrite who.now command.now (F.log files.old) (F.allows (F.start files.old)) (F.start files.old) }
     ensures log { GoesOn (F.log files.old) (F.log files.new) (IsWritten who.now command.now (tree_now (F.log files.old) (F.start files.old)) result) }
     ensures fault { result.outcome ≡ Fault → Rose (F.faults files.old) (F.faults files.new) }
     ensures unfinished { (published : Published) → result.outcome ≡ Unfinished published → Rose (F.faults files.old) (F.faults files.new) ⊎ Rose (F.denied files.old) (F.denied files.new) }

@@ -1,3 +1,4 @@
+use Rattle.std.specs.Prelude.{is_some}
 use Rattle.std.proofs.Common.{◌≡◌, ℕ, List, Some, Ok, Err, ◌∙◌, ap, subst, arith}
 use Rattle.hgs_files.specs.declared.op.Op.{Op}
 use Rattle.hgs_files.specs.Tree.{Tree, after_all}
@@ -5,8 +6,8 @@ use Rattle.hgs_gen.specs.declared.generator.Generator.{Generator}
 use Rattle.hgs_machine.specs.Carry.{tree_now}
 use Rattle.hgs_grown.specs.declared.commits.Growing.{Growing}
 use Rattle.hgs_grown.specs.Grown.{AreCommitted, CommitsNext, GrowsTo}
-use Rattle.hgs_grown.proofs.GoLemmas.{as-well, then}
-use Rattle.hgs_grown.proofs.GrowLemmas.{goes-behind, goes-first, stops-behind, stops-first}
+use Rattle.hgs_grown.proofs.GoLemmas.{as-well, then, told-on}
+use Rattle.hgs_grown.proofs.GrowLemmas.{cause-since, goes-behind, goes-first, stops-behind, stops-first}
 use Rattle.hgs_grown.proofs.commits.commit_all.Goals as goal
 
 pub returns-in-Err-clause-log : goal.returns-in-Err-clause-log
@@ -45,6 +46,14 @@ returns-in-Err-commit_next-clause-log g c =
     then (g.F.Files.log c.args.store.now) (g.F.Files.log c.loop-growing.store) (g.F.Files.log c.commit_next-in-loop-growing.new.store) (g.F.Reads.start c.args.store.now) (g.F.Reads.start c.loop-growing.store) P (Q now.seed) (GrowsTo who seed c.args.count (Err stop)) i.same_start
     (λ t a b before h. stops-behind Growing who seed c.args.count stop now.generator.made (Some c.loop-growing.last) t a b c.loop-growing-test.true before (subst (λ s. Q s (after_all a t) b) i.seed h))
     i.log c.in-Err-commit_next.ensures.log
+
+pub returns-in-Err-commit_next-clause-cause : goal.returns-in-Err-commit_next-clause-cause
+returns-in-Err-commit_next-clause-cause g c =
+    let i = c.loop-growing.invariant in
+    let old = g.F.Files.log c.args.store.now in
+    let now = g.F.Files.log c.loop-growing.store in
+    cause-since (is_some old) (is_some now) c.in-Err-commit_next.stop (g.F.Reads.faults c.args.store.now) (g.F.Reads.faults c.loop-growing.store) (g.F.Reads.faults c.commit_next-in-loop-growing.new.store) (g.F.Reads.denied c.args.store.now) (g.F.Reads.denied c.loop-growing.store)
+    (g.F.Reads.denied c.commit_next-in-loop-growing.new.store) (told-on old now _ i.log) i.later i.denied c.in-Err-commit_next.ensures.cause
 
 pub loop-growing-preserved : goal.loop-growing-preserved
 loop-growing-preserved g c =

@@ -1,10 +1,8 @@
 use Rattle.std.proofs.Common.{◌≡◌, ◌+◌, suc, refl, sym, ◌∙◌, ap, subst, arith}
-use Rattle.std.specs.Prelude.{is_some}
 use Rattle.hgs_gen.specs.Generated.{files_after, generated, next_number, number_after}
 use Rattle.hgs_machine.specs.Carry.{tree_now}
 use Rattle.hgs_model.specs.declared.command.Command.TheVariants.{Commit}
 use Rattle.hgs_model.specs.declared.command.NewChange.{NewChange}
-use Rattle.hgs_writer.specs.Theorems.LeftLemmas.{left_cause}
 use Rattle.hgs_writer.specs.Written.{IsWritten}
 use Rattle.hgs_grown.proofs.GoLemmas.{as-well}
 use Rattle.hgs_grown.proofs.GrowLemmas.{is-generated}
@@ -18,12 +16,7 @@ returns-in_default-outcome g c =
     record {
       made = tt;
       log = as-well (g.F.Files.log c.args.store.now) (g.F.Files.log c.write-answer.new.files) _ _ (λ ops w. (ap Commit is, w, c.in_default-outcome.not-Done)) c.write-answer.ensures.log;
-      cause = (
-        c.write-answer.ensures.fault,
-        c.write-answer.ensures.unfinished,
-        left_cause (is_some (g.F.Files.log c.args.store.now)) c.write-answer.result (g.F.Reads.faults c.args.store.now) (g.F.Reads.faults c.write-answer.new.files) (g.F.Reads.denied c.args.store.now) (g.F.Reads.denied c.write-answer.new.files)
-            c.write-answer.ensures.calls,
-      );
+      cause = (c.write-answer.ensures.fault, c.write-answer.ensures.unfinished, c.write-answer.ensures.calls);
       later = c.write-answer.ensures.later;
       denied = c.write-answer.ensures.denied;
       same_start = c.write-answer.ensures.same_start;

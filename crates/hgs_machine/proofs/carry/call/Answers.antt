@@ -1,8 +1,13 @@
 use Rattle.std.proofs.Common.{sym, ◌∙◌}
 use Rattle.hgs_machine.specs.Asked.{asked}
 use Rattle.hgs_machine.specs.Carry.{tree_now}
+use Rattle.hgs_machine.proofs.Allowed.{may-do}
 use Rattle.hgs_machine.proofs.Carrying.{asked-do, asked-size, fits-reply, op-replied, size-replied, source-stands}
 use Rattle.hgs_machine.proofs.carry.call.Goals as goal
+
+pub do_op-requires-clause-allowed : goal.do_op-requires-clause-allowed
+do_op-requires-clause-allowed g c =
+    may-do (g.F.Files.log c.args.files.now) (g.F.Files.allows (g.F.Reads.start c.args.files.now)) (asked c.args.machine.now) c.in-Do.op.now (asked-do (asked c.args.machine.now) _ c.in-Do.op c.in-Do.ensures.question) c.requires.allowed
 
 pub do_op-requires-clause-source : goal.do_op-requires-clause-source
 do_op-requires-clause-source g c = λ log told. source-stands _ c.args.machine.now c.in-Do.op.now (asked-do (asked c.args.machine.now) _ c.in-Do.op c.in-Do.ensures.question) (c.requires.under_way log told)

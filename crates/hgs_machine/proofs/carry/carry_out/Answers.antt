@@ -1,5 +1,6 @@
 use Rattle.std.proofs.Common.{◌∙◌}
 use Rattle.hgs_machine.specs.Carry.{tree_now}
+use Rattle.hgs_machine.proofs.Allowed.{may-ask}
 use Rattle.hgs_machine.proofs.Counting.{carried-refused}
 use Rattle.hgs_machine.proofs.Carrying.{ends-carried, goes-on-step, is-under-way}
 use Rattle.hgs_machine.proofs.carry.carry_out.Goals as goal
@@ -7,6 +8,11 @@ use Rattle.hgs_machine.proofs.carry.carry_out.Goals as goal
 pub step-requires-clause-under_way : goal.step-requires-clause-under_way
 step-requires-clause-under_way g c = λ log told.
     is-under-way (g.F.Files.log c.args.files.now) (g.F.Files.log c.loop.files) (g.F.Reads.start c.args.files.now) (g.F.Reads.start c.loop.files) c.loop.machine log c.loop.invariant.same_start told c.loop.invariant.log
+
+pub step-requires-clause-allowed : goal.step-requires-clause-allowed
+step-requires-clause-allowed g c =
+    let i = c.loop.invariant in
+    may-ask g.F.Files.allows (g.F.Files.log c.args.files.now) (g.F.Files.log c.loop.files) (g.F.Reads.start c.args.files.now) (g.F.Reads.start c.loop.files) c.loop.machine c.args.plan i.plan i.same_start c.requires.allowed i.log
 
 pub loop-preserved : goal.loop-preserved
 loop-preserved g c =

@@ -2,7 +2,9 @@ use Rattle.std.proofs.Common.{map, sym, subst}
 use Rattle.std.specs.String.{string_bytes}
 use Rattle.hgs_top.specs.Given.{ReadsAsked}
 use Rattle.hgs_top.specs.Words.{request_of_words}
+use Rattle.hgs_machine.specs.Refusals.{WereRefused}
 use Rattle.hgs_top.specs.Histories.{MakesHistory}
+use Rattle.hgs_top.specs.Orders.{Obeys}
 use Rattle.hgs_run.proofs.alone.run_alone.Goals as goal
 
 pub returns-clause-history : goal.returns-clause-history
@@ -21,3 +23,16 @@ returns-clause-given g c =
     let after = c.run_words-status.new.files in
     subst (λ f. ReadsAsked request (g.Y.A.Reads.given before) (g.Y.A.Reads.given f) (g.Y.A.Reads.seen before) (g.Y.A.Reads.start before) (g.Y.A.Reads.seen f)) (sym c.again.ensures)
     (subst (λ f. ReadsAsked request (g.Y.A.Reads.given f) (g.Y.A.Reads.given after) (g.Y.A.Reads.seen f) (g.Y.A.Reads.start f) (g.Y.A.Reads.seen after)) c.alone-files.ensures c.run_words-status.ensures.given)
+
+pub returns-clause-orders : goal.returns-clause-orders
+returns-clause-orders g c =
+    let request = request_of_words (map string_bytes c.args.words.now) in
+    let left = g.S.Source.left c.args.input.now in
+    let before = g.Y.Yard.files c.args.yard in
+    let after = c.run_words-status.new.files in
+    let status = c.run_words-status.result in
+    let old = g.K.Sink.written c.args.out.now in
+    let new = g.K.Sink.written c.run_words-status.new.out in
+    subst (λ f. Obeys (λ n. WereRefused n (g.Y.A.Reads.faults before) (g.Y.A.Reads.faults f) (g.Y.A.Reads.denied before) (g.Y.A.Reads.denied f)) request left (g.Y.A.Files.log before) (g.Y.A.Files.log f) (g.Y.A.Reads.start before) status old new) (sym c.again.ensures)
+    (subst (λ f. Obeys (λ n. WereRefused n (g.Y.A.Reads.faults f) (g.Y.A.Reads.faults after) (g.Y.A.Reads.denied f) (g.Y.A.Reads.denied after)) request left (g.Y.A.Files.log f) (g.Y.A.Files.log after) (g.Y.A.Reads.start f) status old new) c.alone-files.ensures
+    c.run_words-status.ensures.orders)

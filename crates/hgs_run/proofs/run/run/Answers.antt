@@ -1,7 +1,8 @@
 use Rattle.std.proofs.Common.{map, sym, ◌∙◌}
 use Rattle.std.specs.String.{string_bytes}
+use Rattle.hgs_machine.specs.Refusals.{WereRefused}
 use Rattle.hgs_top.specs.Words.{request_of_words}
-use Rattle.hgs_run.proofs.Asked.{asked_keeps_yard, asked_makes_none, asked_reads, if_whole, if_whole_map, others_ask_none, others_keep_start, others_keep_yard}
+use Rattle.hgs_run.proofs.Asked.{asked_gives, asked_input, asked_keeps_yard, asked_makes_none, asked_obeys, asked_of_repository, asked_plays, asked_reads, asked_says, asked_starts, if_whole, if_whole_map, others_ask_none, others_keep_start, others_keep_yard}
 use Rattle.hgs_run.proofs.run.run.Goals as goal
 
 pub returns-then-asks_session-clause-history : goal.returns-then-asks_session-clause-history
@@ -9,6 +10,33 @@ returns-then-asks_session-clause-history g c =
     let is = sym c.asks_session.ensures ∙ c.if-asks_session.true in
     if_whole c.run_session.result.left
     (λ y. asked_makes_none (map string_bytes c.args.words.now) is (g.S.Source.left c.args.input.now) (g.Y.A.Files.log (g.Y.Yard.files c.args.yard)) (g.Y.A.Files.log (g.Y.Yard.files y)) (g.Y.A.Reads.start (g.Y.Yard.files c.args.yard)))
+
+pub returns-then-asks_session-clause-repository : goal.returns-then-asks_session-clause-repository
+returns-then-asks_session-clause-repository g c = asked_of_repository (request_of_words (map string_bytes c.args.words.now)) (sym c.asks_session.ensures ∙ c.if-asks_session.true) _ _ _ _ _ _
+
+pub returns-then-asks_session-clause-says : goal.returns-then-asks_session-clause-says
+returns-then-asks_session-clause-says g c = asked_says (request_of_words (map string_bytes c.args.words.now)) (sym c.asks_session.ensures ∙ c.if-asks_session.true) _ _ _ _ _ _
+
+pub returns-then-asks_session-clause-orders : goal.returns-then-asks_session-clause-orders
+returns-then-asks_session-clause-orders g c =
+    if_whole c.run_session.result.left
+    (λ y. asked_obeys (request_of_words (map string_bytes c.args.words.now)) (sym c.asks_session.ensures ∙ c.if-asks_session.true) (λ n. WereRefused n (g.Y.A.Reads.faults (g.Y.Yard.files c.args.yard)) (g.Y.A.Reads.faults (g.Y.Yard.files y)) (g.Y.A.Reads.denied (g.Y.Yard.files c.args.yard)) (g.Y.A.Reads.denied (g.Y.Yard.files y))) (g.S.Source.left c.args.input.now)
+    (g.Y.A.Files.log (g.Y.Yard.files c.args.yard)) (g.Y.A.Files.log (g.Y.Yard.files y)) (g.Y.A.Reads.start (g.Y.Yard.files c.args.yard)) c.run_session.result.status (g.K.Sink.written c.args.out.now) (g.K.Sink.written c.run_session.new.out))
+
+pub returns-then-asks_session-clause-given : goal.returns-then-asks_session-clause-given
+returns-then-asks_session-clause-given g c =
+    if_whole c.run_session.result.left
+    (λ y. asked_gives (request_of_words (map string_bytes c.args.words.now)) (sym c.asks_session.ensures ∙ c.if-asks_session.true) (g.Y.A.Reads.given (g.Y.Yard.files c.args.yard)) (g.Y.A.Reads.given (g.Y.Yard.files y)) (g.Y.A.Reads.seen (g.Y.Yard.files c.args.yard)) (g.Y.A.Reads.start (g.Y.Yard.files c.args.yard)) (g.Y.A.Reads.seen (g.Y.Yard.files y)))
+
+pub returns-then-asks_session-clause-same_start : goal.returns-then-asks_session-clause-same_start
+returns-then-asks_session-clause-same_start g c =
+    if_whole c.run_session.result.left (λ y. asked_starts (request_of_words (map string_bytes c.args.words.now)) (sym c.asks_session.ensures ∙ c.if-asks_session.true) (g.Y.A.Reads.start (g.Y.Yard.files c.args.yard)) (g.Y.A.Reads.start (g.Y.Yard.files y)))
+
+pub returns-then-asks_session-clause-input : goal.returns-then-asks_session-clause-input
+returns-then-asks_session-clause-input g c = asked_input (request_of_words (map string_bytes c.args.words.now)) (sym c.asks_session.ensures ∙ c.if-asks_session.true) _ _ _ _
+
+pub returns-then-asks_session-clause-plays : goal.returns-then-asks_session-clause-plays
+returns-then-asks_session-clause-plays g c = asked_plays (request_of_words (map string_bytes c.args.words.now)) (sym c.asks_session.ensures ∙ c.if-asks_session.true) _ _ _ _
 
 pub returns-then-asks_session-clause-session : goal.returns-then-asks_session-clause-session
 returns-then-asks_session-clause-session g c = λ asked. c.run_session.ensures.session

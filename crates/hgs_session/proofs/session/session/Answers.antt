@@ -2,7 +2,7 @@ use Rattle.std.proofs.Common.{[], refl}
 use Rattle.std.proofs.Math.Logic.{∥∥₁_map}
 use Rattle.hgs_session.specs.Calls.{Beginning}
 use Rattle.hgs_session.proofs.BeginLemmas.{at_home, begun, comes_under, new_ones, rests_begun, rests_same, unbegun, unbegun_over}
-use Rattle.hgs_session.proofs.EndLemmas.{left_as}
+use Rattle.hgs_session.proofs.EndLemmas.{if_parts, left_as, of_one_start}
 use Rattle.hgs_session.proofs.session.session.Goals as goal
 
 pub returns-in_default-clause-comes : goal.returns-in_default-clause-comes
@@ -20,6 +20,13 @@ returns-in_default-clause-comes g c =
         told = tt;
       },
     ) ∣₁
+
+pub run-requires-clause-allows : goal.run-requires-clause-allows
+run-requires-clause-allows g c κs within =
+    let A = g.Y.Yard.files c.args.yard in
+    let w = c.in-Ok-start.w in
+    let x : Beginning = record { jobs = c.args.script.now.workers; start = g.Y.W.Reads.start w; first = record { log = g.Y.W.Files.log w; faults = g.Y.W.Reads.faults w; denied = g.Y.W.Reads.denied w } } in
+    c.requires.allows x refl (begun c.args.script.now.workers (g.Y.A.Files.log A) (g.Y.A.Reads.start A) (g.Y.A.Reads.faults A) (g.Y.A.Reads.denied A) (g.Y.W.Files.log w) (g.Y.W.Reads.start w) (g.Y.W.Reads.faults w) (g.Y.W.Reads.denied w) (g.Y.W.Reads.ties w) c.in-Ok-start.ensures.log c.in-Ok-start.ensures.counts).log_is
 
 pub run-requires-clause-homes : goal.run-requires-clause-homes
 run-requires-clause-homes g c κs within =
@@ -65,3 +72,11 @@ returns-in-Err-clause-comes g c =
         told = tt;
       },
     ) ∣₁
+
+pub returns-in-Ok-start-clause-parts : goal.returns-in-Ok-start-clause-parts
+returns-in-Ok-start-clause-parts g c =
+    let A = g.Y.Yard.files c.args.yard in
+    let start = c.in-Ok-start.w in
+    if_parts c.run.result.left
+    (λ w rs h. of_one_start (g.Y.A.Files.log A) (g.Y.A.Reads.start A) (g.Y.W.Files.log start) (g.Y.W.Reads.start start) (g.Y.W.Reads.ties start) (g.Y.W.Reads.ties w) (λ r. g.Y.R.Reads.ties r) rs c.in-Ok-start.ensures.log h)
+    c.run.ensures.parts

@@ -1,5 +1,5 @@
 use Rattle.std.proofs.Common.{◌∙◌, ap, subst}
-use Rattle.std.specs.Prelude.{Result, Err}
+use Rattle.std.specs.Prelude.{Result, Err, is_some}
 use Rattle.hgs_files.specs.Files.{GoesOn}
 use Rattle.hgs_index.specs.declared.node.Node.{Node}
 use Rattle.hgs_machine.specs.Carry.{tree_now}
@@ -12,10 +12,10 @@ use Rattle.hgs_top.proofs.generate.grow.Goals as goal
 pub returns-in-Err-Answered-clause-grows : goal.returns-in-Err-Answered-clause-grows
 returns-in-Err-Answered-clause-grows g c =
     let old = g.F.Files.log c.args.files.now in
-    let C : Stop → Type 0 = StopHasCause (g.F.Reads.faults c.args.files.now) (g.F.Reads.faults c.commit_all.new.store) (g.F.Reads.denied c.args.files.now) (g.F.Reads.denied c.commit_all.new.store) in
+    let C : Stop → Type 0 = StopHasCause (is_some old) (g.F.Reads.faults c.args.files.now) (g.F.Reads.faults c.commit_all.new.store) (g.F.Reads.denied c.args.files.now) (g.F.Reads.denied c.commit_all.new.store) in
     let cause = subst C c.in-Err-Answered.field-0-is c.in-Err-Answered.ensures.cause in
     let P : Result Node Stop → Type 0 = λ grown. GoesOn old (g.F.Files.log c.commit_all.new.store) (GrowsTo lock_text c.args.seed c.args.count grown (tree_now old (g.F.Reads.start c.args.files.now))) in (
       Err (Answered c.in-Err-Answered.command c.in-Err-Answered.answer),
       subst P (c.in-Err-Answered.is ∙ ap (λ (s : Stop). Err s) c.in-Err-Answered.field-0-is) c.commit_all.ensures.log,
-      ((λ left. cause.2 left), c.say.ensures.line),
+      (cause.2, c.say.ensures.line),
     )

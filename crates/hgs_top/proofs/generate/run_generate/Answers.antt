@@ -1,9 +1,9 @@
-use Rattle.std.proofs.Common.{None, ◌⊎◌, inl, inr, subst, arith}
-use Rattle.hgs_files.specs.Reads.{Rose}
+use Rattle.std.proofs.Common.{ℕ, None, inl, inr, subst, arith}
 use Rattle.hgs_files.specs.Tree.{Tree}
+use Rattle.hgs_machine.specs.Refusals.{WereRefused}
 use Rattle.hgs_top.specs.Orders.{Grows}
 use Rattle.hgs_top.proofs.EndedLemmas.{not-made, says_fault, says_no_input, says_unfinished, with_findings, says_status}
-use Rattle.hgs_top.proofs.LeftLemmas.{causes_later, grows_under}
+use Rattle.hgs_top.proofs.LeftLemmas.{grows_under, refused_later}
 use Rattle.hgs_top.proofs.generate.run_generate.Goals as goal
 
 pub returns-in-Made-clause-generates : goal.returns-in-Made-clause-generates
@@ -14,12 +14,14 @@ returns-in-Made-clause-generates g c =
     let d0 = g.F.Reads.denied c.args.files.now in
     let d1 = g.F.Reads.denied c.init.new.files in
     let d2 = g.F.Reads.denied c.grow.new.files in
-    let P : Tree → Type 0 = λ start. Grows (Rose f0 f2 ⊎ Rose d0 d2) c.args.seed c.args.count (g.F.Files.log c.init.new.files) (g.F.Files.log c.grow.new.files) start c.grow.result (g.K.Sink.written c.args.out.now) (g.K.Sink.written c.grow.new.out) in
+    let After : ℕ → Type 0 = λ n. WereRefused n f1 f2 d1 d2 in
+    let All : ℕ → Type 0 = λ n. WereRefused n f0 f2 d0 d2 in
+    let P : Tree → Type 0 = λ start. Grows All c.args.seed c.args.count (g.F.Files.log c.init.new.files) (g.F.Files.log c.grow.new.files) start c.grow.result (g.K.Sink.written c.args.out.now) (g.K.Sink.written c.grow.new.out) in
     inr (
       g.F.Files.log c.init.new.files,
       c.in-Made.ensures.comes None,
       subst P c.init.ensures.same_start
-          (grows_under (Rose f1 f2 ⊎ Rose d1 d2) (Rose f0 f2 ⊎ Rose d0 d2) (causes_later f0 f1 f2 d0 d1 d2 c.init.ensures.counts.faults c.init.ensures.counts.denied) c.args.seed c.args.count (g.F.Files.log c.init.new.files) (g.F.Files.log c.grow.new.files) _ c.grow.result
+          (grows_under After All (refused_later f0 f1 f2 d0 d1 d2 c.init.ensures.counts.faults c.init.ensures.counts.denied) c.args.seed c.args.count (g.F.Files.log c.init.new.files) (g.F.Files.log c.grow.new.files) _ c.grow.result
           (g.K.Sink.written c.args.out.now) (g.K.Sink.written c.grow.new.out) c.grow.ensures.grows),
     )
 

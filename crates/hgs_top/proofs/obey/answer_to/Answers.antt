@@ -1,4 +1,5 @@
 use Rattle.std.proofs.Common.{◌≡◌, List, Option, Ok, Err, sym, ◌∙◌, subst}
+use Rattle.std.specs.Prelude.{is_some}
 use Rattle.hgs_bytes.specs.Answer.{Gives}
 use Rattle.hgs_files.specs.Files.{GoesOn}
 use Rattle.hgs_files.specs.Tree.{Tree}
@@ -6,9 +7,12 @@ use Rattle.hgs_files.specs.declared.op.Op.{Op}
 use Rattle.hgs_loading.specs.Found.{required_in}
 use Rattle.hgs_load.specs.Answer.{is_of_outside}
 use Rattle.hgs_machine.specs.Carry.{tree_now}
+use Rattle.hgs_machine.specs.Refusals.{WereRefused}
 use Rattle.hgs_top.specs.Orders.{lock_text}
+use Rattle.hgs_writer.specs.Refusals.{refusals_of}
 use Rattle.hgs_writer.specs.Written.{IsWritten}
 use Rattle.hgs_top.proofs.FoundLemmas.{of_found}
+use Rattle.hgs_top.proofs.LeftLemmas.{refused_later}
 use Rattle.hgs_top.proofs.obey.answer_to.Goals as goal
 
 pub returns-in-Ok-clause-comes : goal.returns-in-Ok-clause-comes
@@ -22,6 +26,19 @@ returns-in-Ok-clause-comes g c =
           (e.still alone ∙ g.met.F.Files.latest c.args.files.now) e.same_start (e.found alone),
       subst (λ start. P old start) e.same_start (subst (λ log. P log (g.F.Reads.start c.test_requires.new.files)) same c.written.ensures.log),
     )
+
+pub returns-in-Ok-clause-calls : goal.returns-in-Ok-clause-calls
+returns-in-Ok-clause-calls g c =
+    let e = c.in-Ok.ensures in
+    let answer = c.written.result in
+    let f1 = g.F.Reads.faults c.test_requires.new.files in
+    let f2 = g.F.Reads.faults c.written.new.files in
+    let d1 = g.F.Reads.denied c.test_requires.new.files in
+    let d2 = g.F.Reads.denied c.written.new.files in
+    let old = g.F.Files.log c.args.files.now in
+    let same = sym (g.met.F.Files.latest c.test_requires.new.files) ∙ e.still g.met.F.Files.only_writer ∙ g.met.F.Files.latest c.args.files.now in
+    refused_later (g.F.Reads.faults c.args.files.now) f1 f2 (g.F.Reads.denied c.args.files.now) d1 d2 e.cause.later e.cause.refused (refusals_of (is_some old) answer)
+    (subst (λ (log : Option (List Op)). WereRefused (refusals_of (is_some log) answer) f1 f2 d1 d2) same c.written.ensures.calls)
 
 pub returns-in-Err-clause-comes : goal.returns-in-Err-clause-comes
 returns-in-Err-clause-comes g c =

@@ -1,9 +1,12 @@
 use Rattle.std.proofs.Common.{refl, sym, subst}
+use Rattle.std.specs.Prelude.{is_some}
+use Rattle.hgs_machine.specs.Refusals.{WereRefused}
 use Rattle.hgs_model.specs.declared.command.Command.TheVariants as commands
 use Rattle.hgs_top.specs.Orders.{ComesTo}
 use Rattle.hgs_top.specs.Words.{do_mark, do_move, do_unmark, job_of}
 use Rattle.hgs_top.specs.declared.ended.Ended.TheVariants.{Recovered}
 use Rattle.hgs_top.specs.declared.orders.Order.{Order}
+use Rattle.hgs_top.proofs.LeftLemmas.{left_none, left_refused}
 use Rattle.hgs_top.proofs.obey.do_order.Goals as goal
 
 pub returns-in-Init-clause-comes : goal.returns-in-Init-clause-comes
@@ -16,6 +19,10 @@ pub returns-in-Init-clause-cause : goal.returns-in-Init-clause-cause
 returns-in-Init-clause-cause g c =
     let faults = g.S.Source.faults c.args.input.now in
     c.init.ensures.cause (g.F.Reads.denied c.args.files.now) (g.F.Reads.denied c.init.new.files) faults faults
+
+pub returns-in-Init-clause-left : goal.returns-in-Init-clause-left
+returns-in-Init-clause-left g c =
+    left_none (λ n. WereRefused n (g.F.Reads.faults c.args.files.now) (g.F.Reads.faults c.init.new.files) (g.F.Reads.denied c.args.files.now) (g.F.Reads.denied c.init.new.files)) (is_some (g.F.Files.log c.args.files.now)) c.init.result c.init.ensures.left
 
 pub returns-in-Move-clause-comes : goal.returns-in-Move-clause-comes
 returns-in-Move-clause-comes g c =
@@ -52,3 +59,7 @@ returns-in-Recover-clause-comes g c =
 
 pub returns-in-Recover-clause-cause : goal.returns-in-Recover-clause-cause
 returns-in-Recover-clause-cause g c = record { fault = c.recover.ensures.fault; unfinished = c.recover.ensures.unfinished }
+
+pub returns-in-Recover-clause-left : goal.returns-in-Recover-clause-left
+returns-in-Recover-clause-left g c =
+    left_refused (g.F.Reads.faults c.args.files.now) (g.F.Reads.faults c.recover.new.files) (g.F.Reads.denied c.args.files.now) (g.F.Reads.denied c.recover.new.files) c.recover.result.swept c.recover.ensures.counts.faults c.recover.ensures.counts.denied c.recover.ensures.swept

@@ -9,9 +9,26 @@ use Rattle.hgs_machine.specs.Locks.{AreLocked, AreRemoved, IsTurnedAway}
 use Rattle.hgs_writer.specs.Begun.{Begins, IsRefused, has_no_locks, has_no_plan}
 use Rattle.hgs_writer.specs.declared.begin.Begun.TheVariants.{Ready}
 use Rattle.hgs_writer.specs.Planning.{Plans}
+use Rattle.hgs_writer.proofs.AllowedLemmas.{may-lock, may-release}
 use Rattle.hgs_writer.proofs.RefusalLemmas.{not-planned, turned-away}
 use Rattle.hgs_writer.proofs.WrittenLemmas.{and_told, as_well, in_turn}
 use Rattle.hgs_writer.proofs.begin.begin.Goals as goal
+
+pub take_locks-requires : goal.take_locks-requires
+take_locks-requires g c = record {
+  allowed = may-lock c.args.who.now c.args.command.now (g.F.Files.log c.args.files.now) (g.F.Files.allows (g.F.Reads.start c.args.files.now)) (g.F.Reads.start c.args.files.now) c.requires.allows;
+}
+
+pub release-swept-requires : goal.release-swept-requires
+release-swept-requires g c =
+    let fault = c.in-Err-plan.fault in
+    let command = c.args.command.now in
+    let latest = g.met.F.Files.latest in
+    let locked_files = c.take_locks.new.files in
+    let planned_files = c.plan.new.files in
+    let told = subst (λ s. IfSome s (λ l. Plans command (after_all l (g.F.Reads.start planned_files)) (Err fault))) (latest planned_files) (c.in-Err-plan.ensures.found g.met.F.Files.only_writer) in
+    may-release g.F.Files.allows c.args.who.now command fault (g.F.Files.log c.args.files.now) (g.F.Files.log locked_files) (g.F.Files.log planned_files) (g.F.Reads.start c.args.files.now) (g.F.Reads.start planned_files)
+    (sym (latest planned_files) ∙ (c.plan.ensures.still g.met.F.Files.only_writer ∙ latest locked_files)) (c.plan.ensures.same_start ∙ c.take_locks.ensures.same_start) c.requires.allows c.in-Ok.ensures.log told
 
 pub returns-in-Err-clause-log : goal.returns-in-Err-clause-log
 returns-in-Err-clause-log g c =

@@ -9,9 +9,15 @@ use Rattle.hgs_writer.specs.Refusals.{refusals_of}
 use Rattle.hgs_writer.specs.Begun.{Begins, IsRefused}
 use Rattle.hgs_writer.specs.declared.begin.Begun.TheVariants.{Ready}
 use Rattle.hgs_writer.specs.Written.{IsCarriedOut, IsWrittenFor, has_no_plan, has_plan}
+use Rattle.hgs_writer.proofs.AllowedLemmas.{may-carry}
 use Rattle.hgs_writer.proofs.RefusalLemmas.{begun-first}
 use Rattle.hgs_writer.proofs.WrittenLemmas.{and_then, as_well}
 use Rattle.hgs_writer.proofs.write.write_told.Goals as goal
+
+pub carried-requires-clause-allows : goal.carried-requires-clause-allows
+carried-requires-clause-allows g c =
+    may-carry g.F.Files.allows c.args.who.now c.args.command.now c.in-Ready.planned (g.F.Files.log c.args.files.now) (g.F.Files.log c.begin.new.files) (g.F.Reads.start c.args.files.now) (g.F.Reads.start c.begin.new.files) c.begin.ensures.same_start
+    c.requires.allows c.in-Ready.ensures.log
 
 pub returns-in-Ready-clause-log : goal.returns-in-Ready-clause-log
 returns-in-Ready-clause-log g c =

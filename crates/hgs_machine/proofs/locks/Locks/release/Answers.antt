@@ -2,8 +2,18 @@ use Rattle.std.proofs.Common.{[], ◌∷◌, subst}
 use Rattle.hgs_files.specs.declared.op.Op.TheVariants.{Remove}
 use Rattle.hgs_machine.specs.Course.{lock_removals}
 use Rattle.hgs_machine.specs.Locks.{AreRemoved}
+use Rattle.hgs_machine.proofs.Allowed.{may-remove-lock, may-remove-wlock}
 use Rattle.hgs_machine.proofs.Locking.{removed-both, removed-some, then}
 use Rattle.hgs_machine.proofs.locks.Locks.release.Goals as goal
+
+pub remove-lock-requires : goal.remove-lock-requires
+remove-lock-requires g c = may-remove-lock (g.F.Files.log c.args.files.now) (g.F.Files.allows (g.F.Reads.start c.args.files.now)) c.args.self.now.lock c.args.self.now.lock_is c.requires
+
+pub remove-wlock-requires : goal.remove-wlock-requires
+remove-wlock-requires g c =
+    let locks = c.args.self.now in
+    may-remove-wlock g.F.Files.allows (g.F.Files.log c.args.files.now) (g.F.Files.log c.remove-lock.new.files) (g.F.Reads.start c.args.files.now) (g.F.Reads.start c.remove-lock.new.files) locks.wlock locks.lock c.remove-lock.result locks.wlock_is locks.lock_is
+    c.remove-lock.ensures.same_start c.requires c.remove-lock.ensures.log
 
 pub returns-then-lock-clause-log : goal.returns-then-lock-clause-log
 returns-then-lock-clause-log g c =

@@ -5,9 +5,43 @@ use Rattle.hgs_ops.specs.Operations.{wlock_path}
 use Rattle.hgs_machine.specs.Carry.{tree_now}
 use Rattle.hgs_machine.specs.Course.{lock_removals}
 use Rattle.hgs_machine.specs.Locks.{AreLocked, AreRemoved, Looks, Makes, TakesLocks}
+use Rattle.hgs_machine.proofs.Allowed.{may-make-first, may-make-second, may-release, may-remove-first}
 use Rattle.hgs_machine.proofs.Counting.{falls-never, first-barred, lock-refused, told-on}
 use Rattle.hgs_machine.proofs.Locking.{Pair, as-well, barred-first, lock-abandoned, lock-barred, locks-made, named, pair, then}
 use Rattle.hgs_machine.proofs.locks.Locks.take.Goals as goal
+
+pub make-requires : goal.make-requires
+make-requires g c =
+    let locks = c.args.self.now in
+    may-make-first (g.F.Files.log c.args.files.now) (g.F.Files.allows (g.F.Reads.start c.args.files.now)) (g.F.Reads.start c.args.files.now) c.args.who.now locks.wlock locks.wlock_is c.requires
+
+pub make-requires-2 : goal.make-requires-2
+make-requires-2 g c =
+    let locks = c.args.self.now in
+    may-make-second g.F.Files.allows (g.F.Files.log c.args.files.now) (g.F.Files.log c.make.new.files) (g.F.Reads.start c.args.files.now) (g.F.Reads.start c.make.new.files) c.args.who.now locks.wlock locks.lock locks.wlock_is locks.lock_is c.make.ensures.same_start
+    c.requires c.in_default.ensures.log
+
+pub remove-swept-requires : goal.remove-swept-requires
+remove-swept-requires g c =
+    let locks = c.args.self.now in
+    let who = c.args.who.now in
+    let why = c.in-Err-make.why in
+    may-remove-first g.F.Files.allows (g.F.Files.log c.args.files.now) (g.F.Files.log c.make-2.new.files) (g.F.Reads.start c.args.files.now) (g.F.Reads.start c.make-2.new.files) who locks.wlock locks.lock locks.wlock_is locks.lock_is
+    (c.make-2.ensures.same_start ∙ c.make.ensures.same_start) c.requires why
+    (pair (g.F.Files.log c.args.files.now) (g.F.Files.log c.make.new.files) (g.F.Files.log c.make-2.new.files) (g.F.Reads.start c.args.files.now) (g.F.Reads.start c.make.new.files)
+    (λ t. Makes locks.wlock who t (Ok tt)) (λ t. Makes locks.lock who t (Err why)) c.make.ensures.same_start c.in_default.ensures.log c.in-Err-make.ensures.log)
+
+pub release-swept-requires : goal.release-swept-requires
+release-swept-requires g c =
+    let locks = c.args.self.now in
+    let who = c.args.who.now in
+    let why = c.in-Err-look.why in
+    may-release g.F.Files.allows (g.F.Files.log c.args.files.now) (g.F.Files.log c.look.new.files) (g.F.Reads.start c.args.files.now) (g.F.Reads.start c.look.new.files) who locks.wlock locks.lock locks.wlock_is locks.lock_is
+    (c.look.ensures.same_start ∙ (c.make-2.ensures.same_start ∙ c.make.ensures.same_start)) c.requires why
+    (pair (g.F.Files.log c.args.files.now) (g.F.Files.log c.make.new.files) (g.F.Files.log c.look.new.files) (g.F.Reads.start c.args.files.now) (g.F.Reads.start c.make.new.files)
+    (λ t. Makes locks.wlock who t (Ok tt)) (Pair (λ t. Makes locks.lock who t (Ok tt)) (λ t. Looks t (Err why))) c.make.ensures.same_start c.in_default.ensures.log
+    (pair (g.F.Files.log c.make.new.files) (g.F.Files.log c.make-2.new.files) (g.F.Files.log c.look.new.files) (g.F.Reads.start c.make.new.files) (g.F.Reads.start c.make-2.new.files)
+    (λ t. Makes locks.lock who t (Ok tt)) (λ t. Looks t (Err why)) c.make-2.ensures.same_start c.in_default-make.ensures.log c.in-Err-look.ensures.log))
 
 pub returns-in-Err-clause-log : goal.returns-in-Err-clause-log
 returns-in-Err-clause-log g c =

@@ -1,13 +1,25 @@
 use Rattle.std.proofs.Common.{ℕ, Bool, false, List, ◌++◌, ◌∷◌, [], ◌≡◌, sym, ◌∙◌, subst}
 use Rattle.std.proofs.Math.Logic.{∥∥₁_map}
 use Rattle.hgs_files.specs.Files.{GoesOn}
-use Rattle.hgs_files.specs.Tree.{Tree}
+use Rattle.hgs_files.specs.Tree.{Tree, after_all}
 use Rattle.hgs_machine.specs.Carry.{tree_now}
 use Rattle.hgs_writer.specs.Written.{IsWrittenFor}
 use Rattle.hgs_session.specs.Calls.{Call, IsCall, Stage, name_of, published_by, unsure_with}
 use Rattle.hgs_session.specs.Desk.{HasMade}
-use Rattle.hgs_session.proofs.CallLemmas.{made_broken, made_more, stage_same}
+use Rattle.hgs_session.proofs.CallLemmas.{led_more, made_broken, made_more, stage_same}
 use Rattle.hgs_session.proofs.desk.Desk.call.Goals as goal
+
+pub write_told-answer-requires-clause-allows : goal.write_told-answer-requires-clause-allows
+write_told-answer-requires-clause-allows g c = λ l told answer changeset done written.
+    let x = g.N.Naming.begins in
+    let desk = c.args.self.now in
+    let now : Stage = record { log = g.W.Files.log desk.leader.end; faults = g.W.Reads.faults desk.leader.end; denied = g.W.Reads.denied desk.leader.end } in
+    let M : Bool → Type 0 = λ b. ∥ HasMade x now desk.history desk.published.items desk.unsure b ∥₁ in
+    let W : List ℕ → Tree → Type 0 = λ n t. IsWrittenFor n c.args.command.now (after_all l t) answer changeset done in
+    let is = subst (λ t. W (name_of c.args.worker c.args.job) t) desk.start (subst (λ n. W n (g.W.Reads.start desk.leader.end)) c.requires.name written) in
+    subst (λ t. g.W.Files.allows t (l ++ done)) (sym desk.start)
+    (c.requires.allows (l ++ done)
+    (∥∥₁_map (subst M c.requires.sound desk.made) (λ m. led_more x now desk.history desk.published.items desk.unsure false c.args.worker c.args.job c.args.command.now answer changeset l done m c.requires.job told is)))
 
 pub returns-clause-made : goal.returns-clause-made
 returns-clause-made g c =

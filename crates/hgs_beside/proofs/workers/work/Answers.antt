@@ -1,0 +1,11 @@
+use Rattle.std.proofs.Common.{Some, sym, subst}
+use Rattle.hgs_session.specs.Session.{MayRun}
+use Rattle.hgs_beside.proofs.workers.work.Goals as goal
+
+pub session-requires-clause-allows : goal.session-requires-clause-allows
+session-requires-clause-allows g c κs within =
+    let needs = c.requires.needs in
+    let files = g.Y.Yard.files c.args.yard in
+    let jobs = c.args.script.now.workers in
+    subst (λ l. MayRun jobs l (g.Y.A.Reads.start files) g.Y.W.Files.allows) (sym needs.1)
+    (λ x same begins log led. c.requires.protocol x.start log (c.sessions_make_legal_logs.ensures.taken jobs needs.0 (g.Y.A.Reads.start files) c.requires.can.shares needs.2 x same begins log led))

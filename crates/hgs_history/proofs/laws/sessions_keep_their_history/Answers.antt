@@ -1,0 +1,32 @@
+use Rattle.std.proofs.Common.{List, Some, sym, subst}
+use Rattle.std.specs.Prelude.{Option}
+use Rattle.std.specs.List.{AllByRecursion}
+use Rattle.hgs_files.specs.declared.op.Op.{Op}
+use Rattle.hgs_script.specs.declared.result.PublishedJob.{PublishedJob}
+use Rattle.hgs_session.specs.Calls.{published_of}
+use Rattle.hgs_session.specs.Session.{IsWithin}
+use Rattle.hgs_history.specs.History.{ArePublished}
+use Rattle.hgs_history.proofs.Kept.{none-falls}
+use Rattle.hgs_history.proofs.laws.sessions_keep_their_history.Goals as goal
+
+pub returns : goal.returns
+returns c = λ x r calls last states result makes is stands first shares needs.
+    let found = c.sessions_publish_what_they_list.ensures x r calls last makes stands first shares needs in
+    let h = found.0 in
+    record {
+      log = h;
+      start = found.1;
+      first = found.2;
+      told = found.3;
+      legal = c.sessions_make_legal_logs.ensures.legal x calls last h.log makes first shares needs found.3;
+      published = subst (λ (l : List PublishedJob). ArePublished x.jobs l result.unsure h.last.published) (sym is.published)
+          (subst (λ u. ArePublished x.jobs (published_of calls) u h.last.published) (sym is.unsure) found.4);
+      once = c.sessions_do_each_job_once.ensures.once x calls last states result is;
+      listed = c.sessions_do_each_job_once.ensures.listed x calls last makes first;
+      behind = λ front back e. let f = found.5 front back e in (f.0, f.2, f.3);
+      made = λ front back call e. let f = found.6 front back call e in (f.0, f.2, f.3);
+      asked = λ opens reads.
+          none-falls h x calls first (λ p v fresh. c.fresh_workers_know_nothing.ensures h x p v found.1 first fresh)
+          (λ worker p v answers now seen knows is_seen on does. c.workers_never_fall_back.ensures h x worker calls p v answers now seen opens reads knows is_seen on does)
+          0 states result.replies is.replies (subst (λ (o : Option (List Op)). AllByRecursion (IsWithin o) states) found.3 is.within);
+    }
