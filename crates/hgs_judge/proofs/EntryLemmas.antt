@@ -12,7 +12,7 @@ use Rattle.hgs_revlog.specs.declared.fault.Tail.TheVariants.{Ignore}
 use Rattle.hgs_revlog.specs.Fault.{fault_place, is_memory}
 use Rattle.hgs_revlog.specs.Log.{Log, with_entry}
 use Rattle.hgs_revlog.specs.Load.{most_revisions, unless, checked, separate_at, entry_behind, after, load_from, loaded}
-use Rattle.hgs_judge.specs.Read.{AreBehind, behind, AreFirst, IsEnd, IsRefused, is_refusal}
+use Rattle.hgs_judge.specs.Read.{AreBehind, behind, AreFirst, IsEnd, IsRefused, KeepsLimits, is_refusal}
 use Rattle.hgs_judge.proofs.Basics.{never}
 
 take-less : (k m : ℕ) (xs : List ℕ) → k ≤ m → take k (take m xs) ≡ take k xs
@@ -197,3 +197,14 @@ index-refuses fault index h e = by (is_memory fault) refl h
     by : (b : Bool) → is_memory fault ≡ b → MatchBool b ⊤ (loaded Ignore index ≡ Err fault) → IsRefused index fault
     by true m k = inl m
     by false m k = inr (k, e)
+
+-- ---- no limit
+
+pub loads-within : (index : List ℕ) (log : Log) → loaded Ignore index ≡ Ok log → KeepsLimits index
+loads-within index log h which k = clash (sym h ∙ k)
+  where
+    clash : loaded_log log ≡ Err (faults.Limit which) → ⊥
+    clash m = cc
+
+pub faults-within : (index : List ℕ) (fault : RevFault) → loaded Ignore index ≡ Err fault → is_refusal fault ≡ false → KeepsLimits index
+faults-within index fault h none which k = never (sym (ap is_refusal (err-fault fault (faults.Limit which) (sym h ∙ k))) ∙ none)

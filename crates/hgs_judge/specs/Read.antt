@@ -2,6 +2,7 @@
 use Rattle.std.specs.Prelude.{◌≡◌, ◌<◌, ◌≤◌, ◌*◌, ◌/◌, ℕ, zero, suc, Bool, true, false, List, [], ◌∷◌, ◌++◌, length, take, drop, slice_get, Some, ◌⊎◌, Result, Ok, Err, IsOk, IsErr, map}
 use Rattle.std.specs.List.{AllByRecursion}
 use Rattle.hgs_index.specs.declared.entry.Entry.{Entry}
+use Rattle.hgs_index.specs.declared.kinds.Which.{Which}
 use Rattle.hgs_index.specs.Revision.{Revision, ParentsBefore, nodes}
 use Rattle.hgs_model.specs.History as history
 use Rattle.hgs_revlog.specs.declared.fault.RevFault.{RevFault}
@@ -93,3 +94,7 @@ pub record IsRead (index data_bytes : List ℕ) (entries : List Entry) (broken :
 -- a refusal is want of memory, or that of the index
 abbrev pub IsRefused : List ℕ → RevFault → Type 0
 IsRefused index fault = (is_memory fault ≡ true) ⊎ ((loaded Ignore index ≡ Err fault) × (is_refusal fault ≡ true))
+
+-- the first fault of an index, where it has one, is no limit
+abbrev pub KeepsLimits : List ℕ → Type 0
+KeepsLimits index = (which : Which) → loaded Ignore index ≡ Err (faults.Limit which) → ⊥

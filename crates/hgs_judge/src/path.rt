@@ -1,7 +1,7 @@
 //! What is found of one path, of the files of its filelog and what the changesets say of it alone.
-ghost use Rattle.std.specs.Prelude.{◌<◌, ◌^◌, List, ℕ, length, IfOk, IfErr};
+ghost use Rattle.std.specs.Prelude.{◌<◌, ◌^◌, List, ℕ, length, IfOk, IfErr, OnOk};
 ghost use Rattle.hgs_judge.specs.Path.{IsJudged};
-ghost use Rattle.hgs_judge.specs.Read.{IsRead, IsRefused};
+ghost use Rattle.hgs_judge.specs.Read.{IsRead, IsRefused, KeepsLimits};
 ghost use Rattle.hgs_judge.specs.Words.{words_in};
 
 use crate::kinds::{Kinds, judge};
@@ -71,6 +71,7 @@ pub fn judge_path(
     requires { length words.now < 2 ^ 32 }
     ensures ok { IfOk result (λ f. (path : List ℕ) → IsJudged index.now data_bytes.now (words_in path words.now) f) }
     ensures err { IfErr result (λ fault. IsRefused index.now fault) }
+    ensures limits { OnOk result (KeepsLimits index.now) }
 {
     let reading = read(alloc, index, data_bytes)?;
     match judge_reading(alloc, index, data_bytes, &reading, words) {

@@ -1,5 +1,5 @@
 //! What can be read of a revlog: its revisions up to the first fault.
-ghost use Rattle.std.specs.Prelude.{◌≡◌, ◌<◌, ◌≤◌, ◌*◌, false, ℕ, List, length, unwrap_or, IfOk, IfErr, IfSome, Ok};
+ghost use Rattle.std.specs.Prelude.{◌≡◌, ◌<◌, ◌≤◌, ◌*◌, false, ℕ, List, length, unwrap_or, IfOk, IfErr, IfSome, Ok, OnOk};
 ghost use Rattle.hgs_bytes.specs.Answer.{Gives};
 ghost use Rattle.hgs_index.specs.declared.entry.Entry.{Entry as IndexEntry};
 ghost use Rattle.hgs_revlog.specs.Fault.{is_memory};
@@ -10,7 +10,7 @@ ghost use Rattle.hgs_revlog.specs.Loaded.{parents_in};
 ghost use Rattle.hgs_revlog.specs.Log.{stored_sum};
 ghost use Rattle.hgs_findings.specs.Sight.{place};
 ghost use Rattle.hgs_findings.specs.Reading.{has_data_rest, has_index_rest};
-ghost use Rattle.hgs_judge.specs.Read.{AreFirst, AreRead, links_in, revisions_in, IsEnd, IsRead, IsRefused, IsSound, is_refusal};
+ghost use Rattle.hgs_judge.specs.Read.{AreFirst, AreRead, links_in, revisions_in, IsEnd, IsRead, IsRefused, IsSound, KeepsLimits, is_refusal};
 
 use hgs_bytes::parts::{front, past};
 use hgs_index::entry::Entry;
@@ -66,6 +66,7 @@ fn load_front(alloc: Global, index: &[u8], count: usize) -> Result<Revlog, RevFa
 fn load_sound(alloc: Global, index: &[u8]) -> Result<Reading, RevFault>
     ensures ok { IfOk result (λ r. IsEnd index.now r.log.entries r.broken) }
     ensures err { IfErr result (λ fault. IsRefused index.now fault) }
+    ensures limits { OnOk result (KeepsLimits index.now) }
 {
     let fault = match Revlog::load(alloc, index, Tail::Ignore) {
         Ok(log) => return Ok(Reading { log, broken: false }),
@@ -98,6 +99,7 @@ fn sound(log: &Revlog, data_bytes: &[u8]) -> u32
 pub fn read(alloc: Global, index: &[u8], data_bytes: &[u8]) -> Result<Reading, RevFault>
     ensures ok { IfOk result (λ r. IsRead index.now data_bytes.now r.log.entries r.broken) }
     ensures err { IfErr result (λ fault. IsRefused index.now fault) }
+    ensures limits { OnOk result (KeepsLimits index.now) }
 {
     let reading = match load_sound(alloc, index) {
         Ok(reading) => reading,

@@ -4,7 +4,7 @@ use Rattle.hgs_revlog.specs.declared.fault.Tail.TheVariants.{Ignore}
 use Rattle.hgs_revlog.specs.Log.{Log}
 use Rattle.hgs_revlog.specs.Load.{loaded}
 use Rattle.hgs_judge.specs.Read.{IsEnd, is_refusal}
-use Rattle.hgs_judge.proofs.EntryLemmas.{loaded_log, ok-log, whole-end, cut-end, not-refused, refused, index-refuses}
+use Rattle.hgs_judge.proofs.EntryLemmas.{loaded_log, ok-log, whole-end, cut-end, faults-within, loads-within, not-refused, refused, index-refuses}
 use Rattle.hgs_judge.proofs.reading.load_sound.Goals as goal
 
 pub returns-in-Ok-clause-ok : goal.returns-in-Ok-clause-ok
@@ -37,3 +37,12 @@ returns-in-Err-load_front-clause-err c =
 
 pub returns-then-is_refusal-clause-err : goal.returns-then-is_refusal-clause-err
 returns-then-is_refusal-clause-err c = index-refuses c.in-Err.fault c.args.index.now c.in-Err.ensures (sym c.is_refusal.ensures ∙ c.if-is_refusal.true)
+
+pub returns-in-Ok-clause-limits : goal.returns-in-Ok-clause-limits
+returns-in-Ok-clause-limits c = loads-within c.args.index.now c.in-Ok.log c.in-Ok.ensures
+
+pub returns-in-Ok-load_front-clause-limits : goal.returns-in-Ok-load_front-clause-limits
+returns-in-Ok-load_front-clause-limits c =
+    let fault = c.in-Err.fault in
+    let none : is_refusal fault ≡ false = sym c.is_refusal.ensures ∙ c.if-is_refusal.false in
+    faults-within c.args.index.now fault (not-refused fault (loaded Ignore c.args.index.now) c.in-Err.ensures none) none
