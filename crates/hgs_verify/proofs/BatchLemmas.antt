@@ -7,7 +7,7 @@ use Rattle.hgs_findings.specs.Reading.{data_in, index_in, the_filelog}
 use Rattle.hgs_report.specs.declared.store.Store.{Store}
 use Rattle.hgs_verify.specs.declared.task.Task.{Task}
 use Rattle.hgs_verify.specs.Parts.{AreBytes}
-use Rattle.hgs_verify.specs.Task.{AreJudged, AreReadOf, AreRefusedIn, AreRightIn, IsJudgedAs, IsReadOf, paths_of}
+use Rattle.hgs_verify.specs.Task.{AreJudged, AreReadOf, AreRefusedIn, AreRightIn, AreWithinIn, IsJudgedAs, IsReadOf, paths_of}
 use Rattle.hgs_verify.specs.Walk.{AddPaths}
 
 -- some paths after others
@@ -39,6 +39,13 @@ tasks-caused s t [] [] j read = tt
 tasks-caused s t [] (y ∷ ys) j read = absurd (let c = j.count in omega (arith, c))
 tasks-caused s t (x ∷ xs) [] j read = absurd (let c = j.count in omega (arith, c))
 tasks-caused s t (x ∷ xs) (y ∷ ys) j read = ((read-still s t x y (first s x y xs ys j) read.0, (first s x y xs ys j).cause), tasks-caused s t xs ys (rest s x y xs ys j) read.1)
+
+-- and where something is found, the index passes no limit
+pub tasks-within : (s : Store) (t : Tree) (tasks judged : List Task) → AreJudged s tasks judged → AreReadOf tasks t → AreWithinIn t judged
+tasks-within s t [] [] j read = tt
+tasks-within s t [] (y ∷ ys) j read = absurd (let c = j.count in omega (arith, c))
+tasks-within s t (x ∷ xs) [] j read = absurd (let c = j.count in omega (arith, c))
+tasks-within s t (x ∷ xs) (y ∷ ys) j read = ((read-still s t x y (first s x y xs ys j) read.0, (first s x y xs ys j).within), tasks-within s t xs ys (rest s x y xs ys j) read.1)
 
 pub same-paths : (s : Store) (tasks judged : List Task) → AreJudged s tasks judged → paths_of judged ≡ paths_of tasks
 same-paths s [] [] j = refl

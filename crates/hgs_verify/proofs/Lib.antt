@@ -7,3 +7,4 @@ pub mod ProfileLemmas
 pub mod RefusalLemmas
 pub mod TextLemmas
 pub mod WalkLemmas
+pub mod WithinLemmas

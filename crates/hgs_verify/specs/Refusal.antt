@@ -3,9 +3,10 @@ use Rattle.std.specs.Prelude.{◌≡◌, ◌||◌, ◌⊎◌, ⊤, ℕ, List, Bo
 use Rattle.hgs_bytes.specs.Bytes.{among}
 use Rattle.hgs_files.specs.Tree.{Tree, bytes_at}
 use Rattle.hgs_findings.specs.Reading.{Log, index_in, index_path, sight_of, the_changelog, the_filelog, the_manifest}
-use Rattle.hgs_findings.specs.Regular.{is_used}
+use Rattle.hgs_findings.specs.Regular.{is_used, used_paths}
 use Rattle.hgs_index.specs.declared.kinds.Which.{Which}
 use Rattle.hgs_index.specs.declared.kinds.Which.TheVariants.{Part}
+use Rattle.hgs_judge.specs.Read.{KeepsLimits}
 use Rattle.hgs_load.specs.declared.answer.ReadAnswer.{ReadAnswer}
 use Rattle.hgs_load.specs.declared.answer.ReadAnswer.TheVariants.{Damaged, Fault, Limit, UnknownPath, NotARepository, Requirement, Memory}
 use Rattle.hgs_load.specs.Form.{most_inline_index}
@@ -55,6 +56,10 @@ pub data Passes (t : Tree) (which : Which) : Type 0 where
   long_log : has_long_log t ≡ true → which ≡ Part → Passes t which
   long_index : (log : Log) → is_read t log ≡ true → loaded Ignore (index_in t log) ≡ Err (faults.Limit which) → Passes t which
 
+-- No part of the tree passes a limit.
+abbrev pub PassesNone : Tree → Type 0
+PassesNone t = (which : Which) → Passes t which → ⊥
+
 -- why a verification is refused behind `requires`: want of memory and a fault of the files say nothing of the tree
 abbrev pub IsLimited : ReadAnswer → Tree → Type 0
 IsLimited (Damaged d) t = ⊥
@@ -92,3 +97,23 @@ IsOfLog which e t = ((e ≡ Limit Part) × (is_long_inline most_inline_index (by
 -- the refusal of the filelog of one of these paths
 abbrev pub IsOfPaths : List (List ℕ) → ReadAnswer → Tree → Type 0
 IsOfPaths paths e t = (path : List ℕ) × (among path paths ≡ true) × IsOfIndex (index_in t (the_filelog path)) e
+
+-- the roots, the bookmarks and the dirstate have no more bytes than may be
+pub record HaveShortTexts (t : Tree) : Type 0 where
+  pub roots : is_above most_roots (t roots_path) ≡ false
+  pub bookmarks : is_above most_bookmarks_text (t bookmarks_path) ≡ false
+  pub dirstate : is_above most_dirstate (t dirstate_path) ≡ false
+
+-- the indexes of the changelog and the manifest pass no limit
+abbrev pub LogsKeepLimits : Tree → Type 0
+LogsKeepLimits t = KeepsLimits (index_in t the_changelog) × KeepsLimits (index_in t the_manifest)
+
+-- nor does that of the filelog of one of these paths
+abbrev pub PathsKeepLimits : List (List ℕ) → Tree → Type 0
+PathsKeepLimits paths t = (path : List ℕ) → among path paths ≡ true → KeepsLimits (index_in t (the_filelog path))
+
+-- no small file but `requires` passes a limit, nor does the filelog of a used path
+pub record PartsKeepLimits (t : Tree) : Type 0 where
+  pub texts : HaveShortTexts t
+  pub names : is_above most_fncache (t fncache_path) ≡ false
+  pub paths : PathsKeepLimits (used_paths (sight_of t)) t

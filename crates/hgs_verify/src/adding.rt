@@ -1,12 +1,13 @@
 //! What is found of some paths, which is added to what was found before.
 ghost use Rattle.std.specs.Prelude.{◌≡◌, ◌++◌, IfErr, IfOk, OnOk, true, false, [], unwrap_or};
 ghost use Rattle.hgs_files.specs.Tree.{Tree};
+ghost use Rattle.hgs_judge.specs.Read.{KeepsLimits};
 ghost use Rattle.hgs_judge.specs.Report.{findings_in, of_path};
 ghost use Rattle.hgs_load.specs.Answer.{is_fault};
 ghost use Rattle.hgs_report.specs.Store.{IsStoreOf};
 ghost use Rattle.hgs_verify.specs.Added.{AddsPath};
-ghost use Rattle.hgs_verify.specs.Refusal.{is_refusal, IsOfIndex, IsOfPaths};
-ghost use Rattle.hgs_verify.specs.Task.{AreRightIn, IsReadOf, IsRight, paths_of, AreRefusedIn, HasCause};
+ghost use Rattle.hgs_verify.specs.Refusal.{is_refusal, IsOfIndex, IsOfPaths, PathsKeepLimits};
+ghost use Rattle.hgs_verify.specs.Task.{AreRightIn, IsReadOf, IsRight, paths_of, AreRefusedIn, AreWithinIn, HasCause, IsWithin};
 ghost use Rattle.hgs_verify.specs.Walk.{AddPaths, AreMarked};
 
 use crate::revlog::of_refusal;
@@ -55,6 +56,7 @@ fn add_task(alloc: Global, task: Task, into: &mut Vec<Finding>) -> Result<Vec<bo
     ensures fault { IfErr result (λ e. is_fault e ≡ false) }
     ensures refused { IfErr result (λ e. is_refusal e ≡ true) }
     ensures index { IfErr result (λ e. HasCause task → IsOfIndex (unwrap_or task.parts.index []) e) }
+    ensures limits { OnOk result (IsWithin task → KeepsLimits (unwrap_or task.parts.index [])) }
 {
     added_findings();
     let Task {
@@ -94,6 +96,7 @@ pub fn add_all(
     ensures fault { IfErr result (λ e. is_fault e ≡ false) }
     ensures refused { IfErr result (λ e. is_refusal e ≡ true) }
     ensures index { IfErr result (λ e. (t : Tree) → AreRefusedIn t tasks.items → IsOfPaths (paths_of tasks.items) e t) }
+    ensures limits { OnOk result ((t : Tree) → AreWithinIn t tasks.items → PathsKeepLimits (paths_of tasks.items) t) }
 {
     for task in tasks {
         let wrong = add_task(alloc, task, into)?;

@@ -1,6 +1,6 @@
 //! Threads that judge the filelogs of some paths, side by side.
-ghost use Rattle.std.specs.Prelude.{◌≡◌, ◌<◌, ◌≤◌, ◌^◌, IfOk, length, IfErr};
-ghost use Rattle.hgs_judge.specs.Read.{IsRefused};
+ghost use Rattle.std.specs.Prelude.{◌≡◌, ◌<◌, ◌≤◌, ◌^◌, IfOk, length, IfErr, OnOk};
+ghost use Rattle.hgs_judge.specs.Read.{IsRefused, KeepsLimits};
 ghost use Rattle.hgs_files.specs.Tree.{Tree};
 ghost use Rattle.hgs_findings.specs.OnePath as findings;
 ghost use Rattle.hgs_findings.specs.Reading.{sight_of};
@@ -45,6 +45,7 @@ fn judge_bytes(
 ) -> Result<PathFindings, RevFault>
     ensures found { IfOk result (λ f. (t : Tree) → IsStoreOf store.now t → IsJudged index.now chunks.now (findings.words (sight_of t) path.now) f) }
     ensures refused { IfErr result (λ fault. IsRefused index.now fault) }
+    ensures limits { OnOk result (KeepsLimits index.now) }
 {
     let words = words_of(alloc, store, path)?;
     match judge_path(alloc, index, chunks, &words) {

@@ -1,8 +1,10 @@
 //! The report of a store.
-ghost use Rattle.std.specs.Prelude.{◌≡◌, ◌≤◌, IfOk, OnOk, Ok, true, length, IfErr};
-ghost use Rattle.hgs_verify.specs.Refusal.{is_refusal, IsLimited, IsWhy, required_in};
+ghost use Rattle.std.specs.Prelude.{◌≡◌, ◌≤◌, IfOk, OnOk, Ok, true, false, length, IfErr};
+ghost use Rattle.hgs_verify.specs.Refusal.{is_refusal, HaveShortTexts, IsLimited, IsWhy, PartsKeepLimits, PassesNone, PathsKeepLimits, most_fncache, required_in};
 ghost use Rattle.hgs_load.specs.Open.{requires_path};
 ghost use Rattle.hgs_load.specs.Requirements.{requires_answer};
+ghost use Rattle.hgs_load.specs.Whole.{is_above};
+ghost use Rattle.hgs_stands.specs.Places.{fncache_path};
 ghost use Rattle.hgs_findings.specs.Reading.{sight_of};
 ghost use Rattle.hgs_findings.specs.Regular.{used_paths};
 ghost use Rattle.hgs_files.specs.Tree.{Tree};
@@ -66,6 +68,7 @@ fn add_small<R: Reads>(
     ensures cause { HasFaultCause (R.faults files.old) (R.faults files.new) (R.denied files.old) (R.denied files.new) result }
     ensures refused { IfErr result (λ e. is_refusal e ≡ true) }
     ensures why { IfErr result (λ e. OfTree R.alone (R.seen files.new) (R.start files.new) (IsLimited e)) }
+    ensures short { OnOk result (OfTree R.alone (R.seen files.new) (R.start files.new) HaveShortTexts) }
 {
     add_roots_file(alloc, files, store, into)?;
     add_bookmarks_file(alloc, files, store, into)?;
@@ -86,6 +89,7 @@ fn add_listed<R: Reads>(
     ensures cause { HasFaultCause (R.faults files.old) (R.faults files.new) (R.denied files.old) (R.denied files.new) result }
     ensures refused { IfErr result (λ e. is_refusal e ≡ true) }
     ensures why { IfErr result (λ e. OfTree R.alone (R.seen files.new) (R.start files.new) (IsLimited e)) }
+    ensures short { OnOk result (OfTree R.alone (R.seen files.new) (R.start files.new) (λ t. is_above most_fncache (t fncache_path) ≡ false)) }
 {
     unused_that_stand();
     let inline = inline_filelogs(alloc, files, used)?;
@@ -111,6 +115,7 @@ fn add_paths<T: Threads + Sync, R: Reads, P: Progress>(
     ensures cause { HasFaultCause (R.faults files.old) (R.faults files.new) (R.denied files.old) (R.denied files.new) result }
     ensures refused { IfErr result (λ e. is_refusal e ≡ true) }
     ensures why { IfErr result (λ e. OfTree R.alone (R.seen files.new) (R.start files.new) (λ t. used.keys ≡ used_paths (sight_of t) → IsLimited e t)) }
+    ensures limits { OnOk result (OfTree R.alone (R.seen files.new) (R.start files.new) (PathsKeepLimits used.keys)) }
 {
     one_path();
     path_findings();
@@ -137,6 +142,7 @@ fn gather<T: Threads + Sync, R: Reads, P: Progress>(
     ensures cause { HasFaultCause (R.faults files.old) (R.faults files.new) (R.denied files.old) (R.denied files.new) result }
     ensures refused { IfErr result (λ e. is_refusal e ≡ true) }
     ensures why { IfErr result (λ e. OfTree R.alone (R.seen files.new) (R.start files.new) (λ t. used.keys ≡ used_paths (sight_of t) → IsLimited e t)) }
+    ensures limits { OnOk result (OfTree R.alone (R.seen files.new) (R.start files.new) (λ t. used.keys ≡ used_paths (sight_of t) → PartsKeepLimits t)) }
 {
     let paths = LogPaths::new(alloc)?;
     let mut found = Vec::new(alloc);
@@ -174,6 +180,7 @@ fn report_of<T: Threads + Sync, R: Reads, P: Progress>(
     ensures cause { HasFaultCause (R.faults files.old) (R.faults files.new) (R.denied files.old) (R.denied files.new) result }
     ensures refused { IfErr result (λ e. is_refusal e ≡ true) }
     ensures why { IfErr result (λ e. OfTree R.alone (R.seen files.new) (R.start files.new) (λ t. IsStoreOf store.now t → IsLimited e t)) }
+    ensures limits { OnOk result (OfTree R.alone (R.seen files.new) (R.start files.new) (λ t. IsStoreOf store.now t → PartsKeepLimits t)) }
 {
     parts_make_report();
     let used = used_paths(alloc, &store.trees, &store.changesets)?;
@@ -210,6 +217,7 @@ pub fn verify<T: Threads + Sync, R: Reads, P: Progress>(
     ensures cause { HasFaultCause (R.faults files.old) (R.faults files.new) (R.denied files.old) (R.denied files.new) result }
     ensures refused { IfErr result (λ e. is_refusal e ≡ true) }
     ensures why { IfErr result (λ e. OfTree R.alone (R.seen files.new) (R.start files.new) (IsWhy e)) }
+    ensures limits { OnOk result (OfTree R.alone (R.seen files.new) (R.start files.new) PassesNone) }
 {
     test_requires(alloc, files)?;
     let store = read_store(alloc, files)?;

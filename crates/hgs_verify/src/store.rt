@@ -1,11 +1,11 @@
 //! What is read of a store before its filelogs: the changelog, the manifest, and what their texts say.
 ghost use Rattle.std.specs.Prelude.{◌≡◌, [], unwrap_or, IfErr, IfOk, OnOk, true, false};
-ghost use Rattle.hgs_verify.specs.Refusal.{is_refusal, IsLimited, IsOfIndex, IsOfLog};
+ghost use Rattle.hgs_verify.specs.Refusal.{is_refusal, IsLimited, IsOfIndex, IsOfLog, LogsKeepLimits};
 ghost use Rattle.hgs_files.specs.Reads.{Grows};
 ghost use Rattle.hgs_load.specs.Answer.{HasFaultCause, is_fault};
 ghost use Rattle.hgs_files.specs.Tree.{Tree, bytes_at};
 ghost use Rattle.hgs_load.specs.Form.{most_inline_index};
-ghost use Rattle.hgs_judge.specs.Read.{AreRead};
+ghost use Rattle.hgs_judge.specs.Read.{AreRead, KeepsLimits};
 ghost use Rattle.hgs_findings.specs.Reading.{Log, data_in, data_path, index_in, index_path, the_changelog, the_manifest};
 ghost use Rattle.hgs_verify.specs.Looked.{OfTree};
 ghost use Rattle.hgs_verify.specs.Parts.{AreBytes, HaveShortLogs, is_long_inline};
@@ -33,6 +33,7 @@ fn log_of(alloc: Global, parts: Parts) -> Result<ReadLog, ReadAnswer>
     ensures fault { IfErr result (λ e. is_fault e ≡ false) }
     ensures refused { IfErr result (λ e. is_refusal e ≡ true) }
     ensures index { IfErr result (λ e. IsOfIndex (unwrap_or parts.index []) e) }
+    ensures limits { OnOk result (KeepsLimits (unwrap_or parts.index [])) }
 {
     let Parts { index, chunks } = parts;
     match read(alloc, bytes_of(&index), bytes_of(&chunks)) {
@@ -62,6 +63,7 @@ fn read_log<R: Reads>(
     ensures cause { HasFaultCause (R.faults files.old) (R.faults files.new) (R.denied files.old) (R.denied files.new) result }
     ensures refused { IfErr result (λ e. is_refusal e ≡ true) }
     ensures why { IfErr result (λ e. OfTree R.alone (R.seen files.new) (R.start files.new) (λ t. (which : Log) → index.now ≡ index_path which → IsOfLog which e t)) }
+    ensures limits { OnOk result (OfTree R.alone (R.seen files.new) (R.start files.new) (λ t. (which : Log) → index.now ≡ index_path which → KeepsLimits (index_in t which))) }
 {
     let parts = read_either(alloc, files, index, chunks, MOST_INLINE)?;
     let log = log_of(alloc, parts)?;
@@ -101,6 +103,7 @@ pub fn read_store<R: Reads>(alloc: Global, files: &mut R) -> Result<Store, ReadA
     ensures cause { HasFaultCause (R.faults files.old) (R.faults files.new) (R.denied files.old) (R.denied files.new) result }
     ensures refused { IfErr result (λ e. is_refusal e ≡ true) }
     ensures why { IfErr result (λ e. OfTree R.alone (R.seen files.new) (R.start files.new) (IsLimited e)) }
+    ensures limits { OnOk result (OfTree R.alone (R.seen files.new) (R.start files.new) LogsKeepLimits) }
 {
     let paths = LogPaths::new(alloc)?;
     let changelog = read_log(alloc, files, &paths.changelog, &paths.changelog_chunks)?;

@@ -1,9 +1,11 @@
 //! The small files of a store, and what is found of them.
-ghost use Rattle.std.specs.Prelude.{◌≡◌, ◌++◌, IfOk, OnOk, Ok, true, option_map, IfErr};
+ghost use Rattle.std.specs.Prelude.{◌≡◌, ◌++◌, IfOk, OnOk, Ok, true, false, option_map, IfErr};
 ghost use Rattle.hgs_bytes.specs.Answer.{Gives};
-ghost use Rattle.hgs_verify.specs.Refusal.{is_refusal, IsLimited, required_in};
-ghost use Rattle.hgs_load.specs.Open.{requires_path};
+ghost use Rattle.hgs_verify.specs.Refusal.{is_refusal, IsLimited, most_fncache, required_in};
+ghost use Rattle.hgs_load.specs.Open.{most_bookmarks_text, most_dirstate, most_roots, requires_path};
 ghost use Rattle.hgs_load.specs.Requirements.{requires_answer};
+ghost use Rattle.hgs_load.specs.Whole.{is_above};
+ghost use Rattle.hgs_stands.specs.Places.{bookmarks_path, dirstate_path, fncache_path, roots_path};
 ghost use Rattle.hgs_findings.specs.Reading.{sight_of};
 ghost use Rattle.hgs_findings.specs.Regular.{used_paths};
 ghost use Rattle.hgs_judge.specs.Report.{findings_in};
@@ -56,6 +58,7 @@ pub fn add_roots_file<R: Reads>(
     ensures cause { HasFaultCause (R.faults files.old) (R.faults files.new) (R.denied files.old) (R.denied files.new) result }
     ensures refused { IfErr result (λ e. is_refusal e ≡ true) }
     ensures why { IfErr result (λ e. OfTree R.alone (R.seen files.new) (R.start files.new) (IsLimited e)) }
+    ensures short { OnOk result (OfTree R.alone (R.seen files.new) (R.start files.new) (λ t. is_above most_roots (t roots_path) ≡ false)) }
 {
     let path = path_of(alloc, b"store/phaseroots")?;
     let text = read_text(alloc, files, &path, MOST_ROOTS)?;
@@ -76,6 +79,7 @@ pub fn add_bookmarks_file<R: Reads>(
     ensures cause { HasFaultCause (R.faults files.old) (R.faults files.new) (R.denied files.old) (R.denied files.new) result }
     ensures refused { IfErr result (λ e. is_refusal e ≡ true) }
     ensures why { IfErr result (λ e. OfTree R.alone (R.seen files.new) (R.start files.new) (IsLimited e)) }
+    ensures short { OnOk result (OfTree R.alone (R.seen files.new) (R.start files.new) (λ t. is_above most_bookmarks_text (t bookmarks_path) ≡ false)) }
 {
     let path = path_of(alloc, b"bookmarks")?;
     let text = read_text(alloc, files, &path, MOST_BOOKMARKS)?;
@@ -96,6 +100,7 @@ pub fn add_dirstate_file<R: Reads>(
     ensures cause { HasFaultCause (R.faults files.old) (R.faults files.new) (R.denied files.old) (R.denied files.new) result }
     ensures refused { IfErr result (λ e. is_refusal e ≡ true) }
     ensures why { IfErr result (λ e. OfTree R.alone (R.seen files.new) (R.start files.new) (IsLimited e)) }
+    ensures short { OnOk result (OfTree R.alone (R.seen files.new) (R.start files.new) (λ t. is_above most_dirstate (t dirstate_path) ≡ false)) }
 {
     let path = path_of(alloc, b"dirstate")?;
     let text = read_text(alloc, files, &path, MOST_DIRSTATE)?;
@@ -118,6 +123,7 @@ pub fn add_names_file<R: Reads>(
     ensures cause { HasFaultCause (R.faults files.old) (R.faults files.new) (R.denied files.old) (R.denied files.new) result }
     ensures refused { IfErr result (λ e. is_refusal e ≡ true) }
     ensures why { IfErr result (λ e. OfTree R.alone (R.seen files.new) (R.start files.new) (IsLimited e)) }
+    ensures short { OnOk result (OfTree R.alone (R.seen files.new) (R.start files.new) (λ t. is_above most_fncache (t fncache_path) ≡ false)) }
 {
     let path = path_of(alloc, b"store/fncache")?;
     let text = read_text(alloc, files, &path, MOST_FNCACHE)?;

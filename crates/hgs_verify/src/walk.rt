@@ -8,7 +8,7 @@ ghost use Rattle.hgs_judge.specs.Report.{findings_in};
 ghost use Rattle.hgs_load.specs.Answer.{HasFaultCause, is_of_outside};
 ghost use Rattle.hgs_report.specs.Store.{IsStoreOf};
 ghost use Rattle.hgs_verify.specs.Looked.{OfTree};
-ghost use Rattle.hgs_verify.specs.Refusal.{is_refusal, IsLimited};
+ghost use Rattle.hgs_verify.specs.Refusal.{is_refusal, IsLimited, PathsKeepLimits};
 ghost use Rattle.hgs_verify.specs.Task.{AreJudged, AreNext, AreReadOf};
 ghost use Rattle.hgs_verify.specs.Walk.{AddPaths};
 
@@ -69,6 +69,7 @@ pub fn judge_paths<T: Threads + Sync, R: Reads, P: Progress>(
     ensures cause { HasFaultCause (R.faults files.old) (R.faults files.new) (R.denied files.old) (R.denied files.new) result }
     ensures refused { IfErr result (λ e. is_refusal e ≡ true) }
     ensures why { IfErr result (λ e. OfTree R.alone (R.seen files.new) (R.start files.new) (λ t. paths.keys ≡ used_paths (sight_of t) → IsLimited e t)) }
+    ensures limits { OnOk result (OfTree R.alone (R.seen files.new) (R.start files.new) (PathsKeepLimits paths.keys)) }
 {
     let all = paths.len();
     let mut tasks = read_batch(alloc, files, &mut paths)?.tasks;

@@ -1,13 +1,18 @@
-use Rattle.std.proofs.Common.{◌≡◌, ◌++◌, ◌∙◌, ap}
+use Rattle.std.proofs.Common.{◌≡◌, ◌++◌, ◌∙◌, false, ap}
+use Rattle.std.specs.Prelude.{⊤}
 use Rattle.hgs_bytes.specs.Bytes.{among}
 use Rattle.hgs_findings.specs.Reading.{sight_of}
 use Rattle.hgs_findings.specs.Regular.{used_paths}
 use Rattle.hgs_judge.specs.Report.{findings_in}
+use Rattle.hgs_load.specs.Whole.{is_above}
 use Rattle.hgs_report.specs.Adds.{Adds}
 use Rattle.hgs_report.specs.Names.{AreInline, IsOfNames, unused_in}
+use Rattle.hgs_stands.specs.Places.{fncache_path}
 use Rattle.hgs_verify.specs.Inline.{HaveInline}
+use Rattle.hgs_verify.specs.Refusal.{most_fncache}
 use Rattle.hgs_verify.specs.Report.{AddsBeside, of_all_unused}
 use Rattle.hgs_verify.proofs.FileLemmas.{two-looks}
+use Rattle.hgs_verify.proofs.RefusalLemmas.{of-all}
 use Rattle.hgs_verify.proofs.report.add_listed.Goals as goal
 
 pub returns-clause-added : goal.returns-clause-added
@@ -29,3 +34,11 @@ returns-clause-added g c = λ alone.
     (two.still alone) two.same_start
     (λ t p q used. record { named = b; names = (p used).0; unused = c.unused_that_stand.ensures t b d (q ∙ ap (λ l. b ++ of_all_unused t l) (c.deref.ensures.value ∙ (p used).1)) })
     named (two.added alone)
+
+pub returns-clause-short : goal.returns-clause-short
+returns-clause-short g c = λ alone.
+    let two = c.in_ok-add_unused.ensures in
+    two-looks (g.R.Reads.seen c.add_names_file.new.files) (g.R.Reads.seen c.add_unused.new.files) (g.R.Reads.start c.add_names_file.new.files) (g.R.Reads.start c.add_unused.new.files)
+    (λ t. is_above most_fncache (t fncache_path) ≡ false) (λ t. ⊤) (λ t. is_above most_fncache (t fncache_path) ≡ false)
+    (two.still alone) two.same_start (λ t p q. p)
+    (c.in_ok-unused.ensures.short alone) (of-all (g.R.Reads.seen c.add_unused.new.files) (λ log. ⊤) (λ log. tt))

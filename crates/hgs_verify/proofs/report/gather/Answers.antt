@@ -1,10 +1,13 @@
-use Rattle.std.proofs.Common.{◌≡◌, ap, subst}
+use Rattle.std.proofs.Common.{◌≡◌, false, ap, subst}
 use Rattle.hgs_findings.specs.Reading.{sight_of}
 use Rattle.hgs_findings.specs.Regular.{used_paths}
 use Rattle.hgs_judge.specs.Report.{findings_in}
+use Rattle.hgs_load.specs.Whole.{is_above}
 use Rattle.hgs_report.specs.Adds.{Adds}
 use Rattle.hgs_report.specs.Parts.{AreParts, IsOfCalls}
 use Rattle.hgs_report.specs.Store.{IsStoreOf}
+use Rattle.hgs_stands.specs.Places.{fncache_path}
+use Rattle.hgs_verify.specs.Refusal.{HaveShortTexts, PartsKeepLimits, PathsKeepLimits, most_fncache}
 use Rattle.hgs_verify.specs.Report.{AddsBeside, AddsPaths, AddsSmall}
 use Rattle.hgs_verify.proofs.FileLemmas.{two-looks}
 use Rattle.hgs_verify.proofs.report.gather.Goals as goal
@@ -58,3 +61,17 @@ returns-clause-parts g c = λ alone.
       lists = w.lists;
     })
     listed (four.added alone)
+
+pub returns-clause-limits : goal.returns-clause-limits
+returns-clause-limits g c = λ alone.
+    let keys = c.args.used.keys in
+    let small = c.in_ok-add_small.ensures in
+    let listed = c.in_ok-add_listed.ensures in
+    let paths = c.in_ok-add_paths.ensures in
+    two-looks (g.R.Reads.seen c.add_listed.new.files) (g.R.Reads.seen c.add_paths.new.files) (g.R.Reads.start c.add_listed.new.files) (g.R.Reads.start c.add_paths.new.files)
+    (λ t. HaveShortTexts t × (is_above most_fncache (t fncache_path) ≡ false)) (PathsKeepLimits keys) (λ t. keys ≡ used_paths (sight_of t) → PartsKeepLimits t)
+    (paths.still alone) paths.same_start (λ t p q used. record { texts = p.0; names = p.1; paths = subst (λ l. PathsKeepLimits l t) used q })
+    (two-looks (g.R.Reads.seen c.add_small.new.files) (g.R.Reads.seen c.add_listed.new.files) (g.R.Reads.start c.add_small.new.files) (g.R.Reads.start c.add_listed.new.files)
+    HaveShortTexts (λ t. is_above most_fncache (t fncache_path) ≡ false) (λ t. HaveShortTexts t × (is_above most_fncache (t fncache_path) ≡ false))
+    (listed.still alone) listed.same_start (λ t p q. (p, q)) (small.short alone) (listed.short alone))
+    (paths.limits alone)

@@ -6,7 +6,7 @@ use Rattle.hgs_judge.specs.Report.{findings_in}
 use Rattle.hgs_report.specs.Parts.{AreParts}
 use Rattle.hgs_report.specs.Store.{IsStoreOf}
 use Rattle.hgs_verify.specs.Looked.{OfTree}
-use Rattle.hgs_verify.specs.Refusal.{IsLimited}
+use Rattle.hgs_verify.specs.Refusal.{IsLimited, PartsKeepLimits}
 use Rattle.hgs_verify.proofs.RefusalLemmas.{at-err}
 use Rattle.hgs_verify.proofs.CountLemmas.{changeset-count}
 use Rattle.hgs_verify.proofs.PathAdded.{if-each}
@@ -38,3 +38,11 @@ returns-in_err-found-clause-why g c =
     if-each seen start (λ t. keys ≡ used_paths (sight_of t) → IsLimited e t) (λ t. IsStoreOf store t → IsLimited e t)
     (λ t p is. p (c.in_ok-used.ensures (sight_of t) (c.deref.ensures.value ∙ is.trees) (c.deref-2.ensures.value ∙ is.changesets)))
     (c.in_err-found.ensures.why alone))
+
+pub returns-clause-limits : goal.returns-clause-limits
+returns-clause-limits g c = λ alone.
+    let store = c.args.store.now in
+    let keys = c.in_ok-used.used.keys in
+    if-each (g.R.Reads.seen c.gather.new.files) (g.R.Reads.start c.gather.new.files) (λ t. keys ≡ used_paths (sight_of t) → PartsKeepLimits t) (λ t. IsStoreOf store t → PartsKeepLimits t)
+    (λ t p is. p (c.in_ok-used.ensures (sight_of t) (c.deref.ensures.value ∙ is.trees) (c.deref-2.ensures.value ∙ is.changesets)))
+    (c.in_ok-found.ensures.limits alone)

@@ -1,14 +1,15 @@
-use Rattle.std.proofs.Common.{◌≡◌, ◌∙◌}
+use Rattle.std.proofs.Common.{◌≡◌, ◌∙◌, refl}
 use Rattle.std.specs.Prelude.{Ok}
 use Rattle.hgs_load.specs.Open.{requires_path}
 use Rattle.hgs_load.specs.Requirements.{requires_answer}
 use Rattle.hgs_report.specs.Store.{IsStoreOf}
 use Rattle.hgs_verify.specs.Looked.{OfTree}
-use Rattle.hgs_verify.specs.Refusal.{IsLimited, IsWhy, required_in}
+use Rattle.hgs_verify.specs.Refusal.{IsLimited, IsWhy, LogsKeepLimits, PartsKeepLimits, PassesNone, required_in}
 use Rattle.hgs_verify.proofs.RefusalLemmas.{at-err, limited-why}
 use Rattle.hgs_verify.specs.Parts.{HaveShortLogs}
 use Rattle.hgs_verify.specs.Report.{IsReportOf}
 use Rattle.hgs_verify.proofs.FileLemmas.{two-looks}
+use Rattle.hgs_verify.proofs.WithinLemmas.{passes-none}
 use Rattle.hgs_verify.proofs.report.verify.Goals as goal
 
 pub returns-clause-report : goal.returns-clause-report
@@ -62,3 +63,17 @@ returns-in_err-report-clause-why g c =
     (λ t. required_in t ≡ Ok tt) (IsStoreOf store) (λ t. (required_in t ≡ Ok tt) × IsStoreOf store t)
     (c.in_ok-store.ensures.still alone) c.in_ok-store.ensures.same_start (λ t p q. (p, q)) (c.in_ok-test_requires.ensures.given alone) (c.in_ok-store.ensures.found alone))
     (c.in_err-report.ensures.why alone))
+
+pub returns-clause-limits : goal.returns-clause-limits
+returns-clause-limits g c = λ alone.
+    let store = c.in_ok-store.store in
+    let looked = g.R.Reads.seen c.read_store.new.files in
+    let first = g.R.Reads.start c.read_store.new.files in
+    let read = c.in_ok-store.ensures in
+    two-looks looked (g.R.Reads.seen c.report_of.new.files) first (g.R.Reads.start c.report_of.new.files)
+    (λ t. IsStoreOf store t × HaveShortLogs t × LogsKeepLimits t) (λ t. IsStoreOf store t → PartsKeepLimits t) PassesNone
+    (c.in_ok-report.ensures.still alone) c.in_ok-report.ensures.same_start (λ t p q. passes-none t p.1 p.2 (q p.0))
+    (two-looks looked looked first first (IsStoreOf store) (λ t. HaveShortLogs t × LogsKeepLimits t) (λ t. IsStoreOf store t × HaveShortLogs t × LogsKeepLimits t)
+    refl refl (λ t p q. (p, q.0, q.1)) (read.found alone)
+    (two-looks looked looked first first HaveShortLogs LogsKeepLimits (λ t. HaveShortLogs t × LogsKeepLimits t) refl refl (λ t p q. (p, q)) (read.short alone) (read.limits alone)))
+    (c.in_ok-report.ensures.limits alone)

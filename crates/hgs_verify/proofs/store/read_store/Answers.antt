@@ -1,11 +1,12 @@
 use Rattle.std.proofs.Common.{◌≡◌, false, refl, ap, sym, ◌∙◌}
 use Rattle.hgs_files.specs.Tree.{bytes_at}
-use Rattle.hgs_findings.specs.Reading.{Log, data_path, index_path, the_changelog, the_manifest}
+use Rattle.hgs_findings.specs.Reading.{Log, data_path, index_in, index_path, the_changelog, the_manifest}
+use Rattle.hgs_judge.specs.Read.{KeepsLimits}
 use Rattle.hgs_load.specs.Form.{most_inline_index}
 use Rattle.hgs_report.specs.Store.{IsLogOf, IsStoreOf}
 use Rattle.hgs_stands.specs.Places.{changelog_index, manifest_index}
 use Rattle.hgs_verify.specs.Looked.{OfTree}
-use Rattle.hgs_verify.specs.Refusal.{IsLimited, IsOfLog}
+use Rattle.hgs_verify.specs.Refusal.{IsLimited, IsOfLog, LogsKeepLimits}
 use Rattle.hgs_verify.proofs.PathAdded.{if-each}
 use Rattle.hgs_verify.proofs.RefusalLemmas.{at-err, log-limited, on-left, on-right}
 use Rattle.hgs_verify.specs.Parts.{HaveShortLogs, is_long_inline}
@@ -62,3 +63,12 @@ returns-in_err-manifest-clause-why g c =
     if-each seen start (λ t. (which : Log) → paths.manifest ≡ index_path which → IsOfLog which e t) (IsLimited e)
     (λ t p. log-limited the_manifest e t (on-right (is_long_inline most_inline_index (bytes_at t changelog_index)) (is_long_inline most_inline_index (bytes_at t manifest_index))) refl (p the_manifest paths.manifest_is))
     (c.in_err-manifest.ensures.why alone))
+
+pub returns-in-Ok-clause-limits : goal.returns-in-Ok-clause-limits
+returns-in-Ok-clause-limits g c = λ alone.
+    let paths = c.in_ok-paths.paths in
+    two-looks (g.R.Reads.seen c.read_log.new.files) (g.R.Reads.seen c.read_log-2.new.files) (g.R.Reads.start c.read_log.new.files) (g.R.Reads.start c.read_log-2.new.files)
+    (λ t. (which : Log) → paths.changelog ≡ index_path which → KeepsLimits (index_in t which)) (λ t. (which : Log) → paths.manifest ≡ index_path which → KeepsLimits (index_in t which)) LogsKeepLimits
+    (c.in_ok-manifest.ensures.still alone) c.in_ok-manifest.ensures.same_start
+    (λ t p q. (p the_changelog paths.changelog_is, q the_manifest paths.manifest_is))
+    (c.in_ok-changelog.ensures.limits alone) (c.in_ok-manifest.ensures.limits alone)

@@ -1,4 +1,5 @@
 use Rattle.std.proofs.Common.{◌≡◌, ◌∙◌, ap}
+use Rattle.hgs_load.specs.Open.{most_dirstate}
 use Rattle.hgs_judge.specs.Report.{findings_in}
 use Rattle.hgs_report.specs.Adds.{Adds}
 use Rattle.hgs_report.specs.Store.{IsStoreOf}
@@ -6,6 +7,7 @@ use Rattle.hgs_report.specs.Texts.{IsOfDirstate}
 use Rattle.hgs_stands.specs.Places.{dirstate_path}
 use Rattle.hgs_verify.proofs.PathAdded.{if-each}
 use Rattle.hgs_verify.proofs.TextLemmas.{bytes-are}
+use Rattle.hgs_verify.proofs.WithinLemmas.{text-short}
 use Rattle.hgs_verify.proofs.texts.add_dirstate_file.Goals as goal
 
 pub returns-clause-added : goal.returns-clause-added
@@ -14,3 +16,7 @@ returns-clause-added g c = λ alone.
     let new = findings_in c.add_working.new.into.items in
     if-each (g.R.Reads.seen c.read_text.new.files) (g.R.Reads.start c.read_text.new.files) (λ t. c.in_ok-text.text ≡ t c.in_ok-path.path) (λ t. IsStoreOf c.args.store.now t → Adds t (IsOfDirstate t) old new)
     (λ t p is. c.in_ok-add_working.ensures t is (bytes-are dirstate_path t c.in_ok-text.text c.bytes_of.result.now c.bytes_of.ensures (p ∙ ap t c.in_ok-path.ensures))) c.in_ok-text.ensures.bytes
+
+pub returns-clause-short : goal.returns-clause-short
+returns-clause-short g c = λ alone.
+    text-short (g.R.Reads.seen c.read_text.new.files) (g.R.Reads.start c.read_text.new.files) most_dirstate c.in_ok-path.path dirstate_path c.in_ok-text.text c.in_ok-path.ensures (c.in_ok-text.ensures.given alone)

@@ -14,6 +14,7 @@ use Rattle.hgs_report.specs.Names.{AreInline, IsOfNames, unused_in}
 use Rattle.hgs_stands.specs.Places.{fncache_path}
 use Rattle.hgs_verify.proofs.PathAdded.{if-each}
 use Rattle.hgs_verify.proofs.TextLemmas.{bytes-are}
+use Rattle.hgs_verify.proofs.WithinLemmas.{text-short}
 use Rattle.hgs_verify.proofs.texts.add_names_file.Goals as goal
 
 pub returns-clause-added : goal.returns-clause-added
@@ -34,3 +35,7 @@ returns-in_err-text-clause-why g c =
     if-each seen start (λ t. MatchBool (is_of_outside e) ⊤ (within most_fncache Ok (t path) ≡ Err e)) (IsLimited e)
     (λ t p. text-limited most_fncache fncache_path e t (names-long t) (subst (λ x. MatchBool (is_of_outside e) ⊤ (within most_fncache Ok (t x) ≡ Err e)) c.in_ok-path.ensures p))
     (c.in_err-text.ensures.given alone))
+
+pub returns-clause-short : goal.returns-clause-short
+returns-clause-short g c = λ alone.
+    text-short (g.R.Reads.seen c.read_text.new.files) (g.R.Reads.start c.read_text.new.files) most_fncache c.in_ok-path.path fncache_path c.in_ok-text.text c.in_ok-path.ensures (c.in_ok-text.ensures.given alone)

@@ -2,20 +2,22 @@ use Rattle.std.proofs.Common.{◌≡◌, [], ◌++◌, Bool, true, List, refl, s
 use Rattle.std.specs.Prelude.{⊤}
 use Rattle.std.proofs.lemmas.Bool.Decides.{nat_tests}
 use Rattle.hgs_bytes.specs.Bytes.{among}
-use Rattle.hgs_files.specs.Tree.{Tree}
+use Rattle.hgs_files.specs.Tree.{Tree, after_all}
 use Rattle.hgs_findings.specs.Findings.{Finding}
 use Rattle.hgs_findings.specs.Reading.{sight_of}
 use Rattle.hgs_findings.specs.Regular.{used_paths}
 use Rattle.hgs_judge.specs.Report.{findings_in}
 use Rattle.hgs_report.specs.Store.{IsStoreOf}
 use Rattle.hgs_verify.specs.Looked.{OfTree}
-use Rattle.hgs_verify.specs.Refusal.{IsLimited, IsOfPaths}
-use Rattle.hgs_verify.specs.Task.{AreJudged, AreReadOf, AreRefusedIn, AreRightIn, paths_of}
+use Rattle.hgs_verify.specs.Refusal.{IsLimited, IsOfPaths, PathsKeepLimits}
+use Rattle.hgs_verify.specs.Task.{AreJudged, AreReadOf, AreRefusedIn, AreRightIn, AreWithinIn, paths_of}
 use Rattle.hgs_verify.specs.Walk.{AddPaths}
-use Rattle.hgs_verify.proofs.BatchLemmas.{add-both, no-tasks, same-paths, tasks-caused, tasks-right}
+use Rattle.hgs_verify.proofs.BatchLemmas.{add-both, no-tasks, same-paths, tasks-caused, tasks-right, tasks-within}
 use Rattle.hgs_verify.proofs.FileLemmas.{grows-on, two-looks}
 use Rattle.hgs_verify.proofs.RefusalLemmas.{among-before, among-behind, at-err, of-all, paths-limited}
+use Rattle.hgs_verify.proofs.PathAdded.{if-each}
 use Rattle.hgs_verify.proofs.WalkLemmas.{take-front}
+use Rattle.hgs_verify.proofs.WithinLemmas.{both-paths, no-paths}
 use Rattle.hgs_verify.proofs.walk.judge_paths.Goals as goal
 
 pub returns-in_err-add_all-clause-seen : goal.returns-in_err-add_all-clause-seen
@@ -48,6 +50,35 @@ returns-in_err-add_all-clause-why g c =
     (λ t read u used. paths-limited (paths_of tasks) e t (λ path h. ap (among path) (sym used) ∙ i.front path (among-before path (paths_of tasks) keys h)) (of t read))
     (i.read alone) (of-all seen (λ log. ⊤) (λ log. tt)))
 
+pub loop-alloc-init : goal.loop-alloc-init
+loop-alloc-init g c =
+    let read = c.in_ok-tasks.ensures in
+    let store = c.args.store.now in
+    let tasks = c.in_ok-tasks.field-0.tasks.items in
+    let keys = c.read_batch.new.paths.keys in
+    let old = findings_in c.args.into.now.items in
+    let marks = c.args.marks.now in
+    let seen = g.R.Reads.seen c.read_batch.new.files in
+    let start = g.R.Reads.start c.read_batch.new.files in
+    record {
+      added = λ alone.
+          of-all seen
+          (λ log. IsStoreOf store (after_all log start) → (new : List Finding) (marked : List Bool) → AddPaths (paths_of tasks ++ keys) old new marks marked (after_all log start) → AddPaths c.args.paths.keys old new marks marked (after_all log start))
+          (λ log is new marked more. subst (λ l. AddPaths l old new marks marked (after_all log start)) read.next.order more);
+      read = read.read;
+      limits = λ alone.
+          of-all seen
+          (λ log. PathsKeepLimits (paths_of tasks ++ keys) (after_all log start) → PathsKeepLimits c.args.paths.keys (after_all log start))
+          (λ log more. subst (λ l. PathsKeepLimits l (after_all log start)) read.next.order more);
+      some = read.next.some;
+      front = λ path h. subst (λ l. among path l ≡ true) read.next.order h;
+      grown = read.seen;
+      same_start = read.same_start;
+      still = read.still;
+      later = read.cause.later;
+      refused = read.cause.refused;
+    }
+
 pub loop-alloc-preserved : goal.loop-alloc-preserved
 loop-alloc-preserved g c =
     let i = c.loop-alloc.invariant in
@@ -71,6 +102,10 @@ loop-alloc-preserved g c =
     λ t is read.
     subst (λ l. AddPaths l before after marks marked t) (ap paths_of same ∙ same-paths store tasks judged are)
     (c.in_ok-add_all.ensures.added store t is (subst (AreRightIn store t) (sym same) (tasks-right store t tasks judged are read))) in
+    let kept : (t : Tree) → AreReadOf tasks t → PathsKeepLimits (paths_of tasks) t =
+    λ t read.
+    subst (λ l. PathsKeepLimits l t) (ap paths_of same ∙ same-paths store tasks judged are)
+    (c.in_ok-add_all.ensures.limits t (subst (AreWithinIn t) (sym same) (tasks-within store t tasks judged are read))) in
     record {
       added = λ alone.
           two-looks (g.R.Reads.seen c.loop-alloc.files) seen (g.R.Reads.start c.loop-alloc.files) start
@@ -81,6 +116,16 @@ loop-alloc-preserved g c =
           (λ t p q is new end rest. p is new end (add-both t (paths_of tasks) keys before after new marks marked end (right t is q) (subst (λ l. AddPaths l after new marked end t) both.next.order rest)))
           (i.added alone)
           (two-looks (g.R.Reads.seen c.loop-alloc.files) seen (g.R.Reads.start c.loop-alloc.files) start (AreReadOf tasks) (AreReadOf next) (AreReadOf tasks) (both.still alone) both.same_start (λ t p q. p) (i.read alone) (both.read alone));
+      limits = λ alone.
+          two-looks (g.R.Reads.seen c.loop-alloc.files) seen (g.R.Reads.start c.loop-alloc.files) start
+          (λ t. AreReadOf tasks t × (PathsKeepLimits (paths_of tasks ++ keys) t → PathsKeepLimits c.args.paths.keys t)) (λ t. ⊤)
+          (λ t. PathsKeepLimits (paths_of next ++ left) t → PathsKeepLimits c.args.paths.keys t)
+          (both.still alone) both.same_start
+          (λ t p q rest. p.1 (both-paths t (paths_of tasks) keys (kept t p.0) (subst (λ l. PathsKeepLimits l t) both.next.order rest)))
+          (two-looks (g.R.Reads.seen c.loop-alloc.files) (g.R.Reads.seen c.loop-alloc.files) (g.R.Reads.start c.loop-alloc.files) (g.R.Reads.start c.loop-alloc.files)
+          (AreReadOf tasks) (λ t. PathsKeepLimits (paths_of tasks ++ keys) t → PathsKeepLimits c.args.paths.keys t) (λ t. AreReadOf tasks t × (PathsKeepLimits (paths_of tasks ++ keys) t → PathsKeepLimits c.args.paths.keys t))
+          refl refl (λ t p q. (p, q)) (i.read alone) (i.limits alone))
+          (of-all seen (λ log. ⊤) (λ log. tt));
       read = both.read;
       some = both.next.some;
       front = λ path h. i.front path (among-behind path (paths_of tasks) keys (subst (λ l. among path l ≡ true) both.next.order h));
@@ -112,3 +157,16 @@ returns-clause-added g c =
     refl refl
     (λ t p q is. p is after marked (subst (λ l. AddPaths l after after marked marked t) (sym nothing) (refl, refl)))
     (i.added alone) (i.read alone)
+
+pub returns-clause-limits : goal.returns-clause-limits
+returns-clause-limits g c =
+    let i = c.loop-alloc.invariant in
+    let tasks = c.loop-alloc.tasks.items in
+    let keys = c.loop-alloc.paths.keys in
+    let none : tasks ≡ [] = no-tasks tasks (let empty = c.is_empty.ensures in let test = c.loop-alloc-test.false in let count = c.loop-alloc.tasks.ok.0 in grind (arith, nat_tests, empty, test, count)) in
+    let nothing : paths_of tasks ++ keys ≡ [] = ap (λ l. paths_of l ++ keys) none ∙ i.some none in
+    λ alone.
+    if-each (g.R.Reads.seen c.loop-alloc.files) (g.R.Reads.start c.loop-alloc.files)
+    (λ t. PathsKeepLimits (paths_of tasks ++ keys) t → PathsKeepLimits c.args.paths.keys t) (PathsKeepLimits c.args.paths.keys)
+    (λ t p. p (subst (λ l. PathsKeepLimits l t) (sym nothing) (no-paths t)))
+    (i.limits alone)
