@@ -11,21 +11,28 @@ use Rattle.hgs_load.specs.Answer.{refusal_line, status_of}
 use Rattle.hgs_load.specs.Open.{requires_path}
 use Rattle.hgs_load.specs.Requirements.{requires_answer}
 use Rattle.hgs_verify.specs.declared.report.Report.{Report}
+use Rattle.hgs_verify.specs.Parts.{HaveShortLogs}
+use Rattle.hgs_verify.specs.Refusal.{PassesNone, required_in}
 use Rattle.hgs_verify.specs.Report.{IsReportOf}
-use Rattle.hgs_top.specs.Run.{EndsLine, OfTree, TellsReport, Verifies}
+use Rattle.hgs_top.specs.Run.{EndsLine, IsReportable, OfTree, TellsReport, Verifies}
 use Rattle.hgs_index.specs.declared.node.Node.{Node}
 use Rattle.hgs_top.specs.Orders.{TellsSummary}
 use Rattle.hgs_top.specs.Verified.{report_status, report_text, summary_text}
 
-pub tells : (log : Option (List Op)) (start : Tree) (report : Report) (status : ℕ) (old new : Option (List ℕ)) → OfTree log start (λ t. requires_answer (t requires_path) ≡ Ok tt) → OfTree log start (IsReportOf report)
-    → EndsLine (report_text (findings_in report.findings.items) report.changesets report.filelogs) (report_status (findings_in report.findings.items)) status old new → OfTree log start (TellsReport status old new)
-tells None start report status old new required is line = tt
-tells (Some l) start report status old new required is line = (required, findings_in report.findings.items, report.changesets, report.filelogs, is, line)
+-- what the files have of which a report was given
+pub reportable : (log : Option (List Op)) (start : Tree) → OfTree log start (λ t. requires_answer (t requires_path) ≡ Ok tt) → OfTree log start (λ t. required_in t ≡ Ok tt) → OfTree log start HaveShortLogs → OfTree log start PassesNone → OfTree log start IsReportable
+reportable None start required profile short limits = tt
+reportable (Some l) start required profile short limits = record { required = required; profile = profile; short = short; limits = limits }
 
-pub tells-summary : (log : Option (List Op)) (start : Tree) (report : Report) (tip : Node) (status : ℕ) (old new : Option (List ℕ)) → OfTree log start (λ t. requires_answer (t requires_path) ≡ Ok tt) → OfTree log start (IsReportOf report)
+pub tells : (log : Option (List Op)) (start : Tree) (report : Report) (status : ℕ) (old new : Option (List ℕ)) → OfTree log start IsReportable → OfTree log start (IsReportOf report)
+    → EndsLine (report_text (findings_in report.findings.items) report.changesets report.filelogs) (report_status (findings_in report.findings.items)) status old new → OfTree log start (TellsReport status old new)
+tells None start report status old new has is line = tt
+tells (Some l) start report status old new has is line = (has, findings_in report.findings.items, report.changesets, report.filelogs, is, line)
+
+pub tells-summary : (log : Option (List Op)) (start : Tree) (report : Report) (tip : Node) (status : ℕ) (old new : Option (List ℕ)) → OfTree log start IsReportable → OfTree log start (IsReportOf report)
     → EndsLine (summary_text (findings_in report.findings.items) report.changesets report.filelogs tip) (report_status (findings_in report.findings.items)) status old new → OfTree log start (TellsSummary tip status old new)
-tells-summary None start report tip status old new required is line = tt
-tells-summary (Some l) start report tip status old new required is line = (required, findings_in report.findings.items, report.changesets, report.filelogs, is, line)
+tells-summary None start report tip status old new has is line = tt
+tells-summary (Some l) start report tip status old new has is line = (has, findings_in report.findings.items, report.changesets, report.filelogs, is, line)
 
 -- ---- a run that ends as a report does
 
@@ -60,8 +67,8 @@ module _ (status : ℕ) where
   not-refused Memory h e = is-30 h e
 
 pub told-whole : (Faulted : Type 0) (log : List Op) (start : Tree) (status : ℕ) (old new : Option (List ℕ)) → Verifies Faulted (Some log) start status old new → (status ≡ 0) ⊎ (status ≡ 29)
-    → (findings : List Finding) × (changesets : ℕ) × (filelogs : ℕ) × IsReport (after_all log start) findings changesets filelogs × (status ≡ report_status findings) × IsWritten old new (report_text findings changesets filelogs)
+    → IsReportable (after_all log start) × (findings : List Finding) × (changesets : ℕ) × (filelogs : ℕ) × IsReport (after_all log start) findings changesets filelogs × (status ≡ report_status findings) × IsWritten old new (report_text findings changesets filelogs)
 told-whole Faulted log start status old new (inl t) h =
     let whole = line-whole status (report_text t.1 t.2 t.3) (report_status t.1) old new h t.5 in
-    (t.1, t.2, t.3, t.4, whole.0, whole.1)
+    (t.0, t.1, t.2, t.3, t.4, whole.0, whole.1)
 told-whole Faulted log start status old new (inr r) h = absurd (not-refused status r.0 h (line-whole status (refusal_line r.0) (status_of r.0) old new h r.4).0)

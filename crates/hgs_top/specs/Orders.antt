@@ -47,8 +47,7 @@ use Rattle.hgs_grown.specs.declared.commits.Stop.TheVariants as stops
 use Rattle.hgs_grown.specs.Grown.{GrowsTo}
 use Rattle.hgs_findings.specs.Findings.{Finding, IsReport}
 use Rattle.hgs_index.specs.declared.node.Node.{Node}
-use Rattle.hgs_load.specs.Requirements.{requires_answer}
-use Rattle.hgs_top.specs.Run.{EndsLine, OfTree, RefusesReport, memory_line}
+use Rattle.hgs_top.specs.Run.{EndsLine, IsReportable, OfTree, RefusesReport, memory_line}
 use Rattle.hgs_top.specs.Verified.{report_status, summary_text}
 use Rattle.hgs_top.specs.Words.{Job, do_init, do_commit, do_recover, do_move, do_mark, do_unmark, Request, to_answer, to_do, to_play, to_session, to_verify, to_generate}
 
@@ -203,7 +202,7 @@ Does AreRefused job left old new start status written_old written_new =
 -- The report of the grown repository was made, and its counts are told behind the last node; or there is none.
 abbrev pub TellsSummary : Node → ℕ → Option (List ℕ) → Option (List ℕ) → Tree → Type 0
 TellsSummary tip status written_old written_new t =
-    (requires_answer (t requires_path) ≡ Ok tt)
+    IsReportable t
     × (findings : List Finding) × (changesets : ℕ) × (filelogs : ℕ) × IsReport t findings changesets filelogs × EndsLine (summary_text findings changesets filelogs tip) (report_status findings) status written_old written_new
 
 abbrev pub Summarizes : Node → Option (List Op) → Tree → ℕ → Option (List ℕ) → Option (List ℕ) → Type 0

@@ -20,7 +20,8 @@ use Rattle.hgs_top.specs.Words.{Question, ask_page, ask_log, ask_heads, ask_book
 use Rattle.hgs_findings.specs.Findings.{Finding, IsReport}
 use Rattle.hgs_load.specs.Open.{requires_path}
 use Rattle.hgs_load.specs.Requirements.{requires_answer}
-use Rattle.hgs_verify.specs.Refusal.{is_refusal, IsWhy}
+use Rattle.hgs_verify.specs.Parts.{HaveShortLogs}
+use Rattle.hgs_verify.specs.Refusal.{is_refusal, IsWhy, PassesNone, required_in}
 use Rattle.hgs_top.specs.Verified.{report_status, report_text}
 
 -- a front of these bytes was written at the end
@@ -159,10 +160,17 @@ OfReply question log start Holds = OfTree log start (λ t. Holds (reply_to quest
 
 -- ---- a report
 
--- The report of a tree of the profile: all findings and no others, in order, each once, and both counts. The status is 29 where there is a finding, else 0.
+-- what a tree has of which a report is given: it requires the profile, and no part of it passes a limit
+pub record IsReportable (t : Tree) : Type 0 where
+  pub required : requires_answer (t requires_path) ≡ Ok tt
+  pub profile : required_in t ≡ Ok tt
+  pub short : HaveShortLogs t
+  pub limits : PassesNone t
+
+-- The report of a tree of the profile that passes no limit: all findings and no others, in order, each once, and both counts. The status is 29 where there is a finding, else 0.
 abbrev pub TellsReport : ℕ → Option (List ℕ) → Option (List ℕ) → Tree → Type 0
 TellsReport status old new t =
-    (requires_answer (t requires_path) ≡ Ok tt)
+    IsReportable t
     × (findings : List Finding) × (changesets : ℕ) × (filelogs : ℕ) × IsReport t findings changesets filelogs × EndsLine (report_text findings changesets filelogs) (report_status findings) status old new
 
 -- No report was made: the files failed, one passes a limit, no repository of the profile stands here, or there was no memory.

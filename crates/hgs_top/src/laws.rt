@@ -17,7 +17,7 @@ ghost use Rattle.hgs_top.specs.Repository.{reply_of};
 ghost use Rattle.hgs_files.specs.Reads.{Rose};
 ghost use Rattle.hgs_files.specs.Streams.{IsWritten};
 ghost use Rattle.hgs_findings.specs.Findings.{Finding, IsReport};
-ghost use Rattle.hgs_top.specs.Run.{Verifies, reply_to};
+ghost use Rattle.hgs_top.specs.Run.{IsReportable, Verifies, reply_to};
 ghost use Rattle.hgs_top.specs.Verified.{report_status, report_text};
 ghost use Rattle.hgs_top.specs.Words.{Job, Question, request_of_words, to_do};
 ghost use Rattle.hgs_answers.specs.declared.answer.Answer.{Answer};
@@ -105,9 +105,9 @@ pub fn runs_make_histories()
     answered_commands_make_histories();
 }
 
-/// A run that verifies and ends with 0 or 29 has written the whole report of the tree, and ends with 29 exactly where that has a
-/// finding.
+/// A run that verifies and ends with 0 or 29 has written the whole report of the tree, of which no part passes a limit, and ends
+/// with 29 exactly where that has a finding.
 pub fn reports_are_told_whole()
     ensures { (faults_old faults_new : ℕ) (log : List Op) (start : Tree) (status : ℕ) (written_old written_new : Option (List ℕ)) → Verifies (Rose faults_old faults_new) (Some log) start status written_old written_new → (status ≡ 0) ⊎ (status ≡ 29) →
-        (findings : List Finding) × (changesets : ℕ) × (filelogs : ℕ) × IsReport (after_all log start) findings changesets filelogs × (status ≡ report_status findings) × IsWritten written_old written_new (report_text findings changesets filelogs) }
+        IsReportable (after_all log start) × (findings : List Finding) × (changesets : ℕ) × (filelogs : ℕ) × IsReport (after_all log start) findings changesets filelogs × (status ≡ report_status findings) × IsWritten written_old written_new (report_text findings changesets filelogs) }
 {}

@@ -3,7 +3,7 @@ use Rattle.hgs_files.specs.declared.op.Op.{Op}
 use Rattle.hgs_files.specs.Tree.{Tree}
 use Rattle.hgs_verify.specs.Refusal.{IsWhy}
 use Rattle.hgs_top.specs.Run.{OfTree, TellsReport}
-use Rattle.hgs_top.proofs.VerifiedLemmas.{tells}
+use Rattle.hgs_top.proofs.VerifiedLemmas.{reportable, tells}
 use Rattle.hgs_top.proofs.verified.run_verify.Goals as goal
 
 pub returns-in-Ok-clause-verifies : goal.returns-in-Ok-clause-verifies
@@ -16,7 +16,7 @@ returns-in-Ok-clause-verifies g c =
     let T : Tree → Type 0 = TellsReport c.tell.result old new in
     let L : Option (List Op) → Type 0 = λ log. OfTree log (g.F.Reads.start c.args.files.now) T in
     let S : Tree → Type 0 = λ start. OfTree seen start T in
-    inl (subst L (e.still alone ∙ g.met.F.Files.latest c.args.files.now) (subst S e.same_start (tells seen (g.F.Reads.start c.verify-verified.new.files) c.in-Ok.report c.tell.result old new (e.required alone) (e.report alone) c.tell.ensures.line)))
+    inl (subst L (e.still alone ∙ g.met.F.Files.latest c.args.files.now) (subst S e.same_start (tells seen (g.F.Reads.start c.verify-verified.new.files) c.in-Ok.report c.tell.result old new (reportable seen (g.F.Reads.start c.verify-verified.new.files) (e.required alone) (e.profile alone) (e.short alone) (e.limits alone)) (e.report alone) c.tell.ensures.line)))
 
 pub returns-in-Err-clause-verifies : goal.returns-in-Err-clause-verifies
 returns-in-Err-clause-verifies g c =
