@@ -21,23 +21,11 @@ use Rattle.hgs_machine.specs.Course.{CarriedOut, lock_removals}
 use Rattle.hgs_machine.specs.Fed.{advanced, fed_done, sweeping}
 use Rattle.hgs_machine.specs.Locks.{AreRemoved, Looks, Makes, MayLock, MayRelease, TakesLocks}
 use Rattle.hgs_machine.specs.SoFar.{IsInPart, Leaves, Replies, SoFar}
+use Rattle.hgs_machine.specs.Theorems.LogLemmas.{behind}
 use Rattle.hgs_machine.proofs.Going.{goes-done}
 use Rattle.hgs_machine.proofs.Locking.{Pair, barred-second, abandoned, named}
 use Rattle.hgs_machine.proofs.Pieces.{denied-failed, done-whole}
 use Rattle.hgs_machine.proofs.Stopping.{stops}
-
--- ---- logs that are told
-
-some-log : {A : Type 0} (log : List Op) → ◌≡◌ {A = Option (List Op)} None (Some log) → A
-some-log log e = absurd (let no : ⊥ = cc in no)
-
-same-log : {a b : List Op} → Some a ≡ Some b → a ≡ b
-same-log e = cc
-
--- what holds of every log that goes on so from the one before holds of the log now
-behind : (before now : Option (List Op)) (P Q : List Op → Type 0) → GoesOn before now P → ((old more : List Op) → before ≡ Some old → P more → Q (old ++ more)) → ForSome now Q
-behind None now P Q h f = λ log told. some-log log (sym h ∙ told)
-behind (Some old) now P Q h f = λ log told. subst Q (same-log (sym h.1 ∙ told)) (f old h.0 refl h.2)
 
 -- ---- a plan that is carried out
 

@@ -7,3 +7,4 @@ pub mod Locks
 pub mod Sound
 pub mod Fed
 pub mod Refusals
+pub mod Theorems

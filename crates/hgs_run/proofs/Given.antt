@@ -51,7 +51,3 @@ pub status_tells : {Y A Rest Front W R : Type 0} (left : Left Y A Rest Front W R
 status_tells (Whole y) told said status old new whole same parts h = subst (λ s. TellsSession told s old new) (sym (same tt)) h
 status_tells (Parts w rs) (Ok r) said status old new whole same parts h = absurd (whole refl)
 status_tells (Parts w rs) (Err e) said status old new whole same parts h = memory_said said status old new (parts (λ x. x)) h
-
-pub if_parts : {Y A Rest Front W R : Type 0} {P Q : W → List R → Type 0} (left : Left Y A Rest Front W R) → ((w : W) (rs : List R) → P w rs → Q w rs) → IfParts left P → IfParts left Q
-if_parts (Whole yard) f h = tt
-if_parts (Parts w rs) f h = f w rs.items h

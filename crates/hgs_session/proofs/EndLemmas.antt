@@ -21,7 +21,7 @@ use Rattle.hgs_session.specs.declared.session.NoResult.{NoResult}
 use Rattle.hgs_session.specs.Calls.{Beginning, Call, Stage}
 use Rattle.hgs_session.specs.Desk.{HasMade}
 use Rattle.hgs_session.specs.Jobs.{HasDone, Progress}
-use Rattle.hgs_session.specs.Session.{AreCounted, AreOfOneStart, AreOfStart, Comes, EndState, EndedFrom, HasEnded, IfParts, IsWithin, LeftAs, RestsOn, Tells, changes_in, count_of, state_of}
+use Rattle.hgs_session.specs.Session.{AreCounted, AreOfOneStart, AreOfStart, Comes, EndState, EndedFrom, HasEnded, IsWithin, LeftAs, RestsOn, Tells, changes_in, count_of, state_of}
 use Rattle.hgs_session.proofs.JobLemmas.{done_on}
 
 pub ended_more : (x : Beginning) (worker : ℕ) (calls : List Call) (states : List EndState) (replies : List (List Answered)) (m : EndState) (a : List Answered)
@@ -155,10 +155,6 @@ counts_of faults_at denied_at faults_of denied_of state now rs (Whole y) same h 
     record { faults_are = h.0 ∙ ap (counted now.faults) (sym F); denied_are = h.1 ∙ ap (counted now.denied) (sym D) }
 
 -- ---- ends that could not be put together
-
-pub if_parts : {Y A Rest Front W R : Type 0} {P Q : W → List R → Type 0} → (left : Left Y A Rest Front W R) → ((w : W) (rs : List R) → P w rs → Q w rs) → IfParts left P → IfParts left Q
-if_parts (Whole y) f h = h
-if_parts (Parts w rs) f h = f w rs.items h
 
 pub of_start : {R : Type 0} (was : Ties) (earlier : Option (List Op)) (start : Tree) (lead : Ties) (ties : R → Ties) (rs : List R) → was.earlier ≡ earlier → was.earlier_start ≡ start → AreOfStart was.earlier was.earlier_start lead ties rs → AreOfStart earlier start lead ties rs
 of_start was earlier start lead ties rs e s h = (h.0 ∙ e, h.1 ∙ s, h.2)

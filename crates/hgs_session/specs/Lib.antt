@@ -4,3 +4,4 @@ pub mod Rules
 pub mod Desk
 pub mod Jobs
 pub mod Session
+pub mod Theorems

@@ -12,6 +12,7 @@ use Rattle.hgs_files.specs.Theorems.TreeLemmas.{after_all-append}
 use Rattle.hgs_machine.specs.Carry.{MayCarry, tree_now}
 use Rattle.hgs_machine.specs.Course.{CarriedOut, lock_removals}
 use Rattle.hgs_machine.specs.Locks.{AreLocked, AreRemoved, MayLock, MayRelease, TakesLocks}
+use Rattle.hgs_machine.specs.Theorems.LogLemmas.{behind}
 use Rattle.hgs_machine.specs.declared.ended.Short.{Short}
 use Rattle.hgs_machine.specs.declared.locks.NotLocked.{NotLocked}
 use Rattle.hgs_model.specs.declared.command.Command.{Command}
@@ -23,17 +24,6 @@ use Rattle.hgs_writer.specs.Outcomes.{outcome_of_commit, outcome_of_ended, outco
 use Rattle.hgs_writer.specs.Planning.{Plans, has_no_memory}
 use Rattle.hgs_writer.specs.Written.{MayWrite, has_no_plan, has_plan}
 use Rattle.hgs_writer.proofs.WrittenLemmas.{and_told}
-
-some-log : {A : Type 0} (log : List Op) → ◌≡◌ {A = Option (List Op)} None (Some log) → A
-some-log log e = absurd (let no : ⊥ = cc in no)
-
-same-log : {a b : List Op} → Some a ≡ Some b → a ≡ b
-same-log e = cc
-
--- what holds of every log that goes on so from the one before holds of the log now
-behind : (before now : Option (List Op)) (P Q : List Op → Type 0) → GoesOn before now P → ((old more : List Op) → before ≡ Some old → P more → Q (old ++ more)) → ForSome now Q
-behind None now P Q h f = λ log told. some-log log (sym h ∙ told)
-behind (Some old) now P Q h f = λ log told. subst Q (same-log (sym h.1 ∙ told)) (f old h.0 refl h.2)
 
 -- the locks: behind them there may be no memory for a plan
 pub may-lock : (who : List ℕ) (command : Command) (log : Option (List Op)) (allows : List Op → Type 0) (start : Tree) → MayWrite who command log allows start → MayLock who log allows start

@@ -5,5 +5,4 @@ pub mod Limits
 pub mod Outcomes
 pub mod Planning
 pub mod Refusals
-pub mod Theorems
 pub mod Written

@@ -7,8 +7,9 @@ use Rattle.hgs_loading.specs.Found.{required_in}
 use Rattle.hgs_session.specs.Session.{AreCounted, AreOfOneStart, IsWhole, LeftAs, MayRun, RestsOn}
 use Rattle.hgs_top.specs.Run.{OfTree}
 use Rattle.hgs_run.specs.Session.{no_profile, no_script, ran}
-use Rattle.hgs_run.proofs.Given.{if_parts, ran_over}
+use Rattle.hgs_run.proofs.Given.{ran_over}
 use Rattle.hgs_run.proofs.session.run_session.Goals as goal
+use Rattle.hgs_session.specs.Theorems.PartsLemmas.{if_parts}
 
 pub run_script-requires-clause-allows : goal.run_script-requires-clause-allows
 run_script-requires-clause-allows g c κs within =

@@ -1,8 +1,9 @@
 use Rattle.std.proofs.Common.{refl}
 use Rattle.hgs_session.specs.Calls.{Stage}
 use Rattle.hgs_session.specs.Session.{EndState}
-use Rattle.hgs_session.proofs.EndLemmas.{comes_of, counts_of, if_parts, left_as, listed_of, of_start, rests_on}
+use Rattle.hgs_session.proofs.EndLemmas.{comes_of, counts_of, left_as, listed_of, of_start, rests_on}
 use Rattle.hgs_session.proofs.session.close.Goals as goal
+use Rattle.hgs_session.specs.Theorems.PartsLemmas.{if_parts}
 
 pub returns-clause-comes : goal.returns-clause-comes
 returns-clause-comes g c =

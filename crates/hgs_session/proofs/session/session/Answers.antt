@@ -2,8 +2,9 @@ use Rattle.std.proofs.Common.{[], refl}
 use Rattle.std.proofs.Math.Logic.{∥∥₁_map}
 use Rattle.hgs_session.specs.Calls.{Beginning}
 use Rattle.hgs_session.proofs.BeginLemmas.{at_home, begun, comes_under, new_ones, rests_begun, rests_same, unbegun, unbegun_over}
-use Rattle.hgs_session.proofs.EndLemmas.{if_parts, left_as, of_one_start}
+use Rattle.hgs_session.proofs.EndLemmas.{left_as, of_one_start}
 use Rattle.hgs_session.proofs.session.session.Goals as goal
+use Rattle.hgs_session.specs.Theorems.PartsLemmas.{if_parts}
 
 pub returns-in_default-clause-comes : goal.returns-in_default-clause-comes
 returns-in_default-clause-comes g c =
