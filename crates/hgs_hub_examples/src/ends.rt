@@ -33,14 +33,14 @@ impl Protocol for Free {
 
 /// A writing end and a reading end of one start.
 #[derive(Drop)]
-struct Pair<T: Wait + Drop + Send> {
-    w: HubWriter<Free, T>,
-    r: HubReader<Free>,
+pub(crate) struct Pair<T: Wait + Drop + Send> {
+    pub(crate) w: HubWriter<Free, T>,
+    pub(crate) r: HubReader<Free>,
     ghost home: { (ties_by r).home ≡ (ties_at w).home },
 }
 
 /// Both ends of a yard over these files.
-fn two_ends<T: Wait + Drop + Send>(rt: T, files: MemFiles) -> Result<Pair<T>, Fail> {
+pub(crate) fn two_ends<T: Wait + Drop + Send>(rt: T, files: MemFiles) -> Result<Pair<T>, Fail> {
     let hub: Hub<Free, T> = Hub::new(rt, files);
     let Ok((w, rs)) = hub.start(1) else {
         return Err(Fail::new("no memory"));

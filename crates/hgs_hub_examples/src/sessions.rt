@@ -106,15 +106,15 @@ fn new_repository(alloc: Global) -> Result<MemFiles, Fail> {
 }
 
 /// How many commits each of two workers makes, while two others ask as often.
-const COMMITS_OF_EACH: u32 = 10;
+const COMMITS_OF_EACH: u32 = 50;
 
 // A script of four workers: two that commit and ask for a file behind each commit, and two that list.
 fn script_of_four(alloc: Global) -> Result<Vec<u8>, Fail> {
     let mut text = Vec::from_slice(alloc, b"session 4\n")?;
-    for at in 0..COMMITS_OF_EACH {
+    for at in 10..10 + COMMITS_OF_EACH {
         for worker in 0..2u32 {
             let jobs = format!(in alloc;
-                "{worker} commit\ncommit\nuser u\ndate {at} 0\ndesc 1\nc\nfile - 2 f\n{worker}{at}\nend\n{worker} cat tip f\n"
+                "{worker} commit\ncommit\nuser u\ndate {at} 0\ndesc 1\nc\nfile - 3 f\n{worker}{at}\nend\n{worker} cat tip f\n"
             )?;
             text.extend_from_slice(jobs.as_bytes())?;
         }
@@ -178,7 +178,7 @@ fn workers_run_beside_each_other(rt: HostRuntime) -> Result<(), Fail> {
         (COMMITS, Waits::Behind(0), comes(1, 2, &[0, 1], b"\n")),
         (COMMITS, Waits::Behind(1), comes(1, 2, &[1, 0], b"\n")),
         (LOG_BEHIND, Waits::Behind(1), comes(1, 1, &[1], b"\tu\tb\n")),
-        (&four, Waits::Never, comes(0, 20, &[], b"\n")),
+        (&four, Waits::Never, comes(0, 100, &[], b"\n")),
     ];
     for (text, waits, wanted) in runs {
         let gate = new_gate(waits);

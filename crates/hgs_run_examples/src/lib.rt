@@ -2,16 +2,18 @@
 #![tactic(auto)]
 
 #[cfg(test)]
+mod commands;
+#[cfg(test)]
 mod outside;
 #[cfg(test)]
 mod refresh;
-#[cfg(test)]
-mod rows;
 #[cfg(test)]
 mod stops;
 #[cfg(test)]
 mod stores;
 #[cfg(test)]
 mod tail;
+#[cfg(test)]
+mod transcripts;
 #[cfg(test)]
 mod yards;

@@ -1,6 +1,8 @@
 //! Each call of a commit stops in turn after so many bytes, or fails, and so does each of a recovery behind it: what is told then
 //! are the lines before or those after, and those after where the commit was answered. The nodes are Mercurial's.
 use crate::yards::run_over;
+use hgs_files::files::Reads;
+use hgs_files::path::StorePath;
 use hgs_mem::mem::MemFiles;
 use hgs_mem::streams::{MemSink, MemSource};
 use std::alloc::Global;
@@ -18,6 +20,21 @@ const BEFORE: &[u8] =
 
 const AFTER: &[u8] =
     b"1\x0937bdf19219c0e69b87d6371fabfaf5c3a63794d9\x090\x09-1\x0960\x090\x09test\x09b\n0\x09cb9a9f314b8b07ba71012fcdbc544b5a4d82ff5b\x09-1\x09-1\x090\x090\x09test\x09a\n";
+
+/// The first commit of an empty file.
+const EMPTY: &[u8] = b"commit\nuser test\ndate 0 0\ndesc 1\na\nfile - 0 e\n\nend\n";
+
+/// A commit that gives that file a text, and adds one that is too long for an inline filelog: 4,097 bytes.
+const LONG_BEFORE: &[u8] =
+    b"commit\nparent tip\nuser test\ndate 60 0\ndesc 1\nb\nfile - 1 e\nx\nfile - 4097 f\n";
+
+const LONG_BEHIND: &[u8] = b"\nend\n";
+
+/// The journal of the first commit, and its list of backups.
+const JOURNAL: &[u8] =
+    b"data/a.i\x000\nfncache\x000\n00manifest.d\x000\n00manifest.i\x000\n00changelog.d\x000\n00changelog.i\x000\n";
+
+const BACKUPS: &[u8] = b"2\n\x00phaseroots\x00\x000\nplain\x00dirstate\x00\x000\n";
 
 /// More calls than a commit makes.
 const CALLS: u64 = 100;
@@ -121,5 +138,92 @@ fn each_call_of_a_recovery_stops_in_turn(rt: HostRuntime) -> Result<(), Fail> {
             assert!(rt; lines.as_slice() == BEFORE || lines.as_slice() == AFTER);
         }
     }
+    Ok(())
+}
+
+/// The bytes of a file, none where it is absent.
+fn bytes_of(alloc: Global, files: &mut MemFiles, path: &[u8]) -> Result<Option<Vec<u8>>, Fail> {
+    let mut bytes = Vec::new(alloc);
+    match files.read(&StorePath::new(alloc, path)?, 0, 1000, &mut bytes)? {
+        Some(_) => Ok(Some(bytes)),
+        None => Ok(None),
+    }
+}
+
+/// The files of a new repository.
+fn begun<R: Alloc<A = Global> + Threads + Sync + Wait>(rt: &R) -> Result<MemFiles, Fail> {
+    let made = run_word(rt, MemFiles::new(rt.alloc())?, "init", b"")?;
+    Ok(made.files.restart())
+}
+
+/// Where the first commit stopped with its journal whole, that names each file that was appended to, and beside it stands the list of
+/// those that are replaced.
+#[test]
+fn the_journal_names_what_grows(rt: HostRuntime) -> Result<(), Fail> {
+    let alloc = rt.alloc();
+    let mut found = 0u64;
+    for call in 0..CALLS {
+        let mut files = begun(&rt)?;
+        files.stop(call, 0);
+        let mut left = run_word(&rt, files, "commit", FIRST)?.files.restart();
+        if let Some(journal) = bytes_of(alloc, &mut left, b"store/journal")? {
+            let backups = bytes_of(alloc, &mut left, b"store/journal.backupfiles")?;
+            assert!(rt; journal.is_empty() || journal.as_slice() == JOURNAL);
+            assert!(rt; backups.is_some_and(|bytes| bytes.as_slice() == BACKUPS));
+            found = found.saturating_add(1);
+        }
+    }
+    assert!(rt; found > 0);
+    Ok(())
+}
+
+/// Where a commit fails, neither file of a filelog that it made is left.
+#[test]
+fn what_fails_leaves_no_file(rt: HostRuntime) -> Result<(), Fail> {
+    let alloc = rt.alloc();
+    let mut record = Vec::from_slice(alloc, LONG_BEFORE)?;
+    for _ in 0..4097u32 {
+        record.push(b'f')?;
+    }
+    record.extend_from_slice(LONG_BEHIND)?;
+    let mut failed = 0u64;
+    for call in 0..CALLS {
+        let mut files = run_word(&rt, begun(&rt)?, "commit", EMPTY)?.files.restart();
+        files.fail(call, 0)?;
+        let mut left = run_word(&rt, files, "commit", &record)?;
+        if left.status == 16 {
+            assert!(rt; bytes_of(alloc, &mut left.files, b"store/data/f.i")?.is_none());
+            assert!(rt; bytes_of(alloc, &mut left.files, b"store/data/f.d")?.is_none());
+            failed = failed.saturating_add(1);
+        }
+    }
+    assert!(rt; failed > 0);
+    Ok(())
+}
+
+/// Where a transaction is left unfinished, no other begins before it is recovered, once.
+#[test]
+fn what_is_left_open_is_recovered_once(rt: HostRuntime) -> Result<(), Fail> {
+    let mut open = 0u64;
+    for call in 0..CALLS {
+        let mut files = committed(&rt)?;
+        files.fail(call, 0)?;
+        let left = run_word(&rt, files, "commit", SECOND)?;
+        if left.status == 17 {
+            let again = run_word(&rt, left.files, "commit", SECOND)?;
+            assert_eq!(rt;
+                again.text.as_slice(),
+                b"abort: abandoned transaction found\n".as_slice()
+            );
+            let first = run_word(&rt, again.files, "recover", b"")?;
+            assert_eq!(rt; first.text.as_slice(), b"transaction undone\n".as_slice());
+            let second = run_word(&rt, first.files, "recover", b"")?;
+            assert_eq!(rt; second.status, 1);
+            let lines = run_word(&rt, second.files, "log", b"")?.text;
+            assert_eq!(rt; lines.as_slice(), BEFORE);
+            open = open.saturating_add(1);
+        }
+    }
+    assert!(rt; open > 0);
     Ok(())
 }
