@@ -62,7 +62,8 @@ def watch(process):
     signal.signal(signal.SIGTERM, lambda *_: process.terminate())
     while process.poll() is None:
         for pid in filter(str.isdigit, os.listdir("/proc")):
-            if pid not in kinds:
+            # a process that is another command yet may become a checker
+            if not kinds.get(pid):
                 words = read(f"/proc/{pid}/cmdline").split(b"\0")
                 is_checker = words and re.search(rb"/(rattle|antt)[^/]*$", words[0]) and of_this_session(pid)
                 kinds[pid] = kind_of(pid, words) if is_checker else None
