@@ -1,7 +1,6 @@
 -- What is asked of the files is what the call may leave when it breaks off behind that.
 use Rattle.std.proofs.Common.{◌≡◌, ℕ, ◌+◌, List, [], ◌∷◌, ◌++◌, refl, sym, ◌∙◌, ap, subst, inl, inr, append_assoc, append-nil, length, Bool, true, false}
-use Rattle.std.specs.Option.{ForSome}
-use Rattle.std.specs.Prelude.{Option, Some, None, Result, Ok, Err, if◌then◌else◌, nat_lt}
+use Rattle.std.specs.Prelude.{Option, None, Result, Ok, Err, if◌then◌else◌, nat_lt}
 use Rattle.hgs_files.specs.declared.op.Op.{Op}
 use Rattle.hgs_files.specs.declared.op.Op.TheVariants.{Append, Cut, Rename, Remove, Create, Sync, Settle}
 use Rattle.hgs_files.specs.Files.{GoesOn, MayCreate, MayDo}
@@ -19,7 +18,7 @@ use Rattle.hgs_machine.specs.Asked.{Doing, Ending, Question, Sizing, asked}
 use Rattle.hgs_machine.specs.Carry.{MayAsk, MayCarry, tree_now}
 use Rattle.hgs_machine.specs.Course.{CarriedOut, lock_removals}
 use Rattle.hgs_machine.specs.Fed.{advanced, fed_done, sweeping}
-use Rattle.hgs_machine.specs.Locks.{AreRemoved, Looks, Makes, MayLock, MayRelease, TakesLocks}
+use Rattle.hgs_machine.specs.Locks.{AreRemoved, Looks, Makes, MayLock, MayRelease}
 use Rattle.hgs_machine.specs.SoFar.{IsInPart, Leaves, Replies, SoFar}
 use Rattle.hgs_machine.specs.Theorems.LogLemmas.{behind}
 use Rattle.hgs_machine.proofs.Going.{goes-done}

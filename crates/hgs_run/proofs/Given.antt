@@ -15,7 +15,7 @@ use Rattle.hgs_script.specs.declared.job.Job.{Job}
 use Rattle.hgs_script.specs.declared.result.SessionResult.{SessionResult}
 use Rattle.hgs_script.specs.declared.script.Script.{Script}
 use Rattle.hgs_session.specs.Calls.{Beginning, Stage}
-use Rattle.hgs_session.specs.Session.{BeginsOver, Comes, EndState, IfParts, IsWhole}
+use Rattle.hgs_session.specs.Session.{BeginsOver, Comes, EndState, IsWhole}
 use Rattle.hgs_session.specs.declared.session.NoResult.{NoResult}
 use Rattle.hgs_top.specs.Run.{EndsLine, memory_line}
 use Rattle.hgs_top.specs.Theorems.Inputs.{looked_at_decides}

@@ -1,6 +1,6 @@
 //! Filelogs that are read one after another and judged side by side.
 ghost use Rattle.std.specs.Prelude.{◌≡◌, ◌+◌, ◌++◌, ◌∷◌, ◌||◌, [], IfErr, IfOk, OnOk, length, min, nat_le, true, unwrap_or};
-ghost use Rattle.hgs_files.specs.Reads.{Grows};
+ghost use Rattle.hgs_files.specs.Reads.{Grows, counted};
 ghost use Rattle.hgs_load.specs.Answer.{HasFaultCause, is_of_outside};
 ghost use Rattle.hgs_verify.specs.Looked.{OfTree};
 ghost use Rattle.hgs_verify.specs.Refusal.{is_refusal};
@@ -39,7 +39,8 @@ fn length_of(task: &Task) -> u64
 impl Batch {
     /// A batch of no filelogs. Takes no memory.
     pub fn new(alloc: Global) -> Batch
-        ensures { result.tasks.items ≡ [] }
+        ensures none { result.tasks.items ≡ [] }
+        ensures empty { result.bytes ≡ 0 }
     {
         Batch {
             tasks: Vec::new(alloc),
@@ -56,7 +57,8 @@ impl Batch {
 
     /// Adds a filelog that was read.
     pub fn add(&mut self, task: Task) -> Result<(), AllocError>
-        ensures { OnOk result (self.new.tasks.items ≡ self.old.tasks.items ++ task ∷ []) }
+        ensures added { OnOk result (self.new.tasks.items ≡ self.old.tasks.items ++ task ∷ []) }
+        ensures counted { OnOk result (self.new.bytes ≡ counted self.old.bytes (length (unwrap_or task.parts.index []) + length (unwrap_or task.parts.chunks []))) }
     {
         self.bytes = self.bytes.saturating_add(length_of(&task));
         self.tasks.push(task)?;

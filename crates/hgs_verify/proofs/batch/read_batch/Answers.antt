@@ -14,7 +14,7 @@ returns-then-is_full-clause-read g c =
     let task = c.in_ok-task.task in
     λ alone.
     two-looks (g.R.Reads.seen c.loop-path.files) (g.R.Reads.seen c.read_task.new.files) (g.R.Reads.start c.loop-path.files) (g.R.Reads.start c.read_task.new.files) (AreReadOf tasks) (IsReadOf task) (AreReadOf c.add.new.self.tasks.items) (one.still alone) one.same_start
-    (λ t. one-more t tasks c.add.new.self.tasks.items task c.in_ok-add.ensures)
+    (λ t. one-more t tasks c.add.new.self.tasks.items task c.in_ok-add.ensures.added)
     (c.loop-path.invariant.read alone) (one.read alone)
 
 pub returns-then-is_full-clause-seen : goal.returns-then-is_full-clause-seen
@@ -28,10 +28,10 @@ loop-path-preserved g c =
     let tasks = c.loop-path.batch.tasks.items in
     let left = c.pop_first.new.self.keys in
     record {
-      order = ap (λ l. paths_of l ++ left) c.in_ok-add.ensures ∙ next-path tasks task left ∙ ap (λ p. paths_of tasks ++ p ∷ left) one.path ∙ ap (λ l. paths_of tasks ++ l) (sym c.in-Some.ensures.removal) ∙ i.order;
+      order = ap (λ l. paths_of l ++ left) c.in_ok-add.ensures.added ∙ next-path tasks task left ∙ ap (λ p. paths_of tasks ++ p ∷ left) one.path ∙ ap (λ l. paths_of tasks ++ l) (sym c.in-Some.ensures.removal) ∙ i.order;
       read = λ alone.
           two-looks (g.R.Reads.seen c.loop-path.files) (g.R.Reads.seen c.read_task.new.files) (g.R.Reads.start c.loop-path.files) (g.R.Reads.start c.read_task.new.files) (AreReadOf tasks) (IsReadOf task) (AreReadOf c.add.new.self.tasks.items) (one.still alone) one.same_start
-          (λ t. one-more t tasks c.add.new.self.tasks.items task c.in_ok-add.ensures)
+          (λ t. one-more t tasks c.add.new.self.tasks.items task c.in_ok-add.ensures.added)
           (i.read alone) (one.read alone);
       grown = grows-on (g.R.Reads.seen c.args.files.now) (g.R.Reads.seen c.loop-path.files) (g.R.Reads.seen c.read_task.new.files) i.grown one.seen;
       same_start = one.same_start ∙ i.same_start;
