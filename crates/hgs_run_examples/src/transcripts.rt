@@ -14,8 +14,7 @@ use std::thread::Threads;
 const MOST: u64 = 100_000;
 
 /// One step of a transcript: a first line, which says what is done, and what stands below it. That is the lines that are given,
-/// behind `<`, those that are told or that a file has, behind `>`, and the status, behind `=`. Behind `<x` and `>x` stand bytes in hex,
-/// and behind `<*` how many of a letter.
+/// behind `<`, those that are told or that a file has, behind `>`, and the status, behind `=`. Behind `<x` and `>x` stand bytes in hex.
 ///
 /// `$` runs words, `put` gives a file its bytes, `at` gives it them from a place on, and `has` and `lacks` say what stands.
 #[derive(Drop)]
@@ -65,14 +64,6 @@ fn add_hex(alloc: Global, bytes: &mut Vec<u8>, digits: &str) -> Result<(), Fail>
     }
 }
 
-fn add_letters(bytes: &mut Vec<u8>, line: &str) -> Result<(), Fail> {
-    let (count, letter) = parted(line);
-    for _ in 0..number(count)? {
-        bytes.extend_from_slice(letter.as_bytes())?;
-    }
-    Ok(())
-}
-
 impl<'a> Step<'a> {
     fn new(alloc: Global, line: &'a str) -> Step<'a> {
         Step {
@@ -92,7 +83,6 @@ impl<'a> Step<'a> {
             ">" => add_line(&mut self.told, rest)?,
             "<x" => add_hex(self.alloc, &mut self.given, rest)?,
             ">x" => add_hex(self.alloc, &mut self.told, rest)?,
-            "<*" => add_letters(&mut self.given, rest)?,
             "=" => self.status = status(rest)?,
             "" => {}
             _ => return Ok(false),
