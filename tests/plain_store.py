@@ -74,6 +74,11 @@ class Revlog:
         return len(self.texts[0]) <= MOST_INLINE
 
 
+def extensions_for(text):
+    """The files of a new filelog that begins with a text: an inline one has no data file."""
+    return (b".i",) if len(text) <= MOST_INLINE else (b".i", b".d")
+
+
 def listed_name(path, ext):
     *folders, last = path.split(b"/")
     marked = [f + b".hg" if f.endswith((b".hg", b".i", b".d")) else f for f in folders]
@@ -162,9 +167,9 @@ class Store:
             raise Refused(25, "abort: repository exists")
 
     def in_the_way(self, added):
-        """A file at one of the two names of a new path, also of one that will have no data file: the first in the order of paths."""
+        """A file at a name of a file that a new path's filelog will have: the first in the order of paths."""
         for path in sorted(added):
-            for ext in (b".i", b".d"):
+            for ext in extensions_for(added[path][0]):
                 if path not in self.filelogs and store_name(path, ext) in self.strays:
                     raise Refused(34, f"abort: file in the way {store_name(path, ext)}")
 
@@ -252,8 +257,7 @@ class Store:
         for path in sorted(added):
             if path not in self.filelogs:
                 self.filelogs[path] = Revlog()
-                extensions = (b".i",) if len(added[path][0]) <= MOST_INLINE else (b".i", b".d")
-                self.list += b"".join(listed_name(path, ext) + b"\n" for ext in extensions)
+                self.list += b"".join(listed_name(path, ext) + b"\n" for ext in extensions_for(added[path][0]))
             rows[path] = (self.filelogs[path].add(*added[path], link), rows[path][1])
         self.manifests.append(self.manifest.add(text, above, link))
         self.changelog.add(change, parents, link)
@@ -315,7 +319,9 @@ class Store:
             files[f"{name}.i"], files[f"{name}.d"] = log.files()
         files["store/00changelog.i"] += self.tail
         for path, log in self.filelogs.items():
-            files[store_name(path, b".i")], files[store_name(path, b".d")] = log.files(log.is_inline())
+            files[store_name(path, b".i")], data = log.files(log.is_inline())
+            if data:
+                files[store_name(path, b".d")] = data
         files["bookmarks"] = b"".join(b"%s %s\n" % (self.changelog.nodes[rev].hex().encode(), name.encode()) for name, rev in sorted(self.marks.items(), key=lambda mark: mark[0].encode()))
         if self.working is not None:
             entries = b"".join(struct.pack(">cIiiI", b"n", 0, -1, -1, len(path)) + path for path in self.tracked)

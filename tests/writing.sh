@@ -260,6 +260,15 @@ cd ..
 mkdir way && cd way && "$program" init && mkdir .hg/store/data && printf xyz >.hg/store/data/a.i || exit 1
 in_the_way() { printf 'commit\nuser u\ndate 0 0\ndesc 0\n\nfile - 1 a\nx\nend\n' | "$program" commit; }
 check "a file in the way" refused 34 "abort: file in the way store/data/a.i" in_the_way
+printf xyz >.hg/store/data/b.d
+beside_inline() {
+    printf 'commit\nuser u\ndate 0 0\ndesc 0\n\nfile - 1 b\nx\nend\n' | "$program" commit &&
+        [ "$("$program" cat 0 b)$(cat .hg/store/data/b.d)" = xxyz ] && nothing_wrong
+}
+check "a file where an inline filelog has none" beside_inline
+printf xyz >.hg/store/data/c.d
+separate() { printf 'commit\nuser u\ndate 0 0\ndesc 0\n\nfile - 4097 c\n%04097d\nend\n' 0 | "$program" commit; }
+check "a file where a separate filelog has its data" refused 34 "abort: file in the way store/data/c.d" separate
 check "a repository is made once" refused 25 "abort: repository exists" "$program" init
 
 [ "$skipped" = 0 ] && echo "$passed passed, $failed failed" || echo "$passed passed, $failed failed, $skipped skipped"

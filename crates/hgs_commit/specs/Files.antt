@@ -77,14 +77,14 @@ kept_in f (Some a) (Some b) body t = Ok None
 
 -- ---- a file of the new tree
 
--- a file with bytes that stands where a new filelog's would be made
+-- a file with bytes that stands where a new filelog's would be made; an inline one has no data file
 abbrev pub standing_at : List ℕ → Tree → List Obstacle
 standing_at path t = if length (bytes_at t path) == 0 then [] else stands path ∷ []
 
 -- what keeps a new revision from standing behind those of a filelog
 abbrev pub place_in : OfLog → Tree → Result (List Obstacle) ReadAnswer
 place_in f t =
-    if length f.log.entries == 0 then Ok (standing_at f.index t ++ standing_at f.chunks t)
+    if length f.log.entries == 0 then Ok (standing_at f.index t ++ (if f.log.inline then [] else standing_at f.chunks t))
     else and_then (either_data_in f.index f.chunks f.log t) (λ x. Ok [])
 
 -- its row, whether the changeset lists it, what is appended to its filelog, and whether that is a new one and inline

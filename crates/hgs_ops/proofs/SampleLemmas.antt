@@ -11,7 +11,8 @@ use Rattle.hgs_bytes.specs.Bytes.{same, among}
 use Rattle.hgs_bytes.specs.Theorems.ByteLemmas.{same-eq}
 use Rattle.hgs_files.specs.Tree.{after_all, bytes_at}
 use Rattle.hgs_index.specs.declared.kinds.Flag.TheVariants.{Plain}
-use Rattle.hgs_index.specs.Either.{chunks_either}
+use Rattle.hgs_index.specs.Either.{chunk_bytes}
+use Rattle.hgs_index.specs.Inline.{chunks_apart}
 use Rattle.hgs_model.specs.declared.command.Command.TheVariants.{Commit}
 use Rattle.hgs_model.specs.History.{history, log_with_file, no_history}
 use Rattle.hgs_model.specs.Repo.{TreeFile, empty_repo}
@@ -25,6 +26,7 @@ use Rattle.hgs_stands.specs.Places.{fncache_path, requires_path}
 use Rattle.hgs_stands.specs.Samples.{first_draft}
 use Rattle.hgs_stands.specs.Stands.{IsClean, Stands}
 use Rattle.hgs_stands.specs.Theorems.EmptyLemmas.{empty-stands}
+use Rattle.hgs_ops.specs.Growth.{begins_inline}
 use Rattle.hgs_ops.specs.Operations.{operations, transaction_of}
 use Rattle.hgs_ops.specs.Samples.{after_delete, after_first, after_publish, after_set, bare, delete_here, first_change, one_draft, one_marked, one_public, one_unmarked, publish_here, requires_text, set_here}
 use Rattle.hgs_ops.specs.Unhindered.{AreNewRevisions, IsReady}
@@ -113,18 +115,22 @@ few path = by (same requires_path path)
 pub first-ready : IsReady bare empty_repo (Commit first_change) one_draft
 first-ready = (
   record {
-    room = record { changesets = most 0 1000000 refl; changelog = most 0 _ refl; manifest = most 0 _ refl; filelogs = λ path used. subst (λ i. length (chunks_either i (bytes_at bare (store_name path D))) ≤ 2 ^ 48 - 1) (sym (no-bytes (store_name path I) refl)) (subst (λ l. length (chunks_either [] l) ≤ 2 ^ 48 - 1) (sym (no-bytes (store_name path D) refl)) (most 0 _ refl)) };
+    room = record { changesets = most 0 1000000 refl; changelog = most 0 _ refl; manifest = most 0 _ refl; filelogs = λ path used. no-chunks path (begins_inline ((history one_draft.changesets).filelog path)) };
     separate = refl;
     changelog = new-changelog;
     manifest = new-manifest;
     filelogs = new-filelogs;
     names = λ path other a b. apart path other (same-eq path (codes "a") (or-none (same path (codes "a")) a)) (same-eq other (codes "a") (or-none (same other (codes "a")) (or-none _ b)));
     listed = λ names read name path ext a b e. never (sym (ap (among name) (empty names read) ∙ a));
-    free = λ path ext a b. no-bytes (store_name path ext) refl;
+    free = λ path ext a b part. no-bytes (store_name path ext) refl;
   },
   record { paths = (bytes, tt); sizes = λ path named. few path },
 )
   where
+    no-chunks : (path : List ℕ) (inline : Bool) → length (chunk_bytes inline (bytes_at bare (store_name path I)) (bytes_at bare (store_name path D))) ≤ 2 ^ 48 - 1
+    no-chunks path true = subst (λ i. length (chunks_apart i) ≤ 2 ^ 48 - 1) (sym (no-bytes (store_name path I) refl)) (most 0 _ refl)
+    no-chunks path false = subst (λ l. length l ≤ 2 ^ 48 - 1) (sym (no-bytes (store_name path D) refl)) (most 0 _ refl)
+
     apart : (path other : List ℕ) → path ≡ codes "a" → other ≡ codes "a" → clashes path other ≡ false
     apart path other e f = (λ i. clashes (e i) (f i)) ∙ refl
 

@@ -4,7 +4,6 @@ use Rattle.std.specs.List.{AllByRecursion}
 use Rattle.hex.specs.Hex.{IsBytes}
 use Rattle.hgs_bytes.specs.Bytes.{among}
 use Rattle.hgs_files.specs.Tree.{Tree, bytes_at}
-use Rattle.hgs_index.specs.Either.{chunks_either}
 use Rattle.hgs_index.specs.Node.{null_node}
 use Rattle.hgs_index.specs.Revision.{Revision, nodes}
 use Rattle.hgs_index.specs.Revlog.{all_different}
@@ -14,14 +13,13 @@ use Rattle.hgs_model.specs.Repo.{Repo}
 use Rattle.hgs_model.specs.declared.command.Command.{Command}
 use Rattle.hgs_model.specs.declared.command.Command.TheVariants.{Commit}
 use Rattle.hgs_path.specs.declared.name.Ext.{Ext}
-use Rattle.hgs_path.specs.declared.name.Ext.TheVariants.{D, I}
 use Rattle.hgs_path.specs.Fncache.{clashes}
 use Rattle.hgs_path.specs.ListedNames.{names_of}
 use Rattle.hgs_path.specs.StoreName.{listed_name, store_name}
 use Rattle.hgs_revlog.specs.Load.{most_data, most_revisions, most_text}
 use Rattle.hgs_stands.specs.Places.{changelog_data, fncache_path, manifest_data}
 use Rattle.hgs_stands.specs.Stands.{has_inline_log, listed_file}
-use Rattle.hgs_ops.specs.Growth.{new_paths}
+use Rattle.hgs_ops.specs.Growth.{begins_inline, growing_chunks, is_part, new_paths}
 use Rattle.hgs_ops.specs.Operations.{journal_of}
 
 -- the numbers of the changesets and of the bytes of data that are appended to have room in an index
@@ -29,7 +27,7 @@ pub record HasRoom (t : Tree) (r next : Repo) : Type 0 where
   pub changesets : length r.changesets ≤ most_revisions
   pub changelog : length (bytes_at t changelog_data) ≤ most_data
   pub manifest : length (bytes_at t manifest_data) ≤ most_data
-  pub filelogs : (path : List ℕ) → among path (new_paths r next) ≡ true → length (chunks_either (bytes_at t (store_name path I)) (bytes_at t (store_name path D))) ≤ most_data
+  pub filelogs : (path : List ℕ) → among path (new_paths r next) ≡ true → length (growing_chunks t path ((history r.changesets).filelog path) ((history next.changesets).filelog path)) ≤ most_data
 
 -- The texts of the revisions behind the old ones are within the limit, no two of all have one node, and none has the null
 -- node.
@@ -40,7 +38,8 @@ pub record AreNewRevisions (old all : List Revision) : Type 0 where
 
 -- No limit, no collision, no clash of names and no file in the way keeps a commit from leading to the next repository:
 -- changelog and manifest are separate, since no writer appends to an inline one, no used path clashes with a path of the new
--- changeset, a listed name of a file of such a path is that path's, and the files of those that are not used yet have no bytes.
+-- changeset, a listed name of a file of such a path is that path's, and where a path is not used yet the files that its filelog
+-- will have have no bytes.
 pub record IsUnhindered (t : Tree) (r next : Repo) : Type 0 where
   pub room : HasRoom t r next
   pub separate : has_inline_log t ≡ false
@@ -49,7 +48,7 @@ pub record IsUnhindered (t : Tree) (r next : Repo) : Type 0 where
   pub filelogs : (path : List ℕ) → AreNewRevisions ((history r.changesets).filelog path) ((history next.changesets).filelog path)
   pub names : (path other : List ℕ) → among path (new_paths r next) ≡ true → uses next.changesets other ≡ true → clashes path other ≡ false
   pub listed : (names : List (List ℕ)) → names_of (bytes_at t fncache_path) ≡ Ok names → (name path : List ℕ) (ext : Ext) → among name names ≡ true → among path (new_paths r next) ≡ true → listed_file name ≡ store_name path ext → listed_name path ext ≡ name
-  pub free : (path : List ℕ) (ext : Ext) → among path (new_paths r next) ≡ true → uses r.changesets path ≡ false → bytes_at t (store_name path ext) ≡ []
+  pub free : (path : List ℕ) (ext : Ext) → among path (new_paths r next) ≡ true → uses r.changesets path ≡ false → is_part (begins_inline ((history next.changesets).filelog path)) ext ≡ true → bytes_at t (store_name path ext) ≡ []
 
 -- What a journal can say of a commit: the new changeset's paths are bytes, and the length of each file that is appended to
 -- has room in a line.

@@ -6,14 +6,16 @@ use Rattle.hgs_bytes.specs.Theorems.ByteLemmas.{same-eq}
 use Rattle.hgs_files.specs.declared.op.Op.{Op}
 use Rattle.hgs_files.specs.declared.op.Op.TheVariants.{Append, Cut, Rename, Remove, Create, Sync, Settle}
 use Rattle.hgs_files.specs.Tree.{Tree, after_all, bytes_at}
-use Rattle.hgs_index.specs.Either.{chunks_either}
+use Rattle.hgs_index.specs.Either.{chunk_bytes}
 use Rattle.hgs_index.specs.Inline.{is_inline}
 use Rattle.hgs_journal.specs.Covers.{is_loose, journal_paths}
 use Rattle.hgs_journal.specs.Names.{in_store}
 use Rattle.hgs_machine.specs.Locks.{AreLocked}
+use Rattle.hgs_model.specs.History.{history}
 use Rattle.hgs_model.specs.Repo.{Repo}
 use Rattle.hgs_model.specs.declared.command.Command.{Command}
 use Rattle.hgs_model.specs.declared.command.Command.TheVariants.{Commit, Move, Mark, Unmark}
+use Rattle.hgs_ops.specs.Growth.{grows_inline}
 use Rattle.hgs_ops.specs.Operations.{changes_before, journal_lines, journal_of, lock_path, publishing, strays, wlock_path}
 use Rattle.hgs_ops.specs.Unhindered.{CanBeJournalled, IsReady, IsUnhindered}
 use Rattle.hgs_path.specs.declared.name.Ext.{Ext}
@@ -75,7 +77,7 @@ module _ (stores : (path : List ℕ) (ext : Ext) → is_loose strays (store_name
       changesets = h.room.changesets;
       changelog = subst (λ (b : List ℕ). length b ≤ most_data) (own changelog_data refl refl) h.room.changelog;
       manifest = subst (λ (b : List ℕ). length b ≤ most_data) (own manifest_data refl refl) h.room.manifest;
-      filelogs = λ path new. subst (λ (b : List ℕ). length b ≤ most_data) (λ i. chunks_either (stored path I i) (stored path D i)) (h.room.filelogs path new);
+      filelogs = λ path new. subst (λ (b : List ℕ). length b ≤ most_data) (λ i. chunk_bytes (grows_inline (stored path I i) ((history r.changesets).filelog path) ((history next.changesets).filelog path)) (stored path I i) (stored path D i)) (h.room.filelogs path new);
     };
     separate = (λ i. is_inline (sym (own changelog_index refl refl) i) || is_inline (sym (own manifest_index refl refl) i)) ∙ h.separate;
     changelog = h.changelog;
@@ -83,7 +85,7 @@ module _ (stores : (path : List ℕ) (ext : Ext) → is_loose strays (store_name
     filelogs = h.filelogs;
     names = h.names;
     listed = λ names text. h.listed names (ap names_of (own fncache_path refl refl) ∙ text);
-    free = λ path ext new unused. sym (stored path ext) ∙ h.free path ext new unused;
+    free = λ path ext new unused part. sym (stored path ext) ∙ h.free path ext new unused part;
   }
 
   journalled : (r : Repo) (command : Command) (next : Repo) → CanBeJournalled (after_all locking t) r command next → CanBeJournalled t r command next

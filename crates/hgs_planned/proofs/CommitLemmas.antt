@@ -3,7 +3,7 @@ use Rattle.std.proofs.Common.{◌≡◌, ℕ, List, [], ◌∷◌, ◌++◌, Boo
 use Rattle.std.specs.Prelude.{◌<◌, ◌≤◌, ◌+◌, ◌^◌, Option, Some, None, IfSome, Result, Ok, Err}
 use Rattle.hgs_files.specs.Tree.{Tree, bytes_at}
 use Rattle.hgs_index.specs.ChangeText.{change_text}
-use Rattle.hgs_index.specs.Either.{chunks_either}
+use Rattle.hgs_index.specs.Either.{chunk_bytes, chunks_either}
 use Rattle.hgs_index.specs.declared.kinds.Which.TheVariants as limits
 use Rattle.hgs_index.specs.Manifest.{manifest_text}
 use Rattle.hgs_index.specs.Revision.{Parents, Revision, standing}
@@ -26,6 +26,7 @@ use Rattle.hgs_revlog.specs.Load.{most_revisions}
 use Rattle.hgs_revlog.specs.Log.{stored_sum}
 use Rattle.hgs_stands.specs.Places.{changelog_data, changelog_index, fncache_path, manifest_data, manifest_index}
 use Rattle.hgs_stands.specs.Stands.{Stands}
+use Rattle.hgs_stands.specs.Theorems.FormLemmas.{changelog-plain, manifest-plain}
 use Rattle.hgs_transaction.specs.declared.parts.Replacing.{Replacing}
 use Rattle.hgs_steps.specs.Parents.{named_all, parents_answer}
 use Rattle.hgs_steps.specs.Loaded.{has_inline}
@@ -171,9 +172,11 @@ module _ (laws : Below) (more : StepsBelow) (t : Tree) (r : Repo) (l : Loaded) (
     nothing-met free =
         let marks = marks-free more t r l n parents s loads free.bookmarks in
         let grown = grown-free laws t r l s loads changelog manifest n parents y good.ordered below free e in
-        let manifest_room = subst (HasRoomFor t manifest_index manifest_data h.manifest) (next-manifest r n parents) free.manifest in
-        let changelog_room = subst (λ (k : History). HasRoomFor t changelog_index changelog_data h.changelog k.changelog) (history-push r.changesets c) free.changelog in
-        let both_texts = texts-free t r l s changelog manifest n parents y.0.0 y.0.1 tree manifest_sum changelog_sum manifest_room changelog_room z texts_is in
+        let manifest_room = subst (HasRoomFor false t manifest_index manifest_data h.manifest) (next-manifest r n parents) free.manifest in
+        let changelog_room = subst (λ (k : History). HasRoomFor false t changelog_index changelog_data h.changelog k.changelog) (history-push r.changesets c) free.changelog in
+        let first_sum : length (bytes_at t manifest_data) ≡ stored_sum l.manifest.entries = ap (λ b. length (chunk_bytes b (bytes_at t manifest_index) (bytes_at t manifest_data))) (sym (manifest-plain t free.separate)) ∙ manifest_sum in
+        let second_sum : length (bytes_at t changelog_data) ≡ stored_sum l.changelog.entries = ap (λ b. length (chunk_bytes b (bytes_at t changelog_index) (bytes_at t changelog_data))) (sym (changelog-plain t free.separate)) ∙ changelog_sum in
+        let both_texts = texts-free t r l s changelog manifest n parents y.0.0 y.0.1 tree first_sum second_sum manifest_room changelog_room z texts_is in
         let plain : has_inline l ≡ false = more.form t l loads ∙ free.separate in
         let logs = ap (λ b. let os : List Obstacle = cond b (passes limits.Inline ∷ []) [] in os) plain in
         let made = texts-made l n parents y.0.0 y.0.1 t z texts_is in

@@ -5,7 +5,8 @@ use Rattle.std.proofs.lemmas.Bool.Decides.{nat_tests}
 use Rattle.std.proofs.lemmas.List.{length-map}
 use Rattle.hgs_files.specs.Tree.{Tree, bytes_at}
 use Rattle.hgs_index.specs.declared.entry.Entry.{Entry}
-use Rattle.hgs_index.specs.Either.{chunk_bytes, chunks_either}
+use Rattle.hgs_index.specs.Either.{chunk_bytes}
+use Rattle.hgs_index.specs.Inline.{chunks_apart}
 use Rattle.hgs_index.specs.Revision.{Revision, with_revision}
 use Rattle.hgs_loading.specs.Found.{and_then}
 use Rattle.hgs_loading.specs.Logs.{data_in}
@@ -65,19 +66,19 @@ pub form-grows : (t : Tree) (f : OfLog) (revisions : List Revision) (r : Revisio
 form-grows t f [] r text is e = ap (λ n. cond (n == 0) (nat_le (length text) 4096) f.log.inline) (count-is t f [] is) ∙ ap (λ (l : List ℕ). nat_le (length l) 4096) e
 form-grows t f (x ∷ revisions) r text is e = ap (λ b. cond b (nat_le (length text) 4096) f.log.inline) (some-length (length f.log.entries) (omega (arith, count-is t f (x ∷ revisions) is))) ∙ is.form
 
--- and what stands at its place does not depend on it
-pub place-formed : (t : Tree) (f : OfLog) (text : List ℕ) → place_in (formed f text) t ≡ place_in f t
-place-formed t f text = by (length f.log.entries == 0)
+-- and what holds of any obstacles and of its place in its own form holds of its place in that form
+pub place-formed : (P : Result (List Obstacle) ReadAnswer → Type 0) (t : Tree) (f : OfLog) (text : List ℕ) → ((obstacles : List Obstacle) → P (Ok obstacles)) → P (place_in f t) → P (place_in (formed f text) t)
+place-formed P t f text any own = by (length f.log.entries == 0) own
   where
-    free : Result (List Obstacle) ReadAnswer
-    free = Ok (standing_at f.index t ++ standing_at f.chunks t)
+    free : Bool → List Obstacle
+    free inline = standing_at f.index t ++ cond inline [] (standing_at f.chunks t)
 
     ends : Bool → Result (List Obstacle) ReadAnswer
-    ends b = and_then (cond b (Ok tt) (data_in f.index f.chunks f.log t)) (λ x. Ok [])
+    ends inline = and_then (cond inline (Ok tt) (data_in f.index f.chunks f.log t)) (λ x. Ok [])
 
-    by : (b : Bool) → cond b free (ends (cond b (nat_le (length text) 4096) f.log.inline)) ≡ cond b free (ends f.log.inline)
-    by true = refl
-    by false = refl
+    by : (b : Bool) → P (cond b (Ok (free f.log.inline)) (ends f.log.inline)) → P (cond b (Ok (free (cond b (nat_le (length text) 4096) f.log.inline))) (ends (cond b (nat_le (length text) 4096) f.log.inline)))
+    by true own = any (free (nat_le (length text) 4096))
+    by false own = own
 
 -- ---- lengths
 
@@ -93,28 +94,25 @@ sum-none : (entries : List Entry) → length entries ≡ 0 → stored_sum entrie
 sum-none [] e = refl
 sum-none (x ∷ entries) e = absurd (omega (arith, e))
 
-no-chunks : (b : Bool) → chunk_bytes b [] [] ≡ []
-no-chunks true = refl
-no-chunks false = refl
+no-chunks : (b : Bool) (index data_bytes : List ℕ) → index ≡ [] → (b ≡ false → data_bytes ≡ []) → chunk_bytes b index data_bytes ≡ []
+no-chunks true index data_bytes empty plain = ap chunks_apart empty
+no-chunks false index data_bytes empty plain = plain refl
 
--- a revlog without entries whose files have no bytes
-pub whole-empty : (t : Tree) (f : OfLog) → length f.log.entries ≡ 0 → bytes_at t f.index ≡ [] → bytes_at t f.chunks ≡ [] → IsWhole t f
-whole-empty t f none index chunks =
-    let nothing : chunk_bytes f.log.inline (bytes_at t f.index) (bytes_at t f.chunks) ≡ chunk_bytes f.log.inline [] [] = λ i. chunk_bytes f.log.inline (index i) (chunks i) in
-    record {
-      entries = ap length index ∙ sym (end-none f.log.inline f.log.entries none);
-      chunks = ap length (nothing ∙ no-chunks f.log.inline) ∙ sym (sum-none f.log.entries none);
-    }
+-- a revlog without entries whose files have no bytes, of an inline one its index
+pub whole-empty : (t : Tree) (f : OfLog) → length f.log.entries ≡ 0 → bytes_at t f.index ≡ [] → (f.log.inline ≡ false → bytes_at t f.chunks ≡ []) → IsWhole t f
+whole-empty t f none index chunks = record {
+  entries = ap length index ∙ sym (end-none f.log.inline f.log.entries none);
+  chunks = ap length (no-chunks f.log.inline (bytes_at t f.index) (bytes_at t f.chunks) index chunks) ∙ sym (sum-none f.log.entries none);
+}
 
--- the chunks of a whole revlog in the form that its index says; where it has no revision its files have no bytes
-pub whole-chunks : (t : Tree) (f : OfLog) (revisions : List Revision) → IsLogOf t f revisions → IsWhole t f → (revisions ≡ [] → (bytes_at t f.index ≡ []) × (bytes_at t f.chunks ≡ [])) → length (chunks_either (bytes_at t f.index) (bytes_at t f.chunks)) ≡ stored_sum f.log.entries
-whole-chunks t f [] is whole free =
-    let files = free refl in
-    let index = files.0 in
-    let chunks = files.1 in
-    let nothing : chunks_either (bytes_at t f.index) (bytes_at t f.chunks) ≡ [] = λ i. chunks_either (index i) (chunks i) in
-    ap length nothing ∙ sym (sum-none f.log.entries (count-is t f [] is))
-whole-chunks t f (r ∷ revisions) is whole free = ap (λ b. length (chunk_bytes b (bytes_at t f.index) (bytes_at t f.chunks))) (sym is.form) ∙ whole.chunks
+-- the chunks of a whole revlog in the form in which it grows
+pub whole-chunks : (t : Tree) (f : OfLog) (inline : Bool) → f.log.inline ≡ inline → IsWhole t f → length (chunk_bytes inline (bytes_at t f.index) (bytes_at t f.chunks)) ≡ stored_sum f.log.entries
+whole-chunks t f inline is whole = ap (λ b. length (chunk_bytes b (bytes_at t f.index) (bytes_at t f.chunks))) (sym is) ∙ whole.chunks
+
+-- one that has revisions grows in its own form
+pub form-stays : (t : Tree) (f : OfLog) (revisions all : List Revision) → 0 < length revisions → IsLogOf t f revisions → f.log.inline ≡ grows_inline (bytes_at t f.index) revisions all
+form-stays t f [] all some is = absurd (omega (arith, some))
+form-stays t f (r ∷ revisions) all some is = is.form
 
 -- the two files of a separate revlog
 pub separate-chunks : (t : Tree) (f : OfLog) → f.log.inline ≡ false → IsWhole t f → length (bytes_at t f.chunks) ≡ stored_sum f.log.entries

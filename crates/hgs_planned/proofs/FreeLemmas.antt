@@ -1,5 +1,5 @@
 -- Nothing keeps a commit from being written where there is room for it.
-use Rattle.std.proofs.Common.{◌≡◌, ◌⊎◌, ℕ, zero, suc, ◌+◌, List, [], ◌∷◌, ◌++◌, Bool, true, false, ◌||◌, ◌==◌, cond, inl, inr, length, map, nat_lt, refl, sym, ◌∙◌, ap, subst, arith}
+use Rattle.std.proofs.Common.{◌≡◌, ℕ, zero, suc, ◌+◌, List, [], ◌∷◌, ◌++◌, Bool, true, false, ◌||◌, ◌==◌, cond, not, inl, inr, length, map, nat_lt, refl, sym, ◌∙◌, ap, subst, arith}
 use Rattle.std.specs.Prelude.{◌≤◌, Option, Some, None, Result, Ok, Err, find, is_none}
 use Rattle.std.specs.Cmp.Lexicographic.{lists_ties, slice_cmp}
 use Rattle.std.specs.Cmp.{unsigned_ties}
@@ -20,14 +20,14 @@ use Rattle.hgs_loading.specs.Logs.{either_data_in}
 use Rattle.hgs_loading.specs.Small.{most_fncache}
 use Rattle.hgs_manifest.specs.Held.{found_in}
 use Rattle.hgs_marks.specs.Bookmarks.{Mark, node_of, with_mark}
-use Rattle.hgs_model.specs.History.{History, changeset_nodes, file_parents, filelog_with, first_of, history, kept, uses}
+use Rattle.hgs_model.specs.History.{History, changeset_nodes, file_parents, filelog_with, first_of, history, kept, uses, with_changeset}
 use Rattle.hgs_model.specs.Repo.{Changeset, Repo, TreeFile, tree_paths}
 use Rattle.hgs_model.specs.Step.{new_changeset, new_file, with_optional_mark}
 use Rattle.hgs_model.specs.Valid.{new_paths as paths_of_files}
 use Rattle.hgs_model.specs.declared.command.NewChange.{NewChange}
 use Rattle.hgs_model.specs.declared.files.NewFile.{NewFile}
-use Rattle.hgs_model.specs.Theorems.ListLemmas.{bool}
-use Rattle.hgs_ops.specs.Growth.{new_paths}
+use Rattle.hgs_ops.specs.Growth.{begins_inline, grows_inline, is_part, new_paths}
+use Rattle.hgs_path.specs.declared.name.Ext.{Ext}
 use Rattle.hgs_path.specs.declared.name.Ext.TheVariants.{I, D}
 use Rattle.hgs_path.specs.Fncache.{listing}
 use Rattle.hgs_path.specs.StoreName.{store_name}
@@ -58,8 +58,8 @@ use Rattle.hgs_planned.specs.StepsBelow.{StepsBelow}
 use Rattle.hgs_planned.specs.Trees.{AreBelow}
 use Rattle.hgs_planned.proofs.Basics.{both, never, ok-is}
 use Rattle.hgs_planned.proofs.FileLemmas.{told-of}
-use Rattle.hgs_planned.proofs.FormLemmas.{count-is, formed-log, whole-chunks, whole-empty}
-use Rattle.hgs_planned.proofs.GrownFileLemmas.{NoFiles, parts-of}
+use Rattle.hgs_planned.proofs.FormLemmas.{count-is, form-grows, formed-log, formed-same, some-or-none, whole-chunks, whole-empty}
+use Rattle.hgs_planned.proofs.GrownFileLemmas.{NoFiles, parts-of, path-used}
 use Rattle.hgs_planned.proofs.GrownTreeLemmas.{history-next, new-paths-of}
 use Rattle.hgs_planned.proofs.NewTextLemmas.{text-free}
 use Rattle.hgs_planned.proofs.NextLemmas.{next}
@@ -72,20 +72,30 @@ use Rattle.hgs_planned.proofs.TreeLemmas.{found-files, link-is, new-paths-are, t
 no-file : (t : Tree) (path : List ℕ) → bytes_at t path ≡ [] → standing_at path t ≡ []
 no-file t path none = ap (λ (bytes : List ℕ). let os : List Obstacle = cond (length bytes == 0) [] (stands path ∷ []) in os) none
 
-place-free : (t : Tree) (f : OfLog) (obstacles : List Obstacle) → (length f.log.entries ≡ 0 → (bytes_at t f.index ≡ []) × (bytes_at t f.chunks ≡ [])) → place_in f t ≡ Ok obstacles → obstacles ≡ []
-place-free t f obstacles free e = by (length f.log.entries == 0) refl e
+place-free : (t : Tree) (path : List ℕ) (log : Log) (obstacles : List Obstacle) → (length log.entries ≡ 0 → (ext : Ext) → is_part log.inline ext ≡ true → bytes_at t (store_name path ext) ≡ []) → place_in (filelog_at path log) t ≡ Ok obstacles → obstacles ≡ []
+place-free t path log obstacles free e = by (length log.entries == 0) refl e
   where
     none : (n : ℕ) → (n == 0) ≡ true → n ≡ 0
     none zero h = refl
     none (suc n) h = grind (arith, nat_tests, h)
 
-    by : (b : Bool) → (length f.log.entries == 0) ≡ b → (let x : Result (List Obstacle) ReadAnswer = cond b (Ok (standing_at f.index t ++ standing_at f.chunks t)) (and_then (either_data_in f.index f.chunks f.log t) (λ x. Ok [])) in x) ≡ Ok obstacles → obstacles ≡ []
+    index : List ℕ
+    index = store_name path I
+
+    chunks : List ℕ
+    chunks = store_name path D
+
+    no-data : (inline : Bool) → (is_part inline D ≡ true → bytes_at t chunks ≡ []) → cond inline [] (standing_at chunks t) ≡ []
+    no-data true h = refl
+    no-data false h = no-file t chunks (h refl)
+
+    by : (b : Bool) → (length log.entries == 0) ≡ b → (let x : Result (List Obstacle) ReadAnswer = cond b (Ok (standing_at index t ++ cond log.inline [] (standing_at chunks t))) (and_then (either_data_in index chunks log t) (λ x. Ok [])) in x) ≡ Ok obstacles → obstacles ≡ []
     by true is h =
-        let files = free (none (length f.log.entries) is) in
-        let first = no-file t f.index files.0 in
-        let second = no-file t f.chunks files.1 in
-        sym (ok-is {E = ReadAnswer} (standing_at f.index t ++ standing_at f.chunks t) obstacles h) ∙ λ i. first i ++ second i
-    by false is h = let a = both (either_data_in f.index f.chunks f.log t) (λ x. Ok []) obstacles h in sym (ok-is {E = ReadAnswer} [] obstacles a.2)
+        let files = free (none (length log.entries) is) in
+        let first = no-file t index (files I refl) in
+        let second = no-data log.inline (files D) in
+        sym (ok-is {E = ReadAnswer} (standing_at index t ++ cond log.inline [] (standing_at chunks t)) obstacles h) ∙ λ i. first i ++ second i
+    by false is h = let a = both (either_data_in index chunks log t) (λ x. Ok []) obstacles h in sym (ok-is {E = ReadAnswer} [] obstacles a.2)
 
 -- ---- a file
 
@@ -115,18 +125,9 @@ module _ (laws : Below) (t : Tree) (r : Repo) (l : Loaded) (s : Stands t r) (loa
   made-of f text obstacles = (record { row = row_with file text.0.node; changed = true; growth = text.0.growth; new = length f.log.entries == 0; inline = f.log.inline }, obstacles ++ text.1)
 
   abbrev IsRoomy : List Revision → Type 0
-  IsRoomy all = HasRoomFor t (store_name file.path I) (store_name file.path D) revisions all
+  IsRoomy all = HasRoomFor (grows_inline (bytes_at t (store_name file.path I)) revisions all) t (store_name file.path I) (store_name file.path D) revisions all
 
-  whole-log : (log : Log) → IsLogOf t (filelog_at file.path log) revisions → (uses r.changesets file.path ≡ true → IsWhole t (filelog_at file.path log)) → NoFiles t file.path revisions → IsWhole t (filelog_at file.path log)
-  whole-log log is whole no_files = by (bool (uses r.changesets file.path))
-    where
-      by : (uses r.changesets file.path ≡ true) ⊎ (uses r.changesets file.path ≡ false) → IsWhole t (filelog_at file.path log)
-      by (inl used) = whole used
-      by (inr unused) =
-          let none = laws.unused r.changesets file.path unused in
-          whole-empty t (filelog_at file.path log) (count-is t (filelog_at file.path log) revisions is ∙ ap length none) (no_files none I) (no_files none D)
-
-  file-by : (log : Log) (x : OfFile × List Obstacle) → IsLogOf t (filelog_at file.path log) revisions → IsWhole t (filelog_at file.path log) → NoFiles t file.path revisions → IsRoomy (filelog_with h c g.path) → find (λ (y : TreeFile). same y.path g.path) c.tree ≡ Some g
+  file-by : (log : Log) (x : OfFile × List Obstacle) → IsLogOf t (filelog_at file.path log) revisions → (uses r.changesets file.path ≡ true → IsWhole t (filelog_at file.path log)) → NoFiles t file.path (begins_inline (filelog_with h c g.path)) revisions → IsRoomy (filelog_with h c g.path) → find (λ (y : TreeFile). same y.path g.path) c.tree ≡ Some g
       → (o : Option ℕ) → kept h parents file.path file.body ≡ o → file_with (filelog_at file.path log) file old both_parents link o t ≡ Ok x → x.1 ≡ []
   file-by log x is whole no_files room found (Some rev) k e = ap (λ (z : OfFile × List Obstacle). z.1) (sym (ok-is {E = ReadAnswer} (kept_file (filelog_at file.path log) file old rev, []) x e))
   file-by log x is whole no_files room found None k e =
@@ -138,22 +139,29 @@ module _ (laws : Below) (t : Tree) (r : Repo) (l : Loaded) (s : Stands t r) (loa
       let same_revision = new-revision laws t r l s loads n parents link linked file k in
       let more = filelog-is laws t r l s loads n parents link linked file None k found in
       let roomy : IsRoomy (with_revision revisions asked) = subst (λ (z : Revision). IsRoomy (with_revision revisions z)) (sym same_revision) (subst (λ (all : List Revision). IsRoomy all) more room) in
-      let text = text-free t now revisions asked (formed-log t f revisions text_asked is) (whole-chunks t f revisions is whole (λ none. (no_files none I, no_files none D))) roomy a.0 a.1 in
-      let none : length f.log.entries ≡ 0 → revisions ≡ [] = λ empty. no-items revisions (sym (count-is t f revisions is) ∙ empty) in
-      let place = place-free t now b.0 (λ empty. (no_files (none empty) I, no_files (none empty) D)) b.1 in
+      let grows = form-grows t f revisions asked text_asked is refl in
+      let begins : revisions ≡ [] → now.log.inline ≡ begins_inline (filelog_with h c g.path) =
+      λ none. grows ∙ (λ i. grows_inline (bytes_at t f.index) (none i) (with_revision revisions (same_revision i))) ∙ ap begins_inline (sym more) in
+      let free : NoFiles t file.path now.log.inline revisions = λ none ext part. no_files none ext (ap (λ b. is_part b ext) (sym (begins none)) ∙ part) in
+      let whole_now : IsWhole t now = elim (some-or-none revisions) [
+        | inl none ↦ whole-empty t now (count-is t f revisions is ∙ ap length none) (free none I refl) (λ plain. free none D (ap not plain))
+        | inr some ↦ subst (IsWhole t) (sym (formed-same f text_asked (omega (arith, count-is t f revisions is, some)))) (whole (path-used laws r file.path some))
+      ] in
+      let text = text-free t now revisions asked (formed-log t f revisions text_asked is) (grows_inline (bytes_at t f.index) revisions (with_revision revisions asked)) (whole-chunks t now (grows_inline (bytes_at t f.index) revisions (with_revision revisions asked)) grows whole_now) roomy a.0 a.1 in
+      let place = place-free t file.path now.log b.0 (λ empty. free (no-items revisions (sym (count-is t f revisions is) ∙ empty))) b.1 in
       ap (λ (z : OfFile × List Obstacle). z.1) (sym (ok-is {E = ReadAnswer} (made-of now a.0 b.0) x b.2)) ∙ λ i. place i ++ text i
     where
       no-items : (xs : List Revision) → length xs ≡ 0 → xs ≡ []
       no-items [] q = refl
       no-items (y ∷ xs) q = absurd (omega (arith, q))
 
-  file-free : (x : OfFile × List Obstacle) → NoFiles t file.path revisions → IsRoomy (filelog_with h c g.path) → find (λ (y : TreeFile). same y.path g.path) c.tree ≡ Some g → file_in (listing l.fncache) link file (told_at h parents.0 file.path) (told_at h parents.1 file.path) t ≡ Ok x → x.1 ≡ []
+  file-free : (x : OfFile × List Obstacle) → NoFiles t file.path (begins_inline (filelog_with h c g.path)) revisions → IsRoomy (filelog_with h c g.path) → find (λ (y : TreeFile). same y.path g.path) c.tree ≡ Some g → file_in (listing l.fncache) link file (told_at h parents.0 file.path) (told_at h parents.1 file.path) t ≡ Ok x → x.1 ≡ []
   file-free x no_files room found e =
       let a = file-steps laws t r l s loads n parents link linked file x e in
       let p = parts-of laws t r l file.path a.0 s loads a.1 in
       let back = sym p.is in
       let is = subst (λ (z : OfLog). IsLogOf t z revisions) back a.2 in
-      file-by p.log x is (whole-log p.log is p.whole no_files) no_files room found (kept h parents file.path file.body) refl (subst (λ (z : OfLog). file_with z file old both_parents link (kept h parents file.path file.body) t ≡ Ok x) back a.3)
+      file-by p.log x is p.whole no_files room found (kept h parents file.path file.body) refl (subst (λ (z : OfLog). file_with z file old both_parents link (kept h parents file.path file.body) t ≡ Ok x) back a.3)
 
 -- ---- all files
 
@@ -177,8 +185,12 @@ module _ (laws : Below) (t : Tree) (r : Repo) (l : Loaded) (s : Stands t r) (loa
       let two = told-of now parents.1 f.path in
       let told : file_in lists link f (found_in f.path first) (found_in f.path second) t ≡ file_in lists link f (told_at now parents.0 f.path) (told_at now parents.1 f.path) t = (λ i. file_in lists link f (one i) (two i) t) in
       let there : among f.path (new_paths r (next r n parents)) ≡ true = ap (among f.path) paths ∙ found-among added.tree f.path (new_file now parents f) found.0 in
-      let room : HasRoomFor t (store_name f.path I) (store_name f.path D) (now.filelog f.path) (filelog_with now added f.path) = subst (λ (k : History). HasRoomFor t (store_name f.path I) (store_name f.path D) (now.filelog f.path) (k.filelog f.path)) (history-next r (next r n parents) added refl) (free.filelogs f.path) in
-      let none = file-free laws t r l s loads n parents link linked f a.0 (λ empty ext. free.files f.path ext there empty) room found.0 (sym told ∙ a.1) in
+      let index = bytes_at t (store_name f.path I) in
+      let logs : history (next r n parents).changesets ≡ with_changeset now added = history-next r (next r n parents) added refl in
+      let room : HasRoomFor (grows_inline index (now.filelog f.path) (filelog_with now added f.path)) t (store_name f.path I) (store_name f.path D) (now.filelog f.path) (filelog_with now added f.path) =
+      subst (λ (k : History). HasRoomFor (grows_inline index (now.filelog f.path) (k.filelog f.path)) t (store_name f.path I) (store_name f.path D) (now.filelog f.path) (k.filelog f.path)) logs (free.filelogs f.path) in
+      let no_files : NoFiles t f.path (begins_inline (filelog_with now added f.path)) (now.filelog f.path) = λ empty ext part. free.files f.path ext there empty (ap (λ (k : History). is_part (begins_inline (k.filelog f.path)) ext) logs ∙ part) in
+      let none = file-free laws t r l s loads n parents link linked f a.0 no_files room found.0 (sym told ∙ a.1) in
       let rest = all-free files b.0 found.1 b.1 in
       ap (λ (y : OfFiles). y.1) (sym (ok-is {E = ReadAnswer} (with_first a.0 b.0) xs b.2)) ∙ λ i. none i ++ rest i
 

@@ -1,11 +1,11 @@
 -- What is appended for a file of a commit is what its path's filelog grows by.
-use Rattle.std.proofs.Common.{◌≡◌, ◌⊎◌, ◌<◌, ◌≤◌, ℕ, List, [], ◌∷◌, ◌++◌, Bool, true, false, ◌==◌, cond, length, inl, inr, refl, sym, ◌∙◌, ap, subst, arith}
+use Rattle.std.proofs.Common.{◌≡◌, ◌⊎◌, ◌<◌, ◌≤◌, ℕ, List, [], ◌∷◌, ◌++◌, Bool, true, false, ◌==◌, cond, not, length, inl, inr, refl, sym, ◌∙◌, ap, subst, arith}
 use Rattle.std.specs.Prelude.{◌^◌, Option, Some, None, Result, Ok, IfSome, find}
 use Rattle.hgs_bytes.specs.Bytes.{same}
 use Rattle.hgs_files.specs.declared.op.Op.{Op}
 use Rattle.hgs_files.specs.Tree.{Tree, bytes_at}
 use Rattle.hgs_index.specs.declared.entry.Entry.{Entry}
-use Rattle.hgs_index.specs.Either.{chunk_bytes, chunks_either}
+use Rattle.hgs_index.specs.Either.{chunk_bytes}
 use Rattle.hgs_index.specs.FileText.{plain_prefix}
 use Rattle.hgs_index.specs.Revision.{Parents, Revision, standing as standing_in, with_revision}
 use Rattle.hgs_loading.specs.Found.{and_then}
@@ -17,7 +17,7 @@ use Rattle.hgs_model.specs.declared.command.NewChange.{NewChange}
 use Rattle.hgs_model.specs.declared.files.NewFile.{NewFile}
 use Rattle.hgs_model.specs.Theorems.CountLemmas.{file-revision-below, sound}
 use Rattle.hgs_model.specs.Theorems.ListLemmas.{bool}
-use Rattle.hgs_ops.specs.Growth.{filelog_growth, grown, grows_inline}
+use Rattle.hgs_ops.specs.Growth.{begins_inline, filelog_growth, grown, growing_chunks, grows_inline, is_part}
 use Rattle.hgs_ops.specs.Unhindered.{AreNewRevisions}
 use Rattle.hgs_path.specs.declared.name.Ext.{Ext}
 use Rattle.hgs_path.specs.declared.name.Ext.TheVariants.{I, D}
@@ -40,7 +40,7 @@ use Rattle.hgs_planned.specs.Logs.{IsLogOf}
 use Rattle.hgs_planned.specs.NewTexts.{IsTextOf, growth_by}
 use Rattle.hgs_planned.proofs.Basics.{both, never, ok-is}
 use Rattle.hgs_planned.proofs.FilelogLemmas.{listing-is}
-use Rattle.hgs_planned.proofs.FormLemmas.{count-is, form-grows, formed-log, formed-same, some-length, some-or-none, whole-chunks, whole-empty}
+use Rattle.hgs_planned.proofs.FormLemmas.{count-is, form-grows, form-stays, formed-log, formed-same, some-length, some-or-none, whole-chunks, whole-empty}
 use Rattle.hgs_planned.proofs.FreshLemmas.{fresh-same}
 use Rattle.hgs_planned.proofs.GrowthLemmas.{grown-none, growth-grows, no-appends}
 use Rattle.hgs_planned.proofs.LogLemmas.{whole-of}
@@ -78,13 +78,13 @@ parts-of laws t r l path f s h e = by (lists s.fncache.names path I) refl (ap (�
 
 -- ---- lengths
 
--- without revisions the files have no bytes
-abbrev pub NoFiles : Tree → List ℕ → List Revision → Type 0
-NoFiles t path revisions = revisions ≡ [] → (ext : Ext) → bytes_at t (store_name path ext) ≡ []
+-- without revisions the files that a filelog in this form will have have no bytes
+abbrev pub NoFiles : Tree → List ℕ → Bool → List Revision → Type 0
+NoFiles t path inline revisions = revisions ≡ [] → (ext : Ext) → is_part inline ext ≡ true → bytes_at t (store_name path ext) ≡ []
 
-pub chunks-room : (t : Tree) (path : List ℕ) (log : Log) (revisions : List Revision) → IsLogOf t (filelog_at path log) revisions → IsWhole t (filelog_at path log) → NoFiles t path revisions → length (chunks_either (bytes_at t (store_name path I)) (bytes_at t (store_name path D))) ≤ most_data
-chunks-room t path log revisions is whole free =
-    let sum = whole-chunks t (filelog_at path log) revisions is whole (λ none. (free none I, free none D)) in
+chunks-room : (t : Tree) (path : List ℕ) (log : Log) (revisions all : List Revision) → IsLogOf t (filelog_at path log) revisions → IsWhole t (filelog_at path log) → log.inline ≡ grows_inline (bytes_at t (store_name path I)) revisions all → length (growing_chunks t path revisions all) ≤ most_data
+chunks-room t path log revisions all is whole grows =
+    let sum = whole-chunks t (filelog_at path log) (grows_inline (bytes_at t (store_name path I)) revisions all) grows whole in
     omega (arith, sum, is.entries.data_end)
 
 index-short : (t : Tree) (path : List ℕ) (log : Log) (revisions : List Revision) → IsLogOf t (filelog_at path log) revisions → IsWhole t (filelog_at path log) → length (bytes_at t (store_name path I)) < 2 ^ 64
@@ -94,10 +94,8 @@ index-short t path log revisions is whole = subst (λ n. n < 2 ^ 64) (sym whole.
     by true entries few end = omega (arith, few, end)
     by false entries few end = omega (arith, few)
 
-data-short : (t : Tree) (path : List ℕ) (revisions all : List Revision) → length (chunks_either (bytes_at t (store_name path I)) (bytes_at t (store_name path D))) ≤ most_data → NoFiles t path revisions
-    → grows_inline (bytes_at t (store_name path I)) revisions all ≡ false → length (bytes_at t (store_name path D)) < 2 ^ 64
-data-short t path [] all room free plain = omega (arith, ap length (free refl D))
-data-short t path (r ∷ revisions) all room free plain =
+data-short : (t : Tree) (path : List ℕ) (revisions all : List Revision) → length (growing_chunks t path revisions all) ≤ most_data → grows_inline (bytes_at t (store_name path I)) revisions all ≡ false → length (bytes_at t (store_name path D)) < 2 ^ 64
+data-short t path revisions all room plain =
     let same = ap (λ b. length (chunk_bytes b (bytes_at t (store_name path I)) (bytes_at t (store_name path D)))) plain in
     omega (arith, room, same)
 
@@ -109,14 +107,29 @@ free-at path (b ∷ bytes) none = absurd (no (sym (ap (λ z. let os : List Obsta
     no : ◌≡◌ {A = List Obstacle} (stands path ∷ []) [] → ⊥
     no h = cc
 
--- where nothing is met at the place of a filelog without entries, its files have no bytes
-place-free : (t : Tree) (f : OfLog) (obstacles : List Obstacle) → length f.log.entries ≡ 0 → place_in f t ≡ Ok obstacles → obstacles ≡ [] → (bytes_at t f.index ≡ []) × (bytes_at t f.chunks ≡ [])
-place-free t f obstacles none e free =
-    let met : standing_at f.index t ++ standing_at f.chunks t ≡ [] = ok-is {E = ReadAnswer} (standing_at f.index t ++ standing_at f.chunks t) obstacles (sym (ap answer none) ∙ e) ∙ free in
-    (free-at f.index (bytes_at t f.index) (none-left (standing_at f.index t) (standing_at f.chunks t) met), free-at f.chunks (bytes_at t f.chunks) (none-right (standing_at f.index t) (standing_at f.chunks t) met))
+-- where nothing is met at the place of a filelog without entries, the files that it will have have no bytes
+place-free : (t : Tree) (path : List ℕ) (log : Log) (obstacles : List Obstacle) → length log.entries ≡ 0 → place_in (filelog_at path log) t ≡ Ok obstacles → obstacles ≡ [] → (ext : Ext) → is_part log.inline ext ≡ true → bytes_at t (store_name path ext) ≡ []
+place-free t path log obstacles none e free = by
   where
+    f : OfLog
+    f = filelog_at path log
+
+    behind : Bool → List Obstacle
+    behind inline = cond inline [] (standing_at (store_name path D) t)
+
     answer : ℕ → Result (List Obstacle) ReadAnswer
-    answer n = cond (n == 0) (Ok (standing_at f.index t ++ standing_at f.chunks t)) (and_then (either_data_in f.index f.chunks f.log t) (λ x. Ok []))
+    answer n = cond (n == 0) (Ok (standing_at (store_name path I) t ++ behind log.inline)) (and_then (either_data_in (store_name path I) (store_name path D) log t) (λ x. Ok []))
+
+    met : standing_at (store_name path I) t ++ behind log.inline ≡ []
+    met = ok-is {E = ReadAnswer} (standing_at (store_name path I) t ++ behind log.inline) obstacles (sym (ap answer none) ∙ e) ∙ free
+
+    plain : (b : Bool) → not b ≡ true → b ≡ false
+    plain true h = never (sym h)
+    plain false h = refl
+
+    by : (ext : Ext) → is_part log.inline ext ≡ true → bytes_at t (store_name path ext) ≡ []
+    by I part = free-at (store_name path I) (bytes_at t (store_name path I)) (none-left (standing_at (store_name path I) t) (behind log.inline) met)
+    by D part = free-at (store_name path D) (bytes_at t (store_name path D)) (sym (ap behind (plain log.inline part)) ∙ none-right (standing_at (store_name path I) t) (behind log.inline) met)
 
 -- a revision that is kept is one of the list
 kept-some : (log : List Revision) (a b : Option ℕ) (body : List ℕ) (rev : ℕ) → IfSome a (λ p. p < length log) → kept_of log a b body ≡ Some rev → 0 < length log
@@ -129,6 +142,14 @@ kept-some log (Some a) (Some b) body rev low e = absurd (no e)
   where
     no : None ≡ Some rev → ⊥
     no h = cc
+
+-- a path with revisions is used
+pub path-used : Below → (r : Repo) (path : List ℕ) → 0 < length ((history r.changesets).filelog path) → uses r.changesets path ≡ true
+path-used laws r path some = by (bool (uses r.changesets path))
+  where
+    by : (uses r.changesets path ≡ true) ⊎ (uses r.changesets path ≡ false) → uses r.changesets path ≡ true
+    by (inl used) = used
+    by (inr unused) = absurd (omega (arith, some, ap length (laws.unused r.changesets path unused)))
 
 -- ---- a file
 
@@ -154,14 +175,6 @@ module _ (laws : Below) (t : Tree) (r : Repo) (l : Loaded) (s : Stands t r) (loa
   abbrev Found : Type 0
   Found = find (λ (y : TreeFile). same y.path g.path) c.tree ≡ Some g
 
-  -- a path with revisions is used
-  used-with : 0 < length revisions → uses r.changesets file.path ≡ true
-  used-with some = by (bool (uses r.changesets file.path))
-    where
-      by : (uses r.changesets file.path ≡ true) ⊎ (uses r.changesets file.path ≡ false) → uses r.changesets file.path ≡ true
-      by (inl used) = used
-      by (inr unused) = absurd (omega (arith, some, ap length (laws.unused r.changesets file.path unused)))
-
   module _ (log : Log) (is : IsLogOf t (filelog_at file.path log) revisions) (whole : uses r.changesets file.path ≡ true → IsWhole t (filelog_at file.path log)) where
     abbrev f : OfLog
     f = filelog_at file.path log
@@ -183,9 +196,9 @@ module _ (laws : Below) (t : Tree) (r : Repo) (l : Loaded) (s : Stands t r) (loa
       inline = λ none. absurd (not-empty none);
       fresh = subst (AreNewRevisions revisions) (sym stays) (fresh-same t f revisions is);
       room = room;
-      index_short = index-short t file.path log revisions is (whole (used-with some));
-      data_short = data-short t file.path revisions (filelog_with h c g.path) room free;
-      free = free;
+      index_short = index-short t file.path log revisions is (whole (path-used laws r file.path some));
+      data_short = data-short t file.path revisions (filelog_with h c g.path) room;
+      free = λ none. absurd (not-empty none);
     }
       where
         some : 0 < length revisions
@@ -194,14 +207,11 @@ module _ (laws : Below) (t : Tree) (r : Repo) (l : Loaded) (s : Stands t r) (loa
         not-empty : revisions ≡ [] → ⊥
         not-empty none = omega (arith, some, ap length none)
 
-        free : NoFiles t file.path revisions
-        free none = absurd (not-empty none)
-
         stays : filelog_with h c g.path ≡ revisions
         stays = filelog-is laws t r l s loads n parents link linked file (Some rev) k found
 
-        room : length (chunks_either (bytes_at t (store_name file.path I)) (bytes_at t (store_name file.path D))) ≤ most_data
-        room = chunks-room t file.path log revisions is (whole (used-with some)) free
+        room : length (growing_chunks t file.path revisions (filelog_with h c g.path)) ≤ most_data
+        room = chunks-room t file.path log revisions (filelog_with h c g.path) is (whole (path-used laws r file.path some)) (form-stays t f revisions (filelog_with h c g.path) some is)
 
     abbrev asked : Revision
     asked = record { text = plain_prefix file.body ++ file.body; parents = both_parents; link = link }
@@ -218,12 +228,12 @@ module _ (laws : Below) (t : Tree) (r : Repo) (l : Loaded) (s : Stands t r) (loa
           (subst (λ b. AreAppends t (grown b t f.index f.chunks revisions (with_revision revisions revision)) (changes_of (growth_by now revision (standing_in revisions revision.text revision.parents)))) grows
           (growth-grows t now revisions revision (standing_in revisions revision.text revision.parents) now_is whole_now)));
       new = ap (λ m. m == 0) count;
-      inline = λ none. grows ∙ ap (λ (all : List Revision). grows_inline (bytes_at t f.index) revisions all) (sym more) ∙ ap (λ (log : List Revision). grows_inline (bytes_at t f.index) log (filelog_with h c g.path)) none;
+      inline = begins;
       fresh = subst (AreNewRevisions revisions) (sym more) (subst (λ (z : Revision). AreNewRevisions revisions (with_revision revisions z)) same_revision (y.2.fresh (ap (λ (z : OfText × List Obstacle). z.1) text_is ∙ plain)));
       room = room;
       index_short = index-short t file.path now.log revisions now_is whole_now;
-      data_short = data-short t file.path revisions (filelog_with h c g.path) room no-bytes;
-      free = no-bytes;
+      data_short = data-short t file.path revisions (filelog_with h c g.path) room;
+      free = λ none ext part. no-bytes none ext (ap (λ b. is_part b ext) (begins none) ∙ part);
     }
       where
         revision : Revision
@@ -255,19 +265,24 @@ module _ (laws : Below) (t : Tree) (r : Repo) (l : Loaded) (s : Stands t r) (loa
         count : length f.log.entries ≡ length revisions
         count = count-is t f revisions is
 
-        no-bytes : NoFiles t file.path revisions
-        no-bytes none I = (place-free t now obstacles (count ∙ ap length none) placed free).0
-        no-bytes none D = (place-free t now obstacles (count ∙ ap length none) placed free).1
+        becomes : now.log.inline ≡ grows_inline (bytes_at t f.index) revisions (filelog_with h c g.path)
+        becomes = grows ∙ ap (λ (all : List Revision). grows_inline (bytes_at t f.index) revisions all) (sym more)
+
+        begins : revisions ≡ [] → now.log.inline ≡ begins_inline (filelog_with h c g.path)
+        begins none = becomes ∙ ap (λ (log : List Revision). grows_inline (bytes_at t f.index) log (filelog_with h c g.path)) none
+
+        no-bytes : NoFiles t file.path now.log.inline revisions
+        no-bytes none = place-free t file.path now.log obstacles (count ∙ ap length none) placed free
 
         whole_now : IsWhole t now
         whole_now = by (some-or-none revisions)
           where
             by : (revisions ≡ []) ⊎ (0 < length revisions) → IsWhole t now
-            by (inl none) = whole-empty t now (count ∙ ap length none) (no-bytes none I) (no-bytes none D)
-            by (inr some) = subst (IsWhole t) (sym (formed-same f text_asked (omega (arith, count, some)))) (whole (used-with some))
+            by (inl none) = whole-empty t now (count ∙ ap length none) (no-bytes none I refl) (λ plain. no-bytes none D (ap not plain))
+            by (inr some) = subst (IsWhole t) (sym (formed-same f text_asked (omega (arith, count, some)))) (whole (path-used laws r file.path some))
 
-        room : length (chunks_either (bytes_at t (store_name file.path I)) (bytes_at t (store_name file.path D))) ≤ most_data
-        room = chunks-room t file.path now.log revisions now_is whole_now no-bytes
+        room : length (growing_chunks t file.path revisions (filelog_with h c g.path)) ≤ most_data
+        room = chunks-room t file.path now.log revisions (filelog_with h c g.path) now_is whole_now becomes
 
     grown-by : (x : OfFile × List Obstacle) (o : Option ℕ) → kept h parents file.path file.body ≡ o → Found → file_with f file old both_parents link o t ≡ Ok x → x.1 ≡ [] → IsGrownFileOf t h c g x.0
     grown-by x (Some rev) k found e free = subst (λ (z : OfFile × List Obstacle). IsGrownFileOf t h c g z.0) (ok-is {E = ReadAnswer} (kept_file f file old rev, []) x e) (grown-kept rev k found)

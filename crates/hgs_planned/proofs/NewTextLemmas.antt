@@ -12,7 +12,7 @@ use Rattle.hgs_bytes.specs.Theorems.ByteLemmas.{same-eq}
 use Rattle.hgs_files.specs.Tree.{Tree, bytes_at}
 use Rattle.hgs_index.specs.declared.entry.Entry.{Entry}
 use Rattle.hgs_index.specs.declared.kinds.Which.TheVariants as limits
-use Rattle.hgs_index.specs.Either.{chunks_either}
+use Rattle.hgs_index.specs.Either.{chunk_bytes}
 use Rattle.hgs_index.specs.Entry.{entry_bytes}
 use Rattle.hgs_index.specs.Node.{node_hash, null_node}
 use Rattle.hgs_index.specs.Revision.{Parents, Revision, is_as, node_after, nodes, number_of, parent_node, same_parents, standing as standing_in, with_revision, with_revision_at}
@@ -233,12 +233,12 @@ text-of t f revisions r is = becomes t f revisions r is (standing_in revisions r
 sum-one : (f : Revision → ℕ) (revisions : List Revision) (r : Revision) → revisions ≡ r ∷ [] → sum_by f revisions ≡ f r
 sum-one f revisions r e = ap (sum_by f) e ∙ omega arith
 
-module _ (t : Tree) (f : OfLog) (revisions : List Revision) (r : Revision) (is : IsLogOf t f revisions) (whole : length (chunks_either (bytes_at t f.index) (bytes_at t f.chunks)) ≡ stored_sum f.log.entries) where
+module _ (t : Tree) (f : OfLog) (revisions : List Revision) (r : Revision) (is : IsLogOf t f revisions) (inline : Bool) (whole : length (chunk_bytes inline (bytes_at t f.index) (bytes_at t f.chunks)) ≡ stored_sum f.log.entries) where
   abbrev new-node : List ℕ
   new-node = (next_entry f.log.entries r).node.0
 
   -- where the revision is new
-  new-free : HasRoomFor t f.index f.chunks revisions (revisions ++ r ∷ []) → (x : OfText × List Obstacle) → new_text_in f r t ≡ Ok x → x.1 ≡ []
+  new-free : HasRoomFor inline t f.index f.chunks revisions (revisions ++ r ∷ []) → (x : OfText × List Obstacle) → new_text_in f r t ≡ Ok x → x.1 ≡ []
   new-free room x given = ap (λ (z : OfText × List Obstacle). z.1) (sym (ok-text made x (sym plain ∙ given))) ∙ ap (λ b. let os : List Obstacle = cond b (collides f.index (length f.log.entries) ∷ []) [] in os) not-null
     where
       ok-text : (a b : OfText × List Obstacle) → (let y : Result (OfText × List Obstacle) ReadAnswer = Ok a in y) ≡ Ok b → a ≡ b
@@ -283,7 +283,7 @@ module _ (t : Tree) (f : OfLog) (revisions : List Revision) (r : Revision) (is :
           ap (answer t f revisions r is) no-place
           ∙ (let a = few in let b = text in let c = end in λ i. finished t f revisions r is (cond (a i) (Err (faults.Limit limits.Changesets)) (cond (b i) (Err (faults.Limit limits.Text)) (cond (c i) (Err (faults.Limit limits.Data)) (Ok (New (entry_bytes (next_entry f.log.entries r) (new_header f.log)) (chunk_of r.text) (next_entry f.log.entries r).node))))))
 
-  pub text-free : HasRoomFor t f.index f.chunks revisions (with_revision revisions r) → (x : OfText × List Obstacle) → new_text_in f r t ≡ Ok x → x.1 ≡ []
+  pub text-free : HasRoomFor inline t f.index f.chunks revisions (with_revision revisions r) → (x : OfText × List Obstacle) → new_text_in f r t ≡ Ok x → x.1 ≡ []
   unfolding when-standing
   text-free room x given = by (standing_in revisions r.text r.parents) refl
     where
@@ -292,4 +292,4 @@ module _ (t : Tree) (f : OfLog) (revisions : List Revision) (r : Revision) (is :
         where
           ok-text : (a b : OfText × List Obstacle) → (let z : Result (OfText × List Obstacle) ReadAnswer = Ok a in z) ≡ Ok b → a ≡ b
           ok-text a b h = cc
-      by None e = new-free (subst (λ (o : Option ℕ). HasRoomFor t f.index f.chunks revisions (with_revision_at o revisions r)) e room) x given
+      by None e = new-free (subst (λ (o : Option ℕ). HasRoomFor inline t f.index f.chunks revisions (with_revision_at o revisions r)) e room) x given

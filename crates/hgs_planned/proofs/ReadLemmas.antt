@@ -112,8 +112,8 @@ place-there t f whole = by (length f.log.entries == 0)
     whole_data true is = refl
     whole_data false is = ap (λ b. cond b (Ok tt) (Err (revlog_refusal f.index (faults.Tail (length f.log.entries))))) (ends (length (bytes_at t f.chunks)) (stored_sum f.log.entries) (separate-chunks t f is whole))
 
-    by : (b : Bool) → IsThere (cond b (Ok (standing_at f.index t ++ standing_at f.chunks t)) (and_then (either_data_in f.index f.chunks f.log t) (λ x. Ok [])))
-    by true = (standing_at f.index t ++ standing_at f.chunks t, refl)
+    by : (b : Bool) → IsThere (cond b (Ok (standing_at f.index t ++ cond f.log.inline [] (standing_at f.chunks t))) (and_then (either_data_in f.index f.chunks f.log t) (λ x. Ok [])))
+    by true = (standing_at f.index t ++ cond f.log.inline [] (standing_at f.chunks t), refl)
     by false = ([], ap (λ z. and_then z (λ x. Ok [])) (whole_data f.log.inline refl))
 
 -- a name that is listed without a used path has a file without bytes
@@ -177,8 +177,9 @@ module _ (laws : Below) (more : StepsBelow) (t : Tree) (r : Repo) (l : Loaded) (
       let now = formed f (plain_prefix file.body ++ file.body) in
       let text = text-of t now (h.filelog file.path) revision (formed-log t f (h.filelog file.path) (plain_prefix file.body ++ file.body) is) in
       let made : OfText × List Obstacle → List Obstacle → OfFile × List Obstacle = λ x obstacles. (record { row = row_with file x.0.node; changed = true; growth = x.0.growth; new = length f.log.entries == 0; inline = now.log.inline }, obstacles ++ x.1) in
+      let placed : IsThere (place_in now t) = place-formed (λ (x : Result (List Obstacle) ReadAnswer). IsThere x) t f (plain_prefix file.body ++ file.body) (λ obstacles. (obstacles, refl)) place in
       then-there (new_text_in now revision t) (λ x. and_then (place_in now t) (λ obstacles. Ok (made x obstacles))) text.0 text.1
-      (then-there (place_in now t) (λ obstacles. Ok (made text.0 obstacles)) place.0 (place-formed t f (plain_prefix file.body ++ file.body) ∙ place.1) (made text.0 place.0, refl))
+      (then-there (place_in now t) (λ obstacles. Ok (made text.0 obstacles)) placed.0 placed.1 (made text.0 placed.0, refl))
 
   file-there : (file : NewFile) → IsThere (file_in (listing l.fncache) link file (told_at h parents.0 file.path) (told_at h parents.1 file.path) t)
   file-there file =

@@ -7,7 +7,6 @@ use Rattle.hgs_bytes.specs.Bytes.{among, same}
 use Rattle.hgs_bytes.specs.Text.{ascends}
 use Rattle.hgs_bytes.specs.Theorems.ByteLemmas.{same-eq, same-refl}
 use Rattle.hgs_files.specs.Tree.{Tree, bytes_at}
-use Rattle.hgs_index.specs.Either.{chunks_either}
 use Rattle.hgs_index.specs.Inline.{is_inline}
 use Rattle.hgs_index.specs.Revision.{Parents, Revision}
 use Rattle.hgs_model.specs.History.{History, filelog_with, history, uses, with_changeset}
@@ -17,7 +16,7 @@ use Rattle.hgs_model.specs.Valid.{new_paths as paths_of_files}
 use Rattle.hgs_model.specs.declared.command.Command.TheVariants.{Commit}
 use Rattle.hgs_model.specs.declared.command.NewChange.{NewChange}
 use Rattle.hgs_model.specs.Theorems.CountLemmas.{filelog-same, length-placed, uses-push}
-use Rattle.hgs_ops.specs.Growth.{new_paths}
+use Rattle.hgs_ops.specs.Growth.{begins_inline, growing_chunks, is_part, new_paths}
 use Rattle.hgs_ops.specs.Unhindered.{AreNewRevisions, HasRoom, IsReady, IsUnhindered}
 use Rattle.hgs_ops.specs.Theorems.Touch.{bool, or-left, or-right}
 use Rattle.hgs_path.specs.declared.name.Ext.{Ext}
@@ -60,8 +59,8 @@ use Rattle.hgs_planned.proofs.TreeLemmas.{link-is, new-paths-are}
 -- what holds of a path's file
 pub record FileAt (t : Tree) (h : History) (c : Changeset) (path : List ℕ) : Type 0 where
   pub fresh : AreNewRevisions (h.filelog path) (filelog_with h c path)
-  pub room : length (chunks_either (bytes_at t (store_name path I)) (bytes_at t (store_name path D))) ≤ most_data
-  pub free : h.filelog path ≡ [] → (ext : Ext) → bytes_at t (store_name path ext) ≡ []
+  pub room : length (growing_chunks t path (h.filelog path) (filelog_with h c path)) ≤ most_data
+  pub free : h.filelog path ≡ [] → (ext : Ext) → is_part (begins_inline (filelog_with h c path)) ext ≡ true → bytes_at t (store_name path ext) ≡ []
 
 file-at : (t : Tree) (h : History) (c : Changeset) (tree : List TreeFile) (xs : List OfFile) (path : List ℕ) → AllZip (IsGrownFileOf t h c) tree xs → among path (tree_paths tree) ≡ true → FileAt t h c path
 file-at t h c [] xs path all there = never (sym there)
@@ -200,7 +199,7 @@ module _ (laws : Below) (t : Tree) (r next : Repo) (l : Loaded) (s : Stands t r)
     changesets = (let few = changelog.entries.few in omega (arith, few, link-is t r l s changelog, length-placed r.changesets));
     changelog = changelog-small.1;
     manifest = manifest-small.1;
-    filelogs = λ path there. (file path there).room;
+    filelogs = λ path there. subst (λ (k : History). length (growing_chunks t path (h.filelog path) (k.filelog path)) ≤ most_data) (sym logs) (file path there).room;
   }
 
   shorts : AreShort t r next
@@ -220,7 +219,7 @@ module _ (laws : Below) (t : Tree) (r next : Repo) (l : Loaded) (s : Stands t r)
     filelogs = λ path. subst (λ (k : History). AreNewRevisions (h.filelog path) (k.filelog path)) (sym logs) (fresh-file path);
     names = no-clash;
     listed = own-name;
-    free = λ path ext there unused. (file path there).free (laws.unused r.changesets path unused) ext;
+    free = λ path ext there unused part. (file path there).free (laws.unused r.changesets path unused) ext (ap (λ (k : History). is_part (begins_inline (k.filelog path)) ext) (sym logs) ∙ part);
   }
 
   pub ready : IsReady t r (Commit n) next

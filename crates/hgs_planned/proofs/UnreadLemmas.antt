@@ -151,7 +151,7 @@ module _ (laws : Below) (more : StepsBelow) (t : Tree) (r : Repo) (l : Loaded) (
       let now = formed f (plain_prefix file.body ++ file.body) in
       let text = text-of t now (h.filelog file.path) revision (formed-log t f (h.filelog file.path) (plain_prefix file.body ++ file.body) is) in
       let made : OfText × List Obstacle → List Obstacle → OfFile × List Obstacle = λ x obstacles. (record { row = row_with file x.0.node; changed = true; growth = x.0.growth; new = length f.log.entries == 0; inline = now.log.inline }, obstacles ++ x.1) in
-      let placed : IsLimited (place_in now t) = subst (λ (x : Result (List Obstacle) ReadAnswer). IsLimited x) (sym (place-formed t f (plain_prefix file.body ++ file.body))) place in
+      let placed : IsLimited (place_in now t) = place-formed (λ (x : Result (List Obstacle) ReadAnswer). IsLimited x) t f (plain_prefix file.body ++ file.body) (λ obstacles. tt) place in
       then-limited (new_text_in now revision t) (λ x. and_then (place_in now t) (λ obstacles. Ok (made x obstacles))) (given-limited (new_text_in now revision t) text.0 text.1)
       (λ x e. then-limited (place_in now t) (λ obstacles. Ok (made x obstacles)) placed (λ obstacles g. tt))
 

@@ -1,10 +1,9 @@
 -- The manifest and the changeset of a commit are those of the repository's next changeset.
-use Rattle.std.proofs.Common.{◌≡◌, ℕ, List, [], ◌∷◌, ◌++◌, length, refl, sym, ◌∙◌, ap, subst, arith}
+use Rattle.std.proofs.Common.{◌≡◌, ℕ, List, [], ◌∷◌, ◌++◌, false, length, refl, sym, ◌∙◌, ap, subst, arith}
 use Rattle.std.specs.Prelude.{Ok}
 use Rattle.std.proofs.lemmas.List.{length-map}
 use Rattle.hgs_files.specs.Tree.{Tree, bytes_at}
 use Rattle.hgs_index.specs.ChangeText.{change_text}
-use Rattle.hgs_index.specs.Either.{chunks_either}
 use Rattle.hgs_index.specs.Manifest.{manifest_text}
 use Rattle.hgs_index.specs.Revision.{Parents, Revision, number_of, standing as standing_in, with_revision}
 use Rattle.hgs_index.specs.declared.entry.Entry.{Entry}
@@ -104,8 +103,8 @@ module _ (t : Tree) (r : Repo) (l : Loaded) (s : Stands t r) (changelog : IsLogO
       }
 
   -- with room for both nothing keeps them from being written
-  pub texts-free : length (chunks_either (bytes_at t (of_manifest l.manifest).index) (bytes_at t (of_manifest l.manifest).chunks)) ≡ stored_sum l.manifest.entries → length (chunks_either (bytes_at t (of_changelog l.changelog).index) (bytes_at t (of_changelog l.changelog).chunks)) ≡ stored_sum l.changelog.entries → HasRoomFor t (of_manifest l.manifest).index (of_manifest l.manifest).chunks h.manifest (manifest_with h c)
-      → HasRoomFor t (of_changelog l.changelog).index (of_changelog l.changelog).chunks h.changelog (with_revision h.changelog (changeset_revision h c)) → (y : OfTexts × List Obstacle) → texts_in l n parents x manifests t ≡ Ok y → y.1 ≡ []
+  pub texts-free : length (bytes_at t (of_manifest l.manifest).chunks) ≡ stored_sum l.manifest.entries → length (bytes_at t (of_changelog l.changelog).chunks) ≡ stored_sum l.changelog.entries → HasRoomFor false t (of_manifest l.manifest).index (of_manifest l.manifest).chunks h.manifest (manifest_with h c)
+      → HasRoomFor false t (of_changelog l.changelog).index (of_changelog l.changelog).chunks h.changelog (with_revision h.changelog (changeset_revision h c)) → (y : OfTexts × List Obstacle) → texts_in l n parents x manifests t ≡ Ok y → y.1 ≡ []
   texts-free manifest_whole changelog_whole manifest_room changelog_room y e =
       let a = both (manifest_in l.manifest x.rows manifests link t) (λ m. and_then (changeset_in l.changelog n parents m.0.node x.changed t) (λ z. Ok (record { filelogs = x.growth; lines = x.lines; manifest = m.0.growth; changeset = z.0 }, m.1 ++ z.1))) y e in
       let b = both (changeset_in l.changelog n parents a.0.0.node x.changed t) (λ z. Ok (record { filelogs = x.growth; lines = x.lines; manifest = a.0.0.growth; changeset = z.0 }, a.0.1 ++ z.1)) y a.2 in
@@ -114,7 +113,7 @@ module _ (t : Tree) (r : Repo) (l : Loaded) (s : Stands t r) (changelog : IsLogO
       let node : a.0.0.node ≡ node_at (manifest_with h c) (manifest_number h c) = ap (λ (z : OfText × List Obstacle). z.0.node) (sym m_is) ∙ m.2.node ∙ ap (λ (z : Revision). node_at (with_revision h.manifest z) (number_of h.manifest z.text z.parents)) manifest-is in
       let asked : Revision = record { text = change_text (change_of n a.0.0.node x.changed); parents = parents; link = link } in
       let same_asked : asked ≡ changeset_revision h c = changeset-is a.0.0.node node in
-      let first = text-free t (of_manifest l.manifest) h.manifest manifest-asked manifest manifest_whole (subst (λ (z : Revision). HasRoomFor t (of_manifest l.manifest).index (of_manifest l.manifest).chunks h.manifest (with_revision h.manifest z)) (sym manifest-is) manifest_room) a.0 a.1 in
-      let second = text-free t (of_changelog l.changelog) h.changelog asked changelog changelog_whole (subst (λ (z : Revision). HasRoomFor t (of_changelog l.changelog).index (of_changelog l.changelog).chunks h.changelog (with_revision h.changelog z)) (sym same_asked) changelog_room) b.0 b.1 in
+      let first = text-free t (of_manifest l.manifest) h.manifest manifest-asked manifest false manifest_whole (subst (λ (z : Revision). HasRoomFor false t (of_manifest l.manifest).index (of_manifest l.manifest).chunks h.manifest (with_revision h.manifest z)) (sym manifest-is) manifest_room) a.0 a.1 in
+      let second = text-free t (of_changelog l.changelog) h.changelog asked changelog false changelog_whole (subst (λ (z : Revision). HasRoomFor false t (of_changelog l.changelog).index (of_changelog l.changelog).chunks h.changelog (with_revision h.changelog z)) (sym same_asked) changelog_room) b.0 b.1 in
       let made : OfTexts × List Obstacle = (record { filelogs = x.growth; lines = x.lines; manifest = a.0.0.growth; changeset = b.0.0 }, a.0.1 ++ b.0.1) in
       ap (λ (w : OfTexts × List Obstacle). w.1) (sym (ok-is {E = ReadAnswer} made y b.2)) ∙ λ i. first i ++ second i

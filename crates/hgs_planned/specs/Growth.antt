@@ -5,10 +5,9 @@ use Rattle.hgs_bytes.specs.Text.{line}
 use Rattle.hgs_files.specs.declared.op.Op.{Op}
 use Rattle.hgs_files.specs.Tree.{Tree, bytes_at}
 use Rattle.hgs_index.specs.declared.entry.Entry.{Entry}
-use Rattle.hgs_index.specs.Either.{chunks_either}
 use Rattle.hgs_model.specs.History.{History, filelog_with, history}
 use Rattle.hgs_model.specs.Repo.{Changeset, Repo, TreeFile}
-use Rattle.hgs_ops.specs.Growth.{begins_inline, filelog_growth, filelogs_grow, grows_inline, new_names, new_paths}
+use Rattle.hgs_ops.specs.Growth.{begins_inline, filelog_growth, filelogs_grow, growing_chunks, grows_inline, is_part, new_names, new_paths}
 use Rattle.hgs_ops.specs.Unhindered.{AreNewRevisions}
 use Rattle.hgs_path.specs.declared.name.Ext.{Ext}
 use Rattle.hgs_path.specs.declared.name.Ext.TheVariants.{D, I}
@@ -39,7 +38,7 @@ pub record IsWhole (t : Tree) (f : OfLog) : Type 0 where
   pub chunks : length (held_chunks t f) ≡ stored_sum f.log.entries
 
 -- What is appended for a file is what its path's filelog grows by. The filelog is new where it has no revision, is then inline
--- where its first text is short, and its files have no bytes. With the changeset it is within the limit and has no node twice,
+-- where its first text is short, and the files that it then has have no bytes. With the changeset it is within the limit and has no node twice,
 -- and the lengths of the files that it appends to have room in a line.
 pub record IsGrownFileOf (t : Tree) (h : History) (c : Changeset) (g : TreeFile) (x : OfFile) : Type 0 where
   pub path : x.row.path ≡ g.path
@@ -47,10 +46,10 @@ pub record IsGrownFileOf (t : Tree) (h : History) (c : Changeset) (g : TreeFile)
   pub new : x.new ≡ (length (h.filelog g.path) == 0)
   pub inline : h.filelog g.path ≡ [] → x.inline ≡ begins_inline (filelog_with h c g.path)
   pub fresh : AreNewRevisions (h.filelog g.path) (filelog_with h c g.path)
-  pub room : length (chunks_either (bytes_at t (store_name g.path I)) (bytes_at t (store_name g.path D))) ≤ most_data
+  pub room : length (growing_chunks t g.path (h.filelog g.path) (filelog_with h c g.path)) ≤ most_data
   pub index_short : length (bytes_at t (store_name g.path I)) < 2 ^ 64
   pub data_short : grows_inline (bytes_at t (store_name g.path I)) (h.filelog g.path) (filelog_with h c g.path) ≡ false → length (bytes_at t (store_name g.path D)) < 2 ^ 64
-  pub free : h.filelog g.path ≡ [] → (ext : Ext) → bytes_at t (store_name g.path ext) ≡ []
+  pub free : h.filelog g.path ≡ [] → (ext : Ext) → is_part (begins_inline (filelog_with h c g.path)) ext ≡ true → bytes_at t (store_name g.path ext) ≡ []
 
 -- What is appended to the filelogs is what those of the new paths grow by, and the lines are the names of those that are new.
 pub record AreGrownFilesOf (t : Tree) (r next : Repo) (x : OfGrown) : Type 0 where

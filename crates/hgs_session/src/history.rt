@@ -1,6 +1,6 @@
 //! The history of a session: its writing jobs that were done, one after another. Who adds to it and who looks at it agree on it, since it
 //! only grows; it stands in proofs, and what is counted of it is its length.
-ghost use Rattle.std.specs.Prelude.{◌≡◌, ◌++◌, ◌∷◌, [], length, true, IfSome};
+ghost use Rattle.std.specs.Prelude.{◌≡◌, ◌++◌, ◌∷◌, [], length, nat_le, true, IfSome};
 ghost use mathlib.Core.List.{IsPrefix};
 ghost use Rattle.hgs_session.specs.Noted.{call_of};
 ghost use Rattle.hgs_session.specs.Rules.{head_of};
@@ -147,7 +147,8 @@ impl<N: Naming, F: Told> Front<N, F> {
 
     /// Whether another front goes on from this one: of two fronts of one history the longer does.
     pub fn begins(&self, other: &Front<N, F>) -> bool
-        ensures { result ≡ true → IsPrefix self.now other.now }
+        ensures order { result ≡ nat_le (length self.now) (length other.now) }
+        ensures prefix { result ≡ true → IsPrefix self.now other.now }
     {
         let mut both = self.seen.again();
         both.learn(&other.seen);

@@ -9,7 +9,7 @@ use Rattle.hgs_commit.specs.declared.fault.CommitFault.TheVariants as commits
 use Rattle.hgs_answers.specs.declared.outcome.Outcome.{Outcome}
 use Rattle.hgs_answers.specs.declared.outcome.Outcome.TheVariants as outcomes
 use Rattle.hgs_index.specs.declared.kinds.Which.{Which}
-use Rattle.hgs_index.specs.Either.{chunks_either}
+use Rattle.hgs_index.specs.Either.{chunk_bytes, chunks_either}
 use Rattle.hgs_index.specs.Inline.{is_inline}
 use Rattle.hgs_index.specs.Revision.{Revision}
 use Rattle.hgs_index.specs.Revlog.{chunk_of}
@@ -24,6 +24,7 @@ use Rattle.hgs_model.specs.declared.command.Command.{Command}
 use Rattle.hgs_model.specs.declared.command.Command.TheVariants.{Commit, Mark, Move, Unmark}
 use Rattle.hgs_model.specs.declared.command.NewChange.{NewChange}
 use Rattle.hgs_model.specs.declared.command.Refusal.{Refusal}
+use Rattle.hgs_ops.specs.Growth.{grows_inline}
 use Rattle.hgs_ops.specs.Operations.{lock_path, wlock_path}
 use Rattle.hgs_ops.specs.Unhindered.{IsReady}
 use Rattle.hgs_path.specs.declared.name.Ext.{Ext}
@@ -91,12 +92,18 @@ module _ (laws : Below) (t : Tree) (who : List ℕ) (locking : List Op) (locks :
   reads-under-locks r (Unmark mark) within = tt
 
   -- there is as much room
-  revlog-stays : (index chunks : List ℕ) (old all : List Revision) → bytes_at t index ≡ bytes_at (after_all locking t) index → bytes_at t chunks ≡ bytes_at (after_all locking t) chunks → HasRoomFor t index chunks old all → HasRoomFor (after_all locking t) index chunks old all
-  revlog-stays index chunks old all same_index same_bytes room = record {
+  revlog-stays : (inline : Bool) (index chunks : List ℕ) (old all : List Revision) → bytes_at t index ≡ bytes_at (after_all locking t) index → bytes_at t chunks ≡ bytes_at (after_all locking t) chunks → HasRoomFor inline t index chunks old all → HasRoomFor inline (after_all locking t) index chunks old all
+  revlog-stays inline index chunks old all same_index same_bytes room = record {
     few = room.few;
-    data_end = subst (λ (b : List ℕ). length b + sum_by (λ (x : Revision). length (chunk_of x.text)) (drop (length old) all) ≤ most_data) (λ i. chunks_either (same_index i) (same_bytes i)) room.data_end;
+    data_end = subst (λ (b : List ℕ). length b + sum_by (λ (x : Revision). length (chunk_of x.text)) (drop (length old) all) ≤ most_data) (λ i. chunk_bytes inline (same_index i) (same_bytes i)) room.data_end;
     new = room.new;
   }
+
+  filelog-room : (path : List ℕ) (old all : List Revision) → HasRoomFor (grows_inline (bytes_at t (store_name path I)) old all) t (store_name path I) (store_name path D) old all
+      → HasRoomFor (grows_inline (bytes_at (after_all locking t) (store_name path I)) old all) (after_all locking t) (store_name path I) (store_name path D) old all
+  filelog-room path old all room =
+      subst (λ (index : List ℕ). HasRoomFor (grows_inline index old all) (after_all locking t) (store_name path I) (store_name path D) old all) (filelog-stays path I)
+      (revlog-stays (grows_inline (bytes_at t (store_name path I)) old all) (store_name path I) (store_name path D) old all (filelog-stays path I) (filelog-stays path D) room)
 
   -- the forms of changelog and manifest stay
   form-stays : has_inline_log (after_all locking t) ≡ has_inline_log t
@@ -106,11 +113,11 @@ module _ (laws : Below) (t : Tree) (who : List ℕ) (locking : List Op) (locks :
   room-stays r next free = record {
     bookmarks = free.bookmarks;
     separate = form-stays ∙ free.separate;
-    changelog = revlog-stays changelog_index changelog_data (history r.changesets).changelog (history next.changesets).changelog (bytes-stay changelog_index refl refl) (bytes-stay changelog_data refl refl) free.changelog;
-    manifest = revlog-stays manifest_index manifest_data (history r.changesets).manifest (history next.changesets).manifest (bytes-stay manifest_index refl refl) (bytes-stay manifest_data refl refl) free.manifest;
-    filelogs = λ path. revlog-stays (store_name path I) (store_name path D) ((history r.changesets).filelog path) ((history next.changesets).filelog path) (filelog-stays path I) (filelog-stays path D) (free.filelogs path);
+    changelog = revlog-stays false changelog_index changelog_data (history r.changesets).changelog (history next.changesets).changelog (bytes-stay changelog_index refl refl) (bytes-stay changelog_data refl refl) free.changelog;
+    manifest = revlog-stays false manifest_index manifest_data (history r.changesets).manifest (history next.changesets).manifest (bytes-stay manifest_index refl refl) (bytes-stay manifest_data refl refl) free.manifest;
+    filelogs = λ path. filelog-room path ((history r.changesets).filelog path) ((history next.changesets).filelog path) (free.filelogs path);
     list = subst (λ (b : List ℕ). length b + length (new_lines r next) ≤ most_fncache) list-stays free.list;
-    files = λ path ext there none. sym (filelog-stays path ext) ∙ free.files path ext there none;
+    files = λ path ext there none part. sym (filelog-stays path ext) ∙ free.files path ext there none part;
   }
 
   lacks-before : (r : Repo) (stepped : Result Next Refusal) → LacksRoom (after_all locking t) r stepped → LacksRoom t r stepped

@@ -8,7 +8,7 @@ use Rattle.hgs_index.specs.Entry.{Fits, entry_bytes}
 use Rattle.hgs_index.specs.Node.{null_node}
 use Rattle.hgs_index.specs.Revision.{Revision, node_after, nodes, parent_node}
 use Rattle.hgs_index.specs.declared.entry.Header.{Header}
-use Rattle.hgs_index.specs.Either.{HoldsEither, chunk_bytes, chunks_either, data_more, index_more}
+use Rattle.hgs_index.specs.Either.{HoldsEither, chunk_bytes, data_more, index_more}
 use Rattle.hgs_index.specs.Inline.{is_inline}
 use Rattle.hgs_index.specs.Revlog.{Holds, IsDataOf, Item, Stored, all_different, chunk_of, entry_after, index_bytes, item_bytes, items, next_header}
 use Rattle.hgs_index.specs.Theorems.RevisionLemmas.{length-nodes_from, nodes_from-append}
@@ -158,22 +158,29 @@ none-held index data_bytes h = (empty h.stored h.these h.index_is, chunks h.stor
     chunks [] these is = is
     chunks (s ∷ stored) these is = cc
 
--- a revlog holds what it has in the form in which it grows, and its chunks stand in that form
+-- a revlog holds what it has in the form in which it grows
 pub held-growing : (index data_bytes : List ℕ) (old all : List Revision) → HoldsEither index data_bytes old → Holds (grows_inline index old all) index data_bytes old
 held-growing index data_bytes [] all h =
     let none = none-held index data_bytes h in
     subst (λ x. Holds (begins_inline all) x data_bytes []) (sym none.0) (subst (λ y. Holds (begins_inline all) [] y []) (sym none.1) (holds-none (begins_inline all)))
 held-growing index data_bytes (r ∷ old) all h = h
 
-pub chunks-growing : (index data_bytes : List ℕ) (old all : List Revision) → HoldsEither index data_bytes old → chunk_bytes (grows_inline index old all) index data_bytes ≡ chunks_either index data_bytes
-chunks-growing index data_bytes [] all h =
-    let none = none-held index data_bytes h in
-    (λ i. chunk_bytes (begins_inline all) (none.0 i) (none.1 i)) ∙ nothing (begins_inline all) ∙ sym (λ i. chunks_either (none.0 i) (none.1 i))
-  where
-    nothing : (inline : Bool) → chunk_bytes inline [] [] ≡ []
-    nothing true = refl
-    nothing false = refl
-chunks-growing index data_bytes (r ∷ old) all h = refl
+-- an empty index holds nothing in either form; of an inline revlog the data bytes may be any
+pub held-new : (inline : Bool) (data_bytes : List ℕ) → (not inline ≡ true → data_bytes ≡ []) → Holds inline [] data_bytes []
+held-new true data_bytes none = record {
+  header = record { inline = true; generaldelta = false };
+  stored = [];
+  these = refl;
+  texts = tt;
+  earlier = tt;
+  fits = tt;
+  different = refl;
+  not_null = refl;
+  form = refl;
+  index_is = refl;
+  data_is = tt;
+}
+held-new false data_bytes none = subst (λ y. Holds false [] y []) (sym (none refl)) (holds-none false)
 
 -- where something is held, the index says the form
 pub own-form : (inline : Bool) (index data_bytes : List ℕ) (all : List Revision) → (all ≡ [] → inline ≡ false) → Holds inline index data_bytes all → HoldsEither index data_bytes all

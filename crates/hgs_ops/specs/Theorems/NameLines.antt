@@ -1,5 +1,5 @@
 -- The lines that new filelogs add to the list of filelogs.
-use Rattle.std.proofs.Common.{◌≡◌, ◌⊎◌, ℕ, List, [], ◌∷◌, ◌++◌, Bool, true, false, cond, not, ◌||◌, refl, sym, ◌∙◌, ap, subst, inl, inr, append_assoc, append-nil}
+use Rattle.std.proofs.Common.{◌≡◌, ◌⊎◌, ℕ, List, [], ◌∷◌, ◌++◌, Bool, true, false, cond, ◌||◌, refl, sym, ◌∙◌, ap, subst, inl, inr, append_assoc, append-nil}
 use Rattle.std.specs.Prelude.{Result, Ok, Err, flat_map, is_ok}
 use Rattle.std.specs.List.{AllByRecursion}
 use Rattle.hgs_bytes.specs.Bytes.{same, among}
@@ -16,7 +16,7 @@ use Rattle.hgs_path.specs.ListedNames.{names_of}
 use Rattle.hgs_path.specs.StoreName.{listed_name, store_name}
 use Rattle.hgs_path.specs.Theorems.AddedLemmas.{name-added}
 use Rattle.hgs_path.specs.Theorems.CheckLemmas.{checked-tracked}
-use Rattle.hgs_ops.specs.Growth.{begins_inline, new_names, new_names_of}
+use Rattle.hgs_ops.specs.Growth.{begins_inline, is_part, new_names, new_names_of}
 use Rattle.hgs_ops.specs.Theorems.Touch.{bool}
 use Rattle.hgs_ops.specs.Theorems.FileGrowth.{AreNot}
 
@@ -59,11 +59,6 @@ lines-all P old new (o ∷ ps) each = all-join P (new_names_of o (old o) (new o)
     two : (log : List Revision) → AllByRecursion P (new_names_of o log (new o))
     two [] = (each o I (self o ps), second (begins_inline (new o)))
     two (x ∷ log) = tt
-
--- whether a filelog in this form has this file
-abbrev pub is_part : Bool → Ext → Bool
-is_part inline I = true
-is_part inline D = not inline
 
 -- the lines of a path whose filelog is new are among the new lines
 pub new-line : (old new : List ℕ → List Revision) (q : List ℕ) (ext : Ext) (ps : List (List ℕ)) → among q ps ≡ true → old q ≡ [] → is_part (begins_inline (new q)) ext ≡ true → among (listed_name q ext) (new_names old new ps) ≡ true

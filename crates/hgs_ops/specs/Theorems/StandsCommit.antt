@@ -9,13 +9,11 @@ use Rattle.hgs_files.specs.declared.op.Op.{Op}
 use Rattle.hgs_files.specs.declared.op.Op.TheVariants.{Append}
 use Rattle.hgs_files.specs.Tree.{Tree, bytes_at}
 use Rattle.hgs_index.specs.Revision.{Parents, Revision}
-use Rattle.hgs_index.specs.Either.{chunk_bytes, chunks_either}
+use Rattle.hgs_index.specs.Either.{chunk_bytes}
 use Rattle.hgs_index.specs.Inline.{is_inline}
 use Rattle.hgs_index.specs.Revlog.{Holds, HoldsRevisions}
 use Rattle.hgs_index.specs.Theorems.EitherLemmas.{held-form, separate-holds}
-use Rattle.hgs_revlog.specs.Load.{most_data}
 use Rattle.hgs_index.specs.TrackedPath.{is_tracked}
-use Rattle.hgs_index.specs.Theorems.RevlogLemmas.{held-none}
 use Rattle.hgs_model.specs.declared.command.NewChange.{NewChange}
 use Rattle.hgs_model.specs.History.{History, changeset_revision, file_parents, file_revision, history, in_order, inserted, manifest_revision, uses, with_changeset}
 use Rattle.hgs_model.specs.IsRepo.{IsNextChangeset, IsRepo}
@@ -35,15 +33,15 @@ use Rattle.hgs_stands.specs.Places.{requires_path, fncache_path, changelog_index
 use Rattle.hgs_stands.specs.Stands.{HoldsAt, has_file, IsUsedName, ListsFilelogs, Stands, listed_file}
 use Rattle.hgs_stands.specs.Theorems.FormLemmas.{changelog-plain, manifest-plain, plain-held}
 use Rattle.hgs_stands.specs.Theorems.StayLemmas.{holds-stays, names-listed}
-use Rattle.hgs_ops.specs.Growth.{append_some, begins_inline, filelogs_grow, growth, grown, grows_inline, new_changelog_entry, new_chunks, new_entries, new_items, new_names, new_paths}
+use Rattle.hgs_ops.specs.Growth.{append_some, begins_inline, filelogs_grow, growth, grown, grows_inline, is_part, new_changelog_entry, new_chunks, new_entries, new_items, new_names, new_paths}
 use Rattle.hgs_ops.specs.Replaced.{roots_of}
 use Rattle.hgs_ops.specs.Unhindered.{IsUnhindered}
 use Rattle.hgs_ops.specs.Theorems.Touch.{bytes-same, touched, touched-append, appended, appends_at, appended-append, appended-none, bool, never, and-left, and-right, same-sym}
 use Rattle.hgs_ops.specs.Theorems.Apart.{fixed, among-part, lines-fixed, stores-fixed}
-use Rattle.hgs_ops.specs.Theorems.GrowLemmas.{GrownHeld, FitsAfter, chunks-growing, drop-front, held-growing, held-kept, held-push, new-text, none-held, own-form}
+use Rattle.hgs_ops.specs.Theorems.GrowLemmas.{GrownHeld, FitsAfter, drop-front, held-growing, held-kept, held-new, held-push, new-text, none-held, own-form}
 use Rattle.hgs_ops.specs.Theorems.CommitTree.{quiet, is_quiet, CommitLeaves}
 use Rattle.hgs_ops.specs.Theorems.FileGrowth.{added, form, filelogs-touched, filelogs-not, filelogs-among, AreNot, AreOthers, appended-some, touched-some, grown-touched, grown-index, grown-data}
-use Rattle.hgs_ops.specs.Theorems.NameLines.{among-left, among-right, is_part, lines-all, names-added, new-line, store-or}
+use Rattle.hgs_ops.specs.Theorems.NameLines.{among-left, among-right, lines-all, names-added, new-line, store-or}
 
 -- ---- the paths of the new changeset
 
@@ -225,16 +223,17 @@ module _ (t : Tree) (r : Repo) (n : NewChange) (c : Changeset) (f : CommitFacts 
 
   -- ---- the filelogs
 
-  old-held : (q : List ℕ) → among q paths ≡ true → HoldsAt t (store_name q I) (store_name q D) (h.filelog q)
-  old-held q e = elim (bool (uses r.changesets q)) [
-    | inl used ↦ f.stands.revlogs.filelogs q used
-    | inr none ↦ subst (HoldsAt t (store_name q I) (store_name q D)) (sym (unused-empty r.changesets q none))
-        (separate-holds _ _ [] (subst (λ x. HoldsRevisions x (bytes_at t (store_name q D)) []) (sym (f.un.free q I e none)) (subst (λ y. HoldsRevisions [] y []) (sym (f.un.free q D e none)) held-none)))
-  ]
-
   -- the form in which a filelog grows
   abbrev form_of : List ℕ → Bool
   form_of q = form t h.filelog k.filelog q
+
+  -- in this form it holds what it has
+  old-held : (q : List ℕ) → among q paths ≡ true → Holds (form_of q) (bytes_at t (store_name q I)) (bytes_at t (store_name q D)) (h.filelog q)
+  old-held q e = elim (bool (uses r.changesets q)) [
+    | inl used ↦ held-growing (bytes_at t (store_name q I)) (bytes_at t (store_name q D)) (h.filelog q) (k.filelog q) (f.stands.revlogs.filelogs q used)
+    | inr none ↦ subst (λ (old : List Revision). Holds (grows_inline (bytes_at t (store_name q I)) old (k.filelog q)) (bytes_at t (store_name q I)) (bytes_at t (store_name q D)) old) (sym (unused-empty r.changesets q none))
+        (subst (λ x. Holds (begins_inline (k.filelog q)) x (bytes_at t (store_name q D)) []) (sym (f.un.free q I e none refl)) (held-new (begins_inline (k.filelog q)) (bytes_at t (store_name q D)) (f.un.free q D e none)))
+  ]
 
   file-fits : (q : List ℕ) (file : TreeFile) → among q paths ≡ true → find (λ (g : TreeFile). same g.path q) c.tree ≡ Some file → k.filelog q ≡ h.filelog q ++ file_revision h c file ∷ [] → FitsAfter (length (chunk_bytes (form_of q) (bytes_at t (store_name q I)) (bytes_at t (store_name q D)))) (h.filelog q) (file_revision h c file)
   file-fits q file used found e =
@@ -245,7 +244,7 @@ module _ (t : Tree) (r : Repo) (n : NewChange) (c : Changeset) (f : CommitFacts 
       let b = subst (λ z. AreTwoBelow (file_parents h c.parents z) (length (h.filelog z))) (same-eq file.path q (found-has (λ (x : TreeFile). Unit {0}) (λ (g : TreeFile). same g.path q) c.tree file (all-unit c.tree) found).1) (file-revision-below h c.parents file.path so) in
       let at : file_parents h c.parents q ≡ file_parents h c.parents file.path = ap (file_parents h c.parents) (sym (same-eq file.path q (found-has (λ (x : TreeFile). Unit {0}) (λ (g : TreeFile). same g.path q) c.tree file (all-unit c.tree) found).1)) in
       record {
-        offset_room = (let room : length (chunks_either (bytes_at t (store_name q I)) (bytes_at t (store_name q D))) ≤ most_data = f.un.room.filelogs q used in omega (arith, room, ap length (chunks-growing (bytes_at t (store_name q I)) (bytes_at t (store_name q D)) (h.filelog q) (k.filelog q) (old-held q used))));
+        offset_room = f.un.room.filelogs q used;
         count = small-number (length (h.filelog q)) (omega arith);
         text = new-text (h.filelog q) (k.filelog q) (file_revision h c file) e (f.un.filelogs q);
         link = small-number (length h.placed) (omega arith);
@@ -259,7 +258,7 @@ module _ (t : Tree) (r : Repo) (n : NewChange) (c : Changeset) (f : CommitFacts 
 
   file-grown : (q : List ℕ) → among q paths ≡ true → GrownHeld (form_of q) (bytes_at t (store_name q I)) (bytes_at t (store_name q D)) (h.filelog q) (k.filelog q)
   file-grown q e =
-      let old = held-growing (bytes_at t (store_name q I)) (bytes_at t (store_name q D)) (h.filelog q) (k.filelog q) (old-held q e) in
+      let old = old-held q e in
       elim (filelog-one h c q) [
         | inl same_log ↦ held-kept (form_of q) _ _ (h.filelog q) (k.filelog q) old (ap (λ (x : History). x.filelog q) push ∙ same_log)
         | inr (file, found, more) ↦
