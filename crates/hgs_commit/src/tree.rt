@@ -251,8 +251,8 @@ impl NewTree {
     {
         let NewTree {
             alloc,
-            mut first,
-            mut second,
+            first,
+            second,
             rows,
             mut changed,
             growth,

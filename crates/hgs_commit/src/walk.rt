@@ -84,8 +84,8 @@ impl Walk {
     }
 
     /// Passes all rows that are left, and adds their paths.
-    pub fn pass_all(&mut self, alloc: Global, passed: &mut Vec<Bytes>) -> Result<(), AllocError>
-        ensures passed { OnOk result (passed.new.items ≡ passed.old.items ++ map (λ r. r.path) self.old) }
+    pub fn pass_all(mut self, alloc: Global, passed: &mut Vec<Bytes>) -> Result<(), AllocError>
+        ensures passed { OnOk result (passed.new.items ≡ passed.old.items ++ map (λ r. r.path) self) }
     {
         while self.next < self.manifest.len() {
             let row = self.manifest.row(self.next);
