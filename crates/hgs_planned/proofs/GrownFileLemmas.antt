@@ -111,9 +111,6 @@ free-at path (b ∷ bytes) none = absurd (no (sym (ap (λ z. let os : List Obsta
 place-free : (t : Tree) (path : List ℕ) (log : Log) (obstacles : List Obstacle) → length log.entries ≡ 0 → place_in (filelog_at path log) t ≡ Ok obstacles → obstacles ≡ [] → (ext : Ext) → is_part log.inline ext ≡ true → bytes_at t (store_name path ext) ≡ []
 place-free t path log obstacles none e free = by
   where
-    f : OfLog
-    f = filelog_at path log
-
     behind : Bool → List Obstacle
     behind inline = cond inline [] (standing_at (store_name path D) t)
 
