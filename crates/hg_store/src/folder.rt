@@ -9,17 +9,22 @@ use crate::streams::read_once;
 use hgs_files::files::Created;
 use hgs_files::path::StorePath;
 use std::alloc::AllocError;
+use std::collections::BTreeMap;
 use std::fs::{self, File, OpenOptions, Permissions};
 use std::io::{self, ErrorKind, Read, Seek, SeekFrom, Write};
 use std::os::unix::fs::{MetadataExt, PermissionsExt};
 use std::path::Path;
 
-/// A folder, and the folders whose lists of names changed since they were last made to last, the latest change last.
+/// A folder, and the folders whose lists of names changed since they were last made to last.
 #[derive(Drop)]
 pub struct Folder {
     rt: HostRuntime,
     name: String,
-    changed: Vec<String>,
+    /// These folders by the number of their latest change, and back.
+    changed: BTreeMap<u64, String>,
+    places: BTreeMap<String, u64>,
+    /// The number of the next change.
+    changes: u64,
     /// Whether the names of the whole store were made to last, those too that an earlier process changed.
     settled: bool,
 }
@@ -83,7 +88,9 @@ impl Folder {
         Ok(Folder {
             rt,
             name: String::from_str(rt.alloc(), name)?,
-            changed: Vec::new(rt.alloc()),
+            changed: BTreeMap::new(rt.alloc()),
+            places: BTreeMap::new(rt.alloc()),
+            changes: 0,
             settled: false,
         })
     }
@@ -101,21 +108,30 @@ impl Folder {
         }
     }
 
-    // What stands under a name. What is neither a file nor such a link is an error, and is not opened, since opening a pipe
-    // waits for its other end.
+    // What stands under a name.
     fn find(&self, name: &str) -> io::Result<Found> {
+        match self.find_file(name)? {
+            Found::Nothing => self.find_link(name),
+            found => Ok(found),
+        }
+    }
+
+    // The file under a name, where there is one. What is neither a file nor a link that leads nowhere is an error, and is not
+    // opened, since opening a pipe waits for its other end.
+    fn find_file(&self, name: &str) -> io::Result<Found> {
         match fs::metadata(&self.rt, name) {
             Ok(found) if found.is_file() => Ok(Found::File {
                 len: found.len(),
                 names: found.nlink(),
             }),
             Ok(_) => Err(ErrorKind::IsADirectory.into()),
-            Err(error) if is_absent(&error) => self.find_link(name),
+            Err(error) if is_absent(&error) => Ok(Found::Nothing),
             Err(error) => Err(error),
         }
     }
 
-    // The link that leads nowhere under a name, where there is one.
+    // The link that leads nowhere under a name, where there is one. What is no link by now was put there meanwhile, by another
+    // process.
     fn find_link(&self, name: &str) -> io::Result<Found> {
         match fs::read_link(&self.rt, name) {
             Ok(text) => Ok(Found::Link(Vec::from_slice(
@@ -123,15 +139,21 @@ impl Folder {
                 text.as_str().as_bytes(),
             )?)),
             Err(error) if is_absent(&error) => Ok(Found::Nothing),
+            Err(error) if error.kind() == ErrorKind::InvalidInput => self.find_file(name),
             Err(error) => Err(error),
         }
     }
 
     // Notes that the list of names of a folder changes now.
     fn note_folder(&mut self, folder: &str) -> io::Result<()> {
-        self.changed.retain(|noted| noted.as_str() != folder);
+        let alloc = self.rt.alloc();
+        let place = self.changes;
+        if let Some(earlier) = self.places.insert(String::from_str(alloc, folder)?, place)? {
+            self.changed.remove(&earlier);
+        }
         self.changed
-            .push(String::from_str(self.rt.alloc(), folder)?)?;
+            .insert(place, String::from_str(alloc, folder)?)?;
+        self.changes = place.saturating_add(1);
         Ok(())
     }
 
@@ -149,12 +171,44 @@ impl Folder {
         Ok(())
     }
 
-    // Makes the folders on the way to a file.
+    // Makes the folders on the way to a file. What cannot be looked at, stands, and so does the folder of no name, the current one.
     fn make_folders(&self, name: &str) -> io::Result<()> {
-        match Path::new(name).parent() {
-            Some(folder) => fs::create_dir_all(&self.rt, folder),
-            None => Ok(()),
+        let mut missing = Vec::new(self.rt.alloc());
+        for folder in Path::new(name).ancestors().skip(1) {
+            let folder = folder.as_str();
+            if folder.is_empty() {
+                break;
+            }
+            match fs::metadata(&self.rt, folder) {
+                Err(error) if is_absent(&error) => {
+                    missing.push(String::from_str(self.rt.alloc(), folder)?)?;
+                }
+                _ => break,
+            }
         }
+        for folder in missing.iter().rev() {
+            self.make_folder(folder.as_str())?;
+        }
+        Ok(())
+    }
+
+    // Makes a folder, unless another process made it meanwhile, with the mode of the one that it stands in, as Mercurial does, so that a
+    // store that a group shares stays so.
+    fn make_folder(&self, name: &str) -> io::Result<()> {
+        match fs::create_dir(&self.rt, name) {
+            Ok(()) => {}
+            Err(error) if error.kind() == ErrorKind::AlreadyExists => return Ok(()),
+            Err(error) => return Err(error),
+        }
+        let above = match Path::new(name).parent() {
+            Some(above) if !above.as_str().is_empty() => above,
+            _ => return Ok(()),
+        };
+        let wanted = fs::metadata(&self.rt, above)?.mode() & 0o7777;
+        if fs::metadata(&self.rt, name)?.mode() & 0o7777 == wanted {
+            return Ok(());
+        }
+        fs::set_permissions(&self.rt, name, Permissions::from_mode(wanted))
     }
 
     // Opens a file that may have to be made, with the folders on the way to it.
@@ -168,8 +222,7 @@ impl Folder {
         }
     }
 
-    // Gives a file that was made the mode of its folder, without the right to run it, as Mercurial does, so that a store
-    // that a group shares stays so.
+    // Gives a file that was made the mode of its folder, without the right to run it, as Mercurial does.
     fn give_mode(&self, file: &File, name: &str) -> io::Result<()> {
         let Some(folder) = Path::new(name).parent() else {
             return Ok(());
@@ -422,10 +475,11 @@ impl Folder {
             self.settle_below(format!(in self.rt.alloc(); "{}/store", self.name)?.as_str())?;
             self.settled = true;
         }
-        for folder in self.changed.iter() {
+        for (_, folder) in self.changed.iter() {
             self.settle_folder(folder.as_str())?;
         }
-        self.changed.clear();
+        self.changed = BTreeMap::new(self.rt.alloc());
+        self.places = BTreeMap::new(self.rt.alloc());
         Ok(())
     }
 }

@@ -30,7 +30,7 @@ pub fn hint(status: u8) -> Option<&'static str> {
         ),
         18 => Some("the system failed to read standard input; nothing was changed"),
         19 => Some(
-            "standard output took no more: its disk is full, or its reader has gone; what a command changes is done",
+            "standard output took no more: its disk is full, or its reader has gone; what a command changes is done, but nothing where standard output was closed from the start",
         ),
         20 => Some(
             "a file, a text or a count is larger than hg_store takes; docs/ANSWERS.md has the limits by their numbers; nothing was changed",
@@ -48,14 +48,14 @@ pub fn hint(status: u8) -> Option<&'static str> {
             "a changeset goes from public to draft, or to secret, only with --force; nothing was changed",
         ),
         27 => Some(
-            "only repositories that require dotencode, fncache, revlogv1 and store, and at most generaldelta besides, are taken; `bin/from_hg` makes one of any repository of Mercurial's",
+            "only repositories that require dotencode, fncache, revlogv1 and store, and at most generaldelta besides, are taken; `bin/from_hg` makes one of a repository of Mercurial's",
         ),
         28 => Some("`hg_store --help` lists the commands"),
-        29 => Some("docs/ANSWERS.md says what each kind of finding means; nothing was changed"),
-        30 => Some("there was not enough memory; `hg_store log` shows whether a commit was made"),
-        34 => Some(
-            "this file stands where a new one is to be, and no list of the store names it; move it away; nothing was changed",
+        29 => Some(
+            "docs/ANSWERS.md says what each kind of finding means; `verify` changes nothing",
         ),
+        30 => Some("there was not enough memory; `hg_store log` shows whether a commit was made"),
+        34 => Some("this file stands where a new one is to be; move it away; nothing was changed"),
         _ => None,
     }
 }

@@ -59,7 +59,8 @@ fn say_hint(rt: &HostRuntime, status: u8) {
     }
 }
 
-// Makes the folder in which Mercurial takes its lock, where a repository is to be made. What fails here, fails there too.
+// Makes the folder in which Mercurial takes its lock, where a repository is to be made. Where it cannot be made, a command that
+// writes there says so.
 fn make_store(rt: &HostRuntime, words: &[String]) {
     let is_new = match fs::metadata(rt, ".hg/requires") {
         Err(error) => error.kind() == ErrorKind::NotFound,
@@ -118,6 +119,7 @@ fn main(rt: HostRuntime) -> ExitCode {
         }
         Err(_) => {
             let _ = out.write(b"abort: out of memory\n");
+            say_hint(&rt, 30);
             ExitCode::from(30)
         }
     }

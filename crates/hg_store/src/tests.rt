@@ -199,10 +199,11 @@ fn links_that_lead_nowhere_stand(rt: HostRuntime) -> Result<(), Fail> {
     Ok(())
 }
 
-const MADE: [Row; 3] = [
+const MADE: [Row; 4] = [
     ("a", Call::Append(b"text"), "done"),
     ("b", Call::Put(b"text"), "done"),
     ("c", Call::CreateNew(b"text"), "made"),
+    ("d/e/f", Call::Append(b"text"), "done"),
 ];
 
 #[test]
@@ -214,6 +215,10 @@ fn new_files_have_the_mode_of_their_folder(rt: HostRuntime) -> Result<(), Fail> 
     for (name, _, _) in MADE {
         let name = format!(in rt.alloc(); "{folder}/{name}")?;
         assert_eq!(rt; fs::metadata(&rt, name.as_str())?.mode() & 0o777, 0o660);
+    }
+    for name in ["d", "d/e"] {
+        let name = format!(in rt.alloc(); "{folder}/{name}")?;
+        assert_eq!(rt; fs::metadata(&rt, name.as_str())?.mode() & 0o7777, 0o2770);
     }
     fs::remove_dir_all(&rt, folder.as_str())?;
     Ok(())

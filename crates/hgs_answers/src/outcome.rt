@@ -50,11 +50,11 @@ pub enum Outcome {
     Limit(Which),
     /// The index with this path has another text with the same node at revision `rev`.
     Collision { path: StorePath, rev: u32 },
-    /// This path, which the store has, would have the same files.
+    /// This path, which is listed or new in the same commit, would have the same files.
     NameClash(Bytes),
     NeedsForce(u32),
     Memory,
-    /// A file that no list of the store names stands where a new one is to be.
+    /// A file with bytes stands where one of a new filelog is to be.
     InTheWay(StorePath),
 }
 

@@ -30,7 +30,7 @@ rest_at path rows = behind_row path (from_path path rows)
 abbrev pub passed_at : List ℕ → List Row → List Row → List (List ℕ)
 passed_at path first second = paths_of (before path first) ++ paths_of (before path second)
 
--- the lines of a new filelog's two files
+-- the lines of a new filelog's files
 abbrev pub new_lines : Bool → Bool → List ℕ → List ℕ
 new_lines new inline path = if new then lines (listed_name path I ∷ (if inline then [] else listed_name path D ∷ [])) else []
 

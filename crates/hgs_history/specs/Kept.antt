@@ -8,11 +8,11 @@ use Rattle.hgs_legal.specs.LegalLog.{IsLegal}
 use Rattle.hgs_model.specs.Repo.{Repo}
 use Rattle.hgs_script.specs.declared.result.Answered.{Answered}
 use Rattle.hgs_script.specs.declared.result.SessionResult.{SessionResult}
-use Rattle.hgs_session.specs.Calls.{Beginning, Call, Stage}
+use Rattle.hgs_session.specs.Calls.{Beginning, Call, Makes, Stage}
 use Rattle.hgs_session.specs.Jobs.{DoesJob, IsFresh, Progress}
 use Rattle.hgs_views.specs.Course.{OpensAlong, ReadsAlong}
 use Rattle.hgs_views.specs.Seen.{Numbers}
-use Rattle.hgs_history.specs.History.{ArePublished, IsBehind, IsMadeAt}
+use Rattle.hgs_history.specs.History.{ArePublished, IsBehind, IsMadeAt, stage_behind}
 use Rattle.hgs_history.specs.Once.{AreCallsFrom, IsListed}
 use Rattle.hgs_history.specs.Workers.{GoesBeside}
 
@@ -34,7 +34,7 @@ NoneFallsBack h x worker calls (answers ∷ replies) = NeverFallsBack h x worker
 -- The log is one that writers make from the repository, and legal. What is published is what is listed, and at most the job that is
 -- called unsure; each job that writes is one call, in its worker's order, each call is made over the repository behind those before it,
 -- and behind each the log has what they list. Within the limits no worker falls back.
-pub record KeepsHistory (x : Beginning) (r : Repo) (calls : List Call) (last : Stage) (result : SessionResult) : Type 0 where
+pub record KeepsHistory (x : Beginning) (r : Repo) (calls : List Call) (last : Stage) (makes : Makes x calls last) (result : SessionResult) : Type 0 where
   pub log : WritersLog
   pub start : log.start ≡ x.start
   pub first : log.first ≡ r
@@ -43,6 +43,6 @@ pub record KeepsHistory (x : Beginning) (r : Repo) (calls : List Call) (last : S
   pub published : ArePublished x.jobs result.published result.unsure log.last.published
   pub once : AreCallsFrom x.jobs 0 calls result.replies
   pub listed : AllByRecursion IsListed calls
-  pub behind : (front back : List Call) → calls ≡ front ++ back → (done : List Op) × IsPrefixOf done log.log × IsBehind x.jobs front (state_after log done)
-  pub made : (front back : List Call) (c : Call) → calls ≡ front ++ c ∷ back → (done : List Op) × IsPrefixOf done log.log × IsMadeAt x.jobs c (state_after log done)
+  pub behind : (front back : List Call) → calls ≡ front ++ back → (done : List Op) × ((stage_behind x x.first calls last makes front).log ≡ Some done) × IsPrefixOf done log.log × IsBehind x.jobs front (state_after log done)
+  pub made : (front back : List Call) (c : Call) → calls ≡ front ++ c ∷ back → (done : List Op) × ((stage_behind x x.first calls last makes front).log ≡ Some done) × IsPrefixOf done log.log × IsMadeAt x.jobs c (state_after log done)
   pub asked : OpensAlong (course_of log) [] log.log → ReadsAlong (course_of log) [] log.log → NoneFallsBack log x 0 calls result.replies

@@ -128,7 +128,7 @@ pub fn workers_never_fall_back()
 
 /// All of this together of a session that has a result, over files that stood for a repository and have what its commits need.
 pub fn sessions_keep_their_history()
-    ensures { (x : Beginning) (r : Repo) (calls : List Call) (last : Stage) (states : List EndState) (result : SessionResult) (makes : Makes x calls last) → IsSession x calls last states result → Stands x.start r → x.first.log ≡ Some [] → AllByRecursion IsShare x.jobs → HaveWhatTheyNeed x x.first calls last makes → KeepsHistory x r calls last result }
+    ensures { (x : Beginning) (r : Repo) (calls : List Call) (last : Stage) (states : List EndState) (result : SessionResult) (makes : Makes x calls last) → IsSession x calls last states result → Stands x.start r → x.first.log ≡ Some [] → AllByRecursion IsShare x.jobs → HaveWhatTheyNeed x x.first calls last makes → KeepsHistory x r calls last makes result }
 {
     sessions_publish_what_they_list();
     sessions_make_legal_logs();

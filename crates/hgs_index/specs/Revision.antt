@@ -1,4 +1,4 @@
--- Revisions, their nodes and their ancestors.
+-- Revisions and their nodes.
 use Rattle.std.specs.Prelude.{ℕ, suc, ◌<◌, List, [], ◌∷◌, ◌++◌, Bool, true, false, ◌&&◌, ◌||◌, ◌==◌, length, slice_index_or, Option, Some, None, IfSome, unwrap_or, position}
 use Rattle.hgs_bytes.specs.Bytes.{same}
 use Rattle.hgs_index.specs.Node.{null_node, node_hash}

@@ -49,7 +49,7 @@ impl<'a> Model for Input<'a> {
 }
 
 impl<'a> Input<'a> {
-    /// An input of which nothing is read. Of one that is too long only the first byte past the limit is looked at.
+    /// An input of which nothing is read. Of one that is too long nothing is looked at behind the first byte past the limit.
     pub fn new(bytes: &'a [u8]) -> Input<'a>
         ensures { result ≡ start_of bytes.now }
     {

@@ -61,7 +61,8 @@ fn judge_reading(
 /// What is found of a path, of the index and the data of its filelog and of what each changeset says of it, in their order.
 ///
 /// It is refused where the index passes a limit, and for want of memory. The time is that of reading and hashing the texts
-/// once, and of reading two of them again where a changeset names another revision than its parent.
+/// once, of reading two of them again where a changeset names another revision than its parent, and of up to two walks along the
+/// filelog for each merge of two revisions.
 pub fn judge_path(
     alloc: Global,
     index: &[u8],

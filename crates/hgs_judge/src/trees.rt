@@ -147,8 +147,9 @@ fn word(
 
 /// What each changeset says of a path, in their order.
 ///
-/// In each tree the path is looked for where it stood in the one before, so where trees are much alike the time is that of one
-/// comparison for each changeset.
+/// In each tree the path is looked for where it stood in the one before, and else by halves, so where trees are much alike the time is
+/// that of one comparison for each changeset that has it, and of as many as halves it in each other; beside it the list of changed files is
+/// searched.
 pub fn words(
     alloc: Global,
     trees: &[Option<Manifest>],

@@ -27,7 +27,7 @@ pub record View : Type 0 where
 abbrev pub damaged : List ℕ → Part → ℕ → ℕ → ReadAnswer
 damaged path part number place = Damaged (record { path = path; what = record { part = part; number = number; place = place } })
 
--- the refusal of a revlog's fault: a passed limit, or damage of its index
+-- the refusal of a revlog's fault: a passed limit, want of memory, or damage of its index
 abbrev pub revlog_refusal : List ℕ → RevFault → ReadAnswer
 revlog_refusal path (faults.Limit which) = Limit which
 revlog_refusal path faults.Memory = Memory

@@ -22,14 +22,14 @@ abbrev pub IsFrontOf : List ℕ → Option (List ℕ) → Type 0
 IsFrontOf front None = ⊥
 IsFrontOf front (Some bytes) = front ≡ take most_of_holder bytes
 
--- A lock could not be made: held exactly where a file stands there.
+-- A lock could not be made: held only where a file stands there.
 abbrev pub IsBarred : Option (List ℕ) → LockRefusal → Type 0
 IsBarred file (Held holder) = IsSome file × IfSome holder (λ bytes. IsFrontOf bytes file)
 IsBarred file Abandoned = ⊥
 IsBarred file Fault = Unit {0}
 IsBarred file Memory = Unit {0}
 
--- A lock is made exactly where no file stands, or nothing is done.
+-- A lock is made only where no file stands, or nothing is done.
 abbrev pub Makes : List ℕ → List ℕ → Tree → Result Unit LockRefusal → List Op → Type 0
 Makes path who t (Ok x) done = (t path ≡ None) × IsDone (Create path who ∷ []) done []
 Makes path who t (Err why) done = (done ≡ []) × IsBarred (t path) why

@@ -23,7 +23,7 @@ use std::alloc::{AllocError, Global};
 pub enum Added {
     /// The revision stands already, with the same text and the same parents in either order.
     Old(u32),
-    /// What is to be appended to the index and to the data file, and the new node.
+    /// What is to be appended to the index and to the data file, or one behind the other to an inline index, and the new node.
     New {
         entry: [u8; 64],
         chunk: Bytes,

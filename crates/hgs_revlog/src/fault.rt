@@ -61,7 +61,7 @@ pub enum RevFault {
     /// An earlier entry has the same node, or it is the null node.
     #[error("the node of revision {0} is taken")]
     Twice(u32),
-    /// The index ends inside an entry; the number is the count of the whole ones.
+    /// Bytes stand behind the last whole entry, or behind the last chunk, or are wanting of it; the number is the count of the whole entries.
     #[error("the index ends inside an entry, after {0} whole ones")]
     Tail(u32),
     /// No whole entry has the node.

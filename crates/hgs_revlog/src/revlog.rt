@@ -337,7 +337,6 @@ impl Revlog {
         *self.entries.allocator()
     }
 
-    /// How many revisions there are.
     /// The entries of its revisions.
     pub fn entries(&self) -> &[Entry]
         ensures { result.now ≡ self.now.entries }
@@ -345,6 +344,7 @@ impl Revlog {
         &self.entries
     }
 
+    /// How many revisions there are.
     pub fn len(&self) -> u32
         ensures { result ≡ length self.now.entries }
     {

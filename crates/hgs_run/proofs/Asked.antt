@@ -24,7 +24,7 @@ if_whole_map (Parts w rs) f h = tt
 
 -- ---- workers are asked for
 
-asked_for : (q : Result Request ℕ) → is_session q ≡ true → q ≡ Ok to_session
+pub asked_for : (q : Result Request ℕ) → is_session q ≡ true → q ≡ Ok to_session
 asked_for (Ok to_session) is = refl
 asked_for (Ok (to_answer question)) is = absurd (cc is)
 asked_for (Ok (to_do job)) is = absurd (cc is)

@@ -4,7 +4,7 @@ ghost use Rattle.std.specs.String.{string_bytes};
 ghost use Rattle.hgs_files.specs.Reads.{Rose};
 ghost use Rattle.hgs_files.specs.Yard.{IfWhole};
 ghost use Rattle.hgs_machine.specs.Refusals.{WereRefused};
-ghost use Rattle.hgs_run.specs.Session.{KeepsStart, KeepsYard, RunsSession, Stays};
+ghost use Rattle.hgs_run.specs.Session.{GaveScript, KeepsStart, KeepsYard, RunsSession, Stays};
 ghost use Rattle.hgs_script.specs.Script.{CanBeRun};
 ghost use Rattle.hgs_script.specs.declared.script.Script.{Script};
 ghost use Rattle.hgs_session.specs.Session.{AreCounted, AreOfOneStart, IfParts, IsWhole, LeftAs, MayRun, RestsOn};
@@ -31,7 +31,8 @@ use std::thread::Threads;
 ///
 /// `rt` is the runtime's handle, by which `verify` and `session` start threads, and `session` waits; nothing else is done by it. `progress`
 /// is told how far a report is. The status is 0, or that of the refusal whose line was written last; 29 says that the report has
-/// findings. The writing end of a session need take no more than what a script may leave. The yard is left whole, but for a session that found no memory to put its ends together: then these are left.
+/// findings. The writing end of a session need take no more than
+/// what the script on the input may leave. The yard is left whole, but for a session that found no memory to put its ends together: then these are left.
 pub fn run<T: Threads + Wait + Sync, Y: Yard, S: Source, K: Sink, P: Progress>(
     rt: &T,
     alloc: Global,
@@ -44,7 +45,7 @@ pub fn run<T: Threads + Wait + Sync, Y: Yard, S: Source, K: Sink, P: Progress>(
 where
     Y::W: Send,
     Y::R: Drop + Send,
-    requires allows { (script : Script) → CanBeRun script → MayRun script.workers (Y.A.log (Y.files yard)) (Y.A.start (Y.files yard)) Y.W.allows }
+    requires allows { request_of_words (map string_bytes words.now) ≡ Ok to_session → (script : Script) → CanBeRun script → GaveScript (S.left input.old) (Ok script) → MayRun script.workers (Y.A.log (Y.files yard)) (Y.A.start (Y.files yard)) Y.W.allows }
     ensures repository { SaysOfRepository (IfWhole result.left (λ y. Rose (Y.A.faults (Y.files yard)) (Y.A.faults (Y.files y)))) (request_of_words (map string_bytes words.now)) (Y.A.log (Y.files yard)) (Y.A.start (Y.files yard)) result.status (K.written out.old) (K.written out.new) }
     ensures says { Says (IfWhole result.left (λ y. Rose (Y.A.faults (Y.files yard)) (Y.A.faults (Y.files y)))) (request_of_words (map string_bytes words.now)) (Y.A.log (Y.files yard)) (Y.A.start (Y.files yard)) result.status (K.written out.old) (K.written out.new) }
     ensures statuses { IsOneOf (0 ∷ 1 ∷ 10 ∷ 11 ∷ 12 ∷ 13 ∷ 14 ∷ 15 ∷ 16 ∷ 17 ∷ 18 ∷ 19 ∷ 20 ∷ 21 ∷ 22 ∷ 23 ∷ 24 ∷ 25 ∷ 26 ∷ 27 ∷ 28 ∷ 29 ∷ 30 ∷ 34 ∷ []) result.status }

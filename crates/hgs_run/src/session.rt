@@ -1,12 +1,12 @@
 //! A session whose script stands on the input.
-ghost use Rattle.std.specs.Prelude.{◌≡◌, ◌≤◌, ⊤, [], ◌∷◌, Err};
+ghost use Rattle.std.specs.Prelude.{◌≡◌, ◌≤◌, ⊤, [], ◌∷◌, Err, Ok};
 ghost use Rattle.hgs_bytes.specs.Answer.{Gives};
 ghost use Rattle.hgs_files.specs.Reads.{Rose};
 ghost use Rattle.hgs_files.specs.Yard.{IfWhole};
 ghost use Rattle.hgs_load.specs.Answer.{is_of_outside};
 ghost use Rattle.hgs_load.specs.declared.answer.ReadAnswer.TheVariants.{Fault};
 ghost use Rattle.hgs_loading.specs.Found.{required_in};
-ghost use Rattle.hgs_run.specs.Session.{RunsScript, RunsSession, Stays, TellsSession};
+ghost use Rattle.hgs_run.specs.Session.{GaveScript, RunsScript, RunsSession, Stays, TellsSession};
 ghost use Rattle.hgs_script.specs.Script.{CanBeRun};
 ghost use Rattle.hgs_script.specs.declared.script.Script.{Script};
 ghost use Rattle.hgs_session.specs.Session.{AreCounted, AreOfOneStart, IfParts, IsWhole, LeftAs, MayRun, RestsOn};
@@ -109,7 +109,7 @@ pub fn run_session<T: Threads + Wait + Sync, Y: Yard, S: Source, K: Sink>(
 where
     Y::W: Send,
     Y::R: Drop + Send,
-    requires allows { (script : Script) → CanBeRun script → MayRun script.workers (Y.A.log (Y.files yard)) (Y.A.start (Y.files yard)) Y.W.allows }
+    requires allows { (script : Script) → CanBeRun script → GaveScript (S.left input.old) (Ok script) → MayRun script.workers (Y.A.log (Y.files yard)) (Y.A.start (Y.files yard)) Y.W.allows }
     ensures session { RunsSession (S.left input.old) (Y.A.log (Y.files yard)) (Y.A.start (Y.files yard)) (Y.A.faults (Y.files yard)) (Y.A.denied (Y.files yard)) result.status (K.written out.old) (K.written out.new) (LeftAs result.left (λ y. Stays (Y.A.log (Y.files yard)) (Y.A.start (Y.files yard)) (Y.A.log (Y.files y)) (Y.A.start (Y.files y))) (λ w. ⊥)) (λ last. LeftAs result.left (λ y. RestsOn (Y.A.log (Y.files yard)) (Y.A.start (Y.files yard)) last.log (Y.A.log (Y.files y)) (Y.A.start (Y.files y))) (λ w. Y.W.log w ≡ last.log)) (λ last states. LeftAs result.left (λ y. AreCounted last states (Y.A.faults (Y.files y)) (Y.A.denied (Y.files y))) (λ w. ⊤)) (IsWhole result.left) }
     ensures parts { IfParts result.left (λ w rs. AreOfOneStart (Y.A.log (Y.files yard)) (Y.A.start (Y.files yard)) (Y.W.ties w) (λ r. Y.R.ties r) rs) }
     ensures fault { result.status ≡ 16 → IfWhole result.left (λ y. Rose (Y.A.faults (Y.files yard)) (Y.A.faults (Y.files y))) }

@@ -8,7 +8,9 @@ use Rattle.hgs_grown.specs.declared.commits.Stop.{Stop}
 use Rattle.hgs_grown.specs.declared.commits.Stop.TheVariants as stops
 use Rattle.hgs_index.specs.declared.node.Node.{Node}
 use Rattle.hgs_machine.specs.Refusals.{WereRefused, refusals_of_left}
-use Rattle.hgs_top.specs.Orders.{Grows, LeftHasCause, TellsGrown}
+use Rattle.hgs_recover.specs.declared.answer.RecoverAnswer.{RecoverAnswer}
+use Rattle.hgs_recover.specs.declared.answer.RecoverAnswer.TheVariants as recoveries
+use Rattle.hgs_top.specs.Orders.{Grows, LeftHasCause, TellsGrown, refusals_of_recovered}
 use Rattle.hgs_top.specs.declared.ended.Ended.{Ended}
 use Rattle.hgs_top.specs.declared.ended.Ended.TheVariants.{Made, Exists, NotMade, NoInput, NoRecord, Refused, Answered, Recovered}
 use Rattle.hgs_writer.specs.Refusals.{refusals_of}
@@ -32,6 +34,15 @@ left_refused f g d e false le less h = by (h refl)
     by : Rose f g ⊎ Rose d e → WereRefused (refusals_of_left false) f g d e
     by (inl rose) = record { failed = 1; wanting = 0; all = omega arith; faults = rose; denied = omega (arith, less) }
     by (inr rose) = record { failed = 0; wanting = 1; all = omega arith; faults = omega (arith, le); denied = rose }
+
+-- what recovering came to
+pub recovered_refused : (f g d e : ℕ) (outcome : RecoverAnswer) (swept : Bool) → f ≤ g → d ≤ e → (outcome ≡ recoveries.Fault → Rose f g) → (outcome ≡ recoveries.Unfinished → Rose f g ⊎ Rose d e) → (swept ≡ false → Rose f g ⊎ Rose d e) → WereRefused (refusals_of_recovered outcome swept) f g d e
+recovered_refused f g d e recoveries.Fault swept le less fault unfinished left = left_refused f g d e false le less (λ x. inl (fault refl))
+recovered_refused f g d e recoveries.Unfinished swept le less fault unfinished left = left_refused f g d e false le less (λ x. unfinished refl)
+recovered_refused f g d e recoveries.Restored swept le less fault unfinished left = left_refused f g d e swept le less left
+recovered_refused f g d e recoveries.NothingToDo swept le less fault unfinished left = left_refused f g d e swept le less left
+recovered_refused f g d e (recoveries.Damaged damage) swept le less fault unfinished left = left_refused f g d e swept le less left
+recovered_refused f g d e recoveries.Memory swept le less fault unfinished left = left_refused f g d e swept le less left
 
 -- calls that were refused later were refused
 pub refused_later : (f g h d e k : ℕ) → f ≤ g → d ≤ e → (n : ℕ) → WereRefused n g h e k → WereRefused n f h d k

@@ -186,10 +186,19 @@ HasCause faults_old faults_new denied_old denied_new input_old input_new (Refuse
 HasCause faults_old faults_new denied_old denied_new input_old input_new (Answered command answer) = AnswerHasCause faults_old faults_new denied_old denied_new answer.outcome
 HasCause faults_old faults_new denied_old denied_new input_old input_new (Recovered r) = RecoveredHasCause faults_old faults_new denied_old denied_new r.outcome
 
--- As many calls on the files were refused as a writer's answer tells of, and one where recovering left files over.
+-- One call was refused where recovering could not read, where it broke off, and where it left files over.
+abbrev pub refusals_of_recovered : RecoverAnswer → Bool → ℕ
+refusals_of_recovered recoveries.Fault swept = 1
+refusals_of_recovered recoveries.Unfinished swept = 1
+refusals_of_recovered recoveries.Restored swept = refusals_of_left swept
+refusals_of_recovered recoveries.NothingToDo swept = refusals_of_left swept
+refusals_of_recovered (recoveries.Damaged damage) swept = refusals_of_left swept
+refusals_of_recovered recoveries.Memory swept = refusals_of_left swept
+
+-- As many calls on the files were refused as a writer's answer tells of, or as what recovering came to.
 abbrev pub LeftHasCause : (ℕ → Type 0) → Bool → Ended → Type 0
 LeftHasCause AreRefused told (Answered command answer) = AreRefused (refusals_of told answer)
-LeftHasCause AreRefused told (Recovered r) = AreRefused (refusals_of_left r.swept)
+LeftHasCause AreRefused told (Recovered r) = AreRefused (refusals_of_recovered r.outcome r.swept)
 LeftHasCause AreRefused told ended = ⊤
 
 -- a run that does a job says what it came to

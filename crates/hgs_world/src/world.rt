@@ -345,6 +345,7 @@ impl World {
     pub fn step(&mut self, event: Event) -> Seen
         requires { CanCome (length self.old.readers.items) event }
         ensures seen { IsSeen event (scene_of self.old) (scene_of self.new) result }
+        ensures stays { self.old.spent ≡ true → self.new ≡ self.old }
         ensures readers { length self.new.readers.items ≡ length self.old.readers.items }
     {
         if self.spent {

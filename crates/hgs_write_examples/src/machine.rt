@@ -81,6 +81,29 @@ fn stands_so(alloc: Global, files: &mut MemFiles, ended: Ended) -> Result<bool, 
     }
 }
 
+/// What is removed at the end of a transaction.
+const LEFTOVERS: [&[u8]; 5] = [
+    b"store/journal.backupfiles",
+    b"journal.backup.bookmarks",
+    b"journal.new.bookmarks",
+    b"store/lock",
+    b"wlock",
+];
+
+/// Whether no more than one of them stands.
+fn is_one_left(alloc: Global, files: &mut MemFiles) -> Result<bool, Fail> {
+    let mut found = false;
+    for path in LEFTOVERS {
+        if is_there(alloc, files, path)? {
+            if found {
+                return Ok(false);
+            }
+            found = true;
+        }
+    }
+    Ok(true)
+}
+
 /// The ends where each call fails in turn, in letters: taken back, unfinished behind the publishing operation, and done with
 /// something left.
 #[test]
@@ -93,6 +116,8 @@ fn each_call_fails_in_turn(rt: HostRuntime) -> Result<(), Fail> {
         let ended = carry_out(&mut files, plan_of(alloc)?);
         let mut left = files.restart();
         assert!(rt; stands_so(alloc, &mut left, ended)?);
+        let is_finished = !matches!(ended.outcome, Short::Unfinished(_));
+        assert!(rt; !is_finished || is_one_left(alloc, &mut left)?);
         ends.push(match ended.outcome {
             Short::Fault => b'f',
             Short::Unfinished(_) => b'u',

@@ -141,6 +141,40 @@ fn each_call_fails_in_turn(rt: HostRuntime) -> Result<(), Fail> {
     Ok(())
 }
 
+/// What is removed at the end of a recovery.
+const LEFTOVERS: [&[u8]; 4] = [
+    b"store/journal.backupfiles",
+    b"journal.backup.dirstate",
+    b"store/lock",
+    b"wlock",
+];
+
+/// Whether no more than one of them stands.
+fn is_one_left(alloc: Global, files: &mut MemFiles) -> Result<bool, Fail> {
+    let mut found = false;
+    for path in LEFTOVERS {
+        if !has(alloc, files, path, None)? {
+            if found {
+                return Ok(false);
+            }
+            found = true;
+        }
+    }
+    Ok(true)
+}
+
+#[test]
+fn what_cannot_be_removed_keeps_no_other(rt: HostRuntime) -> Result<(), Fail> {
+    let alloc = rt.alloc();
+    for call in 13..25 {
+        let mut files = open(alloc)?;
+        files.fail(call, 1)?;
+        recover(alloc, &mut files);
+        assert!(rt; is_one_left(alloc, &mut files.restart())?);
+    }
+    Ok(())
+}
+
 #[test]
 fn each_call_stops_in_turn(rt: HostRuntime) -> Result<(), Fail> {
     let alloc = rt.alloc();

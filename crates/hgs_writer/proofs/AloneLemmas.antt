@@ -173,7 +173,7 @@ module _ (laws : Below) where
   not-planned-answered : (u : Tree) (r : Repo) (command : Command) (fault : CommitFault) (v : Tree) → IsFit command → Stands u r → IsNotPlannedFor command u fault → Stands v r → IsAnswered r (step r command) (outcome_of_commit fault) v
   not-planned-answered u r command _ v fit s (is_unread e m) after = read-answered r (step r command) e v after
   not-planned-answered u r command _ v fit s has_no_memory after = after
-  not-planned-answered u r command _ v fit s (is_refused l fault is comes) after = by fault comes
+  not-planned-answered u r command _ v fit s (is_refused read l fault was from is comes) after = by fault comes
     where
       by : (f : CommitFault) → ComesTo u l command (Err f) → IsAnswered r (step r command) (outcome_of_commit f) v
       by (commits.Unread e) c = read-answered r (step r command) e v after

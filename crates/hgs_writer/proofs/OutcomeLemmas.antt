@@ -168,7 +168,7 @@ module _ (laws : Below) (files : FilesLaw) (reads_of : (t : Tree) (r : Repo) →
   not-planned-outcome : (u : Tree) (r : Repo) (command : Command) (fault : CommitFault) (read : Read) → ReadsWithin u r command → Stands u r → loaded_in u ≡ Ok read → IsNotPlannedFor command u fault → IsOutcomeOf u r command (step r command) (outcome_of_commit fault)
   not-planned-outcome u r command _ read reads_within s is (is_unread e m) = read-outcome r command u read (step r command) e is m
   not-planned-outcome u r command _ read reads_within s is has_no_memory = tt
-  not-planned-outcome u r command _ read reads_within s is (is_refused l fault loaded comes) = fault-comes u r l command fault reads_within s loaded comes
+  not-planned-outcome u r command _ read reads_within s is (is_refused other l fault was from loaded comes) = fault-comes u r l command fault reads_within s loaded comes
 
   pub outcome-of : (t : Tree) (r : Repo) (command : Command) (who : List ℕ) (answer : Answer) (done : List Op) → Stands t r → LoadsWithin t r → ReadsWithin t r command → IsWritten who command t answer done → IsOutcomeOf t r command (step r command) answer.outcome
   outcome-of t r command who answer done s within reads_within (is_turned_away why turned outcome) =

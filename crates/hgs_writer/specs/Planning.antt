@@ -49,9 +49,13 @@ ComesTo t l (Move rev phase force) result = GivesStep result (planned l (move_of
 ComesTo t l (Mark name rev) result = GivesStep result (planned l (mark_of l name rev))
 ComesTo t l (Unmark name) result = GivesStep result (planned l (unmark_of l name))
 
--- The plan is put together of the parts of the command's step, by what was loaded of the tree.
+-- The plan is put together of the parts of the command's step, by what was loaded of the tree: all that is read before is read, and
+-- nothing of it refused.
 pub record IsPlannedFor (command : Command) (t : Tree) (p : Planned) : Type 0 where
+  pub read : Read
+  pub is_read : loaded_in t ≡ Ok read
   pub loaded : Loaded
+  pub is_loaded_from : IsLoadedFrom read loaded
   pub is_loaded : IsLoadedOf t loaded
   pub step : Step
   pub comes : ComesTo t loaded command (Ok step)
@@ -59,10 +63,10 @@ pub record IsPlannedFor (command : Command) (t : Tree) (p : Planned) : Type 0 wh
   pub rev : p.rev ≡ step.rev
   pub node : p.node ≡ step.node
 
--- Nothing is planned: what is read before is refused, or the command is by what was loaded, or there is no memory.
+-- Nothing is planned: what is read before is refused, or it is not and the command is by what was loaded, or there is no memory.
 pub data IsNotPlannedFor (command : Command) (t : Tree) : CommitFault → Type 0 where
   is_unread : (e : ReadAnswer) → MatchBool (is_of_outside e) ⊤ (loaded_in t ≡ Err e) → IsNotPlannedFor command t (Unread e)
-  is_refused : (l : Loaded) (fault : CommitFault) → IsLoadedOf t l → ComesTo t l command (Err fault) → IsNotPlannedFor command t fault
+  is_refused : (read : Read) (l : Loaded) (fault : CommitFault) → loaded_in t ≡ Ok read → IsLoadedFrom read l → IsLoadedOf t l → ComesTo t l command (Err fault) → IsNotPlannedFor command t fault
   has_no_memory : IsNotPlannedFor command t (Refused Memory)
 
 -- what a command is planned to

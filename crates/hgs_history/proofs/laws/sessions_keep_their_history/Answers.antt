@@ -23,8 +23,8 @@ returns c = λ x r calls last states result makes is stands first shares needs.
           (subst (λ u. ArePublished x.jobs (published_of calls) u h.last.published) (sym is.unsure) found.4);
       once = c.sessions_do_each_job_once.ensures.once x calls last states result is;
       listed = c.sessions_do_each_job_once.ensures.listed x calls last makes first;
-      behind = λ front back e. let f = found.5 front back e in (f.0, f.2, f.3);
-      made = λ front back call e. let f = found.6 front back call e in (f.0, f.2, f.3);
+      behind = found.5;
+      made = found.6;
       asked = λ opens reads.
           none-falls h x calls first (λ p v fresh. c.fresh_workers_know_nothing.ensures h x p v found.1 first fresh)
           (λ worker p v answers now seen knows is_seen on does. c.workers_never_fall_back.ensures h x worker calls p v answers now seen opens reads knows is_seen on does)

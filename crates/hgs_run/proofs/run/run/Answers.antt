@@ -2,8 +2,11 @@ use Rattle.std.proofs.Common.{map, sym, ◌∙◌}
 use Rattle.std.specs.String.{string_bytes}
 use Rattle.hgs_machine.specs.Refusals.{WereRefused}
 use Rattle.hgs_top.specs.Words.{request_of_words}
-use Rattle.hgs_run.proofs.Asked.{asked_gives, asked_input, asked_keeps_yard, asked_makes_none, asked_obeys, asked_of_repository, asked_plays, asked_reads, asked_says, asked_starts, if_whole, if_whole_map, others_ask_none, others_keep_start, others_keep_yard}
+use Rattle.hgs_run.proofs.Asked.{asked_for, asked_gives, asked_input, asked_keeps_yard, asked_makes_none, asked_obeys, asked_of_repository, asked_plays, asked_reads, asked_says, asked_starts, if_whole, if_whole_map, others_ask_none, others_keep_start, others_keep_yard}
 use Rattle.hgs_run.proofs.run.run.Goals as goal
+
+pub run_session-requires-clause-allows : goal.run_session-requires-clause-allows
+run_session-requires-clause-allows g c κs within = c.requires.allows (asked_for (request_of_words (map string_bytes c.args.words.now)) (sym c.asks_session.ensures ∙ c.if-asks_session.true))
 
 pub returns-then-asks_session-clause-history : goal.returns-then-asks_session-clause-history
 returns-then-asks_session-clause-history g c =

@@ -15,7 +15,7 @@ pub run_script-requires-clause-allows : goal.run_script-requires-clause-allows
 run_script-requires-clause-allows g c κs within =
     let t = c.test-yard in
     let workers = c.in-Ok.script.workers in
-    let takes = c.requires.allows c.in-Ok.script c.in-Ok.ensures.can in
+    let takes = c.requires.allows c.in-Ok.script c.in-Ok.ensures.can c.in-Ok.ensures.script in
     subst (λ l. MayRun workers l (g.Y.A.Reads.start (g.Y.Yard.files t.result.0)) g.Y.W.Files.allows) (sym t.ensures.stays.0)
     (subst (λ s. MayRun workers (g.Y.A.Files.log (g.Y.Yard.files c.args.yard)) s g.Y.W.Files.allows) (sym t.ensures.stays.1) takes)
 

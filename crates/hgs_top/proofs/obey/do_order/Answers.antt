@@ -6,7 +6,7 @@ use Rattle.hgs_top.specs.Orders.{ComesTo}
 use Rattle.hgs_top.specs.Words.{do_mark, do_move, do_unmark, job_of}
 use Rattle.hgs_top.specs.declared.ended.Ended.TheVariants.{Recovered}
 use Rattle.hgs_top.specs.declared.orders.Order.{Order}
-use Rattle.hgs_top.proofs.LeftLemmas.{left_none, left_refused}
+use Rattle.hgs_top.proofs.LeftLemmas.{left_none, recovered_refused}
 use Rattle.hgs_top.proofs.obey.do_order.Goals as goal
 
 pub returns-in-Init-clause-comes : goal.returns-in-Init-clause-comes
@@ -62,4 +62,5 @@ returns-in-Recover-clause-cause g c = record { fault = c.recover.ensures.fault; 
 
 pub returns-in-Recover-clause-left : goal.returns-in-Recover-clause-left
 returns-in-Recover-clause-left g c =
-    left_refused (g.F.Reads.faults c.args.files.now) (g.F.Reads.faults c.recover.new.files) (g.F.Reads.denied c.args.files.now) (g.F.Reads.denied c.recover.new.files) c.recover.result.swept c.recover.ensures.counts.faults c.recover.ensures.counts.denied c.recover.ensures.swept
+    recovered_refused (g.F.Reads.faults c.args.files.now) (g.F.Reads.faults c.recover.new.files) (g.F.Reads.denied c.args.files.now) (g.F.Reads.denied c.recover.new.files) c.recover.result.outcome c.recover.result.swept
+    c.recover.ensures.counts.faults c.recover.ensures.counts.denied c.recover.ensures.fault c.recover.ensures.unfinished c.recover.ensures.swept
