@@ -7,20 +7,21 @@ _hg_store_words() {
         printf '%s\n' log heads files cat bookmarks parents phase init commit bookmark verify gen recover play session --help --version
         return
     fi
-    [[ $command = phase && ${COMP_WORDS[2]} = --force ]] && place=$((place - 1)) && [ "$place" = 1 ] && return
+    [[ $command = phase && ${COMP_WORDS[2]} = --force && $place -gt 2 ]] && place=$((place - 1))
+    [[ $command = bookmark && ${COMP_WORDS[2]} = --delete && $place -gt 2 ]] && command=delete place=$((place - 1))
     case $command.$place in
     files.2 | cat.2 | phase.2 | bookmark.3)
         printf '%s\n' tip .
-        [ "$command" = phase ] && echo --force
-        "${COMP_WORDS[0]}" bookmarks 2>/dev/null | cut -f 1
+        [ "$command.$COMP_CWORD" = phase.2 ] && echo --force
+        HG_STORE_BUILD=no "${COMP_WORDS[0]}" bookmarks 2>/dev/null | cut -f 1
         ;;
     phase.3) printf '%s\n' public draft secret ;;
-    bookmark.2)
-        echo --delete
-        "${COMP_WORDS[0]}" bookmarks 2>/dev/null | cut -f 1
+    bookmark.2 | delete.2)
+        [ "$COMP_CWORD" = 2 ] && echo --delete
+        HG_STORE_BUILD=no "${COMP_WORDS[0]}" bookmarks 2>/dev/null | cut -f 1
         ;;
     verify.2) echo --jobs ;;
-    cat.3) "${COMP_WORDS[0]}" files "${COMP_WORDS[2]}" 2>/dev/null | cut -d ' ' -f 3- ;;
+    cat.3) HG_STORE_BUILD=no "${COMP_WORDS[0]}" files "${COMP_WORDS[2]}" 2>/dev/null | cut -d ' ' -f 3- ;;
     esac
 }
 

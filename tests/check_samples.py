@@ -124,7 +124,9 @@ def in_form(path, data):
 
 def differences(text, made):
     shape = r'file \(codes "([^"]*)"\) \(codes "([0-9a-f]*)"\)'
-    return [path for path, digits in re.findall(shape, text) if in_form(path, made.get(path)) != in_form(path, bytes.fromhex(digits))]
+    found = re.findall(shape, text)
+    assert found and len(found) == text.count("file (codes"), "not all samples have the layout that is read here"
+    return [path for path, digits in found if in_form(path, made.get(path)) != in_form(path, bytes.fromhex(digits))]
 
 
 def samples(crate):

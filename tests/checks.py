@@ -10,7 +10,11 @@ class Checks:
     """Counts what holds, and shows what does not."""
 
     def __init__(self):
-        self.passed = self.failed = 0
+        self.passed = self.failed = self.skipped = 0
+
+    def __str__(self):
+        skipped = f", {self.skipped} skipped" if self.skipped else ""
+        return f"{self.passed} passed, {self.failed} failed{skipped}"
 
     def check(self, what, holds):
         if holds:

@@ -163,7 +163,9 @@ def damage_one(world, base, name, questions, command, choice):
     world.lay(world.bases[base])
     path = os.path.join(world.folder, ".hg", name)
     with open(path, "rb") as file:
-        data = damaged(file.read(), choice)
+        found = data = file.read()
+    while data == found:
+        data = damaged(found, choice)
     if data is None:
         os.remove(path)
     else:

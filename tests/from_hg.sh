@@ -9,7 +9,7 @@ here=$(cd "$(dirname "$0")" && pwd)
 with_hg || { echo "0 passed, 0 failed, 1 skipped"; exit 0; }
 "$here/../bin/hg_store" --build >/dev/null || exit 1
 
-work=$(mktemp -d)
+work=$(mktemp -d) || exit 1
 trap 'rm -rf "$work"' EXIT
 . "$here/check.sh"
 
@@ -92,6 +92,11 @@ check "other manifests" refused "its requirement treemanifest" trees new
 echo text >stock/file && hg --repository stock commit --quiet --addremove --message x --user "$(printf '\351')" --encoding latin-1
 check "a user in another encoding is laid" "$here/../bin/from_hg" stock latin
 rm -rf latin
+hg init marked && (cd marked && echo a >a && hg commit -qAm a && hg bookmark märz) || exit 1
+check "a bookmark beyond ASCII is laid where that is what is read" env HGENCODING=ascii "$here/../bin/from_hg" marked spring
+check "with its bytes" grep -q ' märz$' spring/.hg/bookmarks
+: >marked/.hg/store/data/a.i
+check "a filelog without its revisions" refused "a lacks a revision that a manifest names" marked new
 head -c 16777217 /dev/zero >stock/large && hg --repository stock commit --quiet --addremove --message large --user x 2>/dev/null
 check "a body above the limit" refused "has more than 16777216 bytes" stock new
 

@@ -59,6 +59,8 @@ def makes(program, checks, seed, count):
         if shutil.which("hg"):
             checks.check(f"hg verify of {seed} {count}", hg(folder, "verify", "--quiet") == b"")
             checks.check(f"hg log of {seed} {count}", hg(folder, "log", "-r", "tip", "-T", "{rev} {node}") == b"%d %s" % (count - 1, tip.encode()))
+        else:
+            checks.skipped += 2
 
 
 # Words that do not fit, and the place of the first such.
@@ -81,7 +83,7 @@ def main():
         with tempfile.TemporaryDirectory() as folder:
             said = ask(program, folder, *words)
             checks.check(f"{words}: {said}", said == (b"abort: bad word %d\n" % place, 28))
-    print(f"{checks.passed} passed, {checks.failed} failed")
+    print(checks)
     sys.exit(checks.failed > 0 or checks.passed == 0)
 
 

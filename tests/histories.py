@@ -39,6 +39,8 @@ class Histories(Checks):
         super().__init__()
         self.program, self.folder, self.random = program, folder, random.Random(seed)
         self.store, self.bodies, self.met = Store(), [], collections.Counter()
+        # the words that this repository requires
+        self.base = REQUIRES + self.random.choice([b"", b"generaldelta\n"])
 
     def run(self, words, given=b""):
         ended = subprocess.run([self.program, *words], input=given, stdout=subprocess.PIPE, stderr=subprocess.DEVNULL, cwd=self.folder, check=False)
@@ -149,15 +151,16 @@ class Histories(Checks):
             self.answer(words, b"", lambda: self.store.move(name, phase, force))
 
     def obstacle(self):
-        """Something stands in the way of all that writes: it is refused, changes nothing, and is done once that is gone."""
+        """Something stands in the way of all that writes, or two things: it is refused, changes nothing, and is done once that is gone."""
         store, choice = self.store, self.random.choice([0, 1, 2, 3, 4, 5] if self.store.trees else [0, 1, 2, 4, 5])
-        if choice == 0:
-            store.locks = {self.random.choice(["wlock", "store/lock"]): self.random.choice([b"me", b"box:77", b"a b"])}
-        elif choice == 1:
-            store.requires = REQUIRES + b"treemanifest\n"
+        if choice == 0 or self.random.random() < 0.3:
+            store.locks = {lock: self.random.choice([b"me", b"box:77", b"a b"]) for lock in self.random.choice([["wlock"], ["store/lock"], ["wlock", "store/lock"]])}
+        if choice == 1 or choice == 3 and self.random.random() < 0.2:
+            words = self.base
+            store.requires = self.random.choice([words + b"treemanifest\n", b"revlogv2\n" + words, words.replace(b"store\n", b""), b"exp\n" + words.replace(b"fncache\n", b"")])
         elif choice == 2:
             store.requires = None
-        elif choice == 3:
+        if choice == 3:
             store.tail = b"\xff" * self.random.randrange(1, 64)
         elif choice == 4:
             store.is_open = True
@@ -172,19 +175,19 @@ class Histories(Checks):
         if store.is_open:
             self.check("recover", self.run(["recover"]) == (0, b"transaction undone\n"))
             self.check("what is undone is as before", bytes_of(self.folder) == before)
-        store.locks, store.requires, store.tail, store.is_open = {}, REQUIRES, b"", False
+        store.locks, store.requires, store.tail, store.is_open = {}, self.base, b"", False
         self.lay(self.store.files())
 
     def small_or_commit_refused(self, choice):
         if choice != 5:
-            self.random.choice([lambda: self.small("mark"), lambda: self.small("unmark"), lambda: self.small("move"), lambda: self.commit(self.some_record())])()
+            self.random.choice([lambda: self.small("mark"), lambda: self.small("unmark"), lambda: self.small("move"), lambda: self.commit(self.some_record()), lambda: self.commit(self.damaged(self.some_record()))])()
 
     def stray(self):
-        """A file stands at a name of a new path."""
-        path = self.random.choice([b"new_%d", b"src/New%d", b"aux/%d"]) % self.random.randrange(10**6)
-        self.store.strays = {store_name(path, self.random.choice([b".i", b".i", b".d"])): b"of another"}
+        """Files stand at names of new paths."""
+        paths = [self.random.choice([b"new_%d", b"src/New%d", b"aux/%d"]) % self.random.randrange(10**6) for _ in range(self.random.choice([1, 1, 2]))]
+        self.store.strays = {store_name(path, ext): b"of another" for path in paths for ext in self.random.choice([[b".i"], [b".d"], [b".i", b".d"]])}
         self.lay(self.store.files())
-        self.commit(self.some_record({path: ("-", b"y" * self.random.choice([1, 4096, 4097]))}.items()))
+        self.commit(self.some_record({path: ("-", b"y" * self.random.choice([1, 4096, 4097])) for path in paths}.items()))
         self.store.strays = {}
         self.lay(self.store.files())
 
@@ -248,6 +251,9 @@ class Histories(Checks):
 
     def look_by_mercurial(self):
         """`hg verify`, over a copy, since it writes caches."""
+        if not shutil.which("hg"):
+            self.skipped += 1
+            return
         with tempfile.TemporaryDirectory() as copy:
             shutil.copytree(os.path.join(self.folder, ".hg"), os.path.join(copy, ".hg"))
             env = dict(os.environ, HGRCPATH="/dev/null", HGPLAIN="1")
@@ -275,11 +281,13 @@ def open_transaction(files, choice):
 
 def try_history(histories, commands):
     histories.check("init", histories.run(["init"]) == (0, b""))
+    histories.store.requires = histories.base
+    histories.lay(histories.store.files())
     for count in range(commands):
         histories.step()
         if count % 20 == 19 and not histories.failed:
             histories.look()
-        if count % 200 == 199 and shutil.which("hg"):
+        if count % 200 == 199:
             histories.look_by_mercurial()
         if histories.failed:
             break
@@ -294,13 +302,13 @@ def main():
         with tempfile.TemporaryDirectory() as folder:
             histories = Histories(program, folder, seed * 1000 + number)
             try_history(histories, length)
-            sums.passed, sums.failed = sums.passed + histories.passed, sums.failed + histories.failed
+            sums.passed, sums.failed, sums.skipped = sums.passed + histories.passed, sums.failed + histories.failed, sums.skipped + histories.skipped
             met += histories.met
             print(f"{length} commands, {len(histories.store.trees)} changesets, {len(histories.store.filelogs)} filelogs")
     print("statuses:", ", ".join(f"{status} {count} times" for status, count in sorted(met.items())))
     if commands >= 2000:
         sums.check(f"statuses that did not come: {sorted(MET - met.keys())}", MET <= met.keys())
-    print(f"{sums.passed} passed, {sums.failed} failed")
+    print(sums)
     sys.exit(sums.failed > 0)
 
 

@@ -151,7 +151,8 @@ class Store:
     def begin(self):
         if self.requires is None:
             raise Refused(24, "abort: not a repository")
-        other = [word for word in self.requires.decode().split() if word not in REQUIRES.decode().split()]
+        words, needed = self.requires.decode().split(), REQUIRES.decode().split()
+        other = [word for word in words if word not in (*needed, "generaldelta")] + [word for word in needed if word not in words]
         if other:
             raise Refused(27, f"abort: requirement {other[0]}")
         for name in ("wlock", "store/lock"):

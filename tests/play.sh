@@ -1,11 +1,11 @@
 #!/usr/bin/env bash
 # Plays each schedule in tests/play and compares what is written with the answer beside it, which was written by hand from
-# docs/PLAY.md; then schedules that are none, each with the place of its fault; then a long one, against the clock.
+# docs/PLAY.md; then schedules that are none, each with the place of its fault; then a long one, whose time is shown.
 set -u
 cd "$(dirname "$0")/.." || exit 1
 program=$(bin/hg_store --build) || exit 1
 program=$(readlink -f "$program")
-folder=$(mktemp -d)
+folder=$(mktemp -d) || exit 1
 trap 'rm -rf "$folder"' EXIT
 passed=0 failed=0
 

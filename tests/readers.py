@@ -60,10 +60,14 @@ class Reader(threading.Thread):
     def __init__(self, yard, number):
         super().__init__()
         self.yard, self.random = yard, random.Random(number)
-        self.asked, self.refused = [], []
+        self.asked, self.refused, self.whole = [], [], False
         self.ended = threading.Event()
 
     def run(self):
+        self.ask_until_told()
+        self.whole = True
+
+    def ask_until_told(self):
         while not self.ended.is_set():
             name = self.random.choice(QUESTIONS)
             if name in ("files", "cat"):
@@ -98,10 +102,14 @@ class Reader(threading.Thread):
 class MercurialReader(threading.Thread):
     def __init__(self, folder):
         super().__init__()
-        self.folder, self.logs, self.refused = folder, [], []
+        self.folder, self.logs, self.refused, self.whole = folder, [], [], False
         self.ended = threading.Event()
 
     def run(self):
+        self.ask_until_told()
+        self.whole = True
+
+    def ask_until_told(self):
         env = dict(os.environ, HGRCPATH="/dev/null", HGPLAIN="1")
         while not self.ended.is_set():
             ended = subprocess.run(["hg", "log", "-T", "{rev} {node}\n"], cwd=self.folder, env=env, capture_output=True, check=False)
@@ -195,12 +203,14 @@ def play_round(checks, yard, number, seconds, generator):
     checks.check("its marks are as before", after["bookmarks"] == before["bookmarks"])
     for reader in readers:
         faults = faults_of(reader, yard.states[:seen], start)
+        checks.check("a reader asked until it was told to end", reader.whole and reader.asked)
         checks.check(f"no answer is refused: {reader.refused[:2]}", not reader.refused)
         checks.check(f"each answer is of some transaction, none goes back: {faults[:2]}", not faults)
         checks.answers += len(reader.asked)
     published = yard.states[seen - 1]["log"]
     nodes = [line.split(b"\t")[1] for line in reversed(published.splitlines())]
     for other in others:
+        checks.check("Mercurial read until it was told to end", other.whole and other.logs)
         checks.check(f"Mercurial is not refused: {other.refused[:1]}", not other.refused)
         wrong = [log for log in other.logs if [line.split()[1] for line in reversed(log.splitlines())] != nodes[: log.count(b"\n")]]
         checks.check("Mercurial reads the same history", not wrong)

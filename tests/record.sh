@@ -7,7 +7,7 @@ here=$(cd "$(dirname "$0")" && pwd)
 "$here/../bin/hg_store" --build >/dev/null || exit 1
 PATH=$(cd "$here/../bin" && pwd):$PATH
 
-work=$(mktemp -d)
+work=$(mktemp -d) || exit 1
 trap 'rm -rf "$work"' EXIT
 cd "$work" || exit 1
 . "$here/check.sh"
@@ -52,14 +52,27 @@ check "a pipe" refused "pipe is neither a file nor a symbolic link" record -m m 
 rm bad/pipe && printf x >"bad/$(printf 'a\nb')"
 check "a line break" refused "has a line break" record -m m bad
 rm -r bad && mkdir -p bad/sub/.hg && printf x >bad/sub/.hg/x
-check "a store within" refused "lies in a folder .hg" record -m m bad
+check "a store within" refused "has a part .hg" record -m m bad
+rm -r bad && mkdir -p bad/.HG && printf x >bad/.HG/x
+check "a store in capitals" refused "has a part .hg" record -m m bad
 rm -r bad && mkdir bad && truncate -s 16777217 bad/large
 check "a body that is too large" refused "has more than 16777216 bytes" record -m m bad
 check "no folder" refused "missing is no folder" record -m m missing
+check "a user that is not UTF-8" refused "a user that is not UTF-8" record -m m -u "$(printf '\377')" tree
+check "a bookmark without a name" refused "a bookmark has a name" record -m m --bookmark "" tree
+rm -r bad && mkdir bad && for number in {1..16}; do truncate -s 16777216 "bad/$number"; done
+check "a record that is too long" refused "the record of all files would have more than 268435456 bytes" record -m m bad
 check "a date that is none" refused "a date is" record -m m -d yesterday tree
 check "a folder that stands" refused "tree: File exists" checkout tip tree
 check "a name that names nothing" refused "abort: unknown revision" checkout nothing new
 check "which makes no folder" [ ! -e new ]
+laying() { python3 -c 'import runpy, sys; runpy.run_path(sys.argv[1])["check"]([path.encode() for path in sys.argv[2:]])' "$here/../bin/checkout" "$@"; }
+check "a file below a link or a file" refused "a/b lies below a file" laying a a-b a/b
+check "a file outside" refused "../b cannot stand in a folder" laying a ../b
+mkdir odd && printf x >"odd/$(printf 'caf\351')"
+check "a path that is not UTF-8 is committed" commit_folder --parent null odd
+check "and cannot be laid" refused "is not UTF-8" checkout tip new
+check "which makes no folder either" [ ! -e new ]
 
 # A commit of ordinary size, into a repository of its own.
 mkdir -p usual/files/src && cd usual && hg_store init || exit 1
@@ -70,6 +83,9 @@ check "a commit of ordinary size" usual
 check "nothing is wrong with it" [ "$(hg_store verify --jobs 4)" = "checked 1 changesets, 300 filelogs, 0 findings" ]
 check "it is the one head" [ "$(hg_store heads | wc -l)" = 1 ]
 check "and the one parent" [ "$(hg_store parents | wc -l)" = 1 ]
+rm .hg/store/data/src/f99.i
+check "a file of it cannot be read" refused "abort: damaged store/data/src/f99.i" checkout main half
+check "which leaves nothing behind" [ "$(echo half*)" = 'half*' ]
 cd ..
 
 # The example of README.md: the commands behind '$ ', and what they write.

@@ -72,10 +72,11 @@ class Replay:
     """The second implementation, and what each question is answered after each of its jobs."""
 
     def __init__(self):
-        self.store, self.bodies = Store(), []
+        self.store, self.bodies, self.marks_before = Store(), [], {}
 
     def do(self, job):
         """Does a job that writes: its status and text."""
+        self.marks_before = dict(self.store.marks)
         word, _, rest = job.rstrip(b"\n").partition(b" ") if not job.startswith(b"commit\n") else (b"commit", b"", b"")
         rest = rest.decode("utf-8", "surrogateescape")
         names = rest.split(" ", 1)
@@ -95,9 +96,15 @@ class Replay:
             return refused.status, refused.line.encode() + b"\n"
         return 0, said.encode() + b"\n"
 
-    def kept(self):
-        """What it is now, for a job to be tried on it."""
-        return pickle.dumps(self)
+    def made_by(self, job, said):
+        """The number of the changeset that a job which was just done made or named; of a bookmark that went, the one that it had."""
+        word = job.split(b"\n")[0].split(b" ")[0]
+        if word == b"unbookmark":
+            return self.marks_before[job.rstrip(b"\n").split(b" ", 1)[1].decode()]
+        return int({b"commit": said.split(b":")[0], b"phase": said.split(b" ")[0], b"bookmark": said.rsplit(b" ", 1)[-1]}[word])
+
+    def copy(self):
+        return pickle.loads(pickle.dumps(self))
 
     def ask(self, job):
         """What a question is answered now."""
@@ -119,6 +126,32 @@ class Replay:
 def writes(job):
     words = job.rstrip(b"\n").split(b" ")
     return words[0].split(b"\n")[0] in (b"commit", b"bookmark", b"unbookmark") or (words[0] == b"phase" and len(words) > 2)
+
+
+# A view is of four places in the list of jobs, which ascend: b of its bookmarks, w of its working parents, c of its changesets, and p of
+# their phases.
+def views(job, states, least):
+    """What the views from these places on may answer, each with those of its places on which that rests."""
+    word, *rest = job.rstrip(b"\n").split(b" ", 2)
+    name = rest[0].decode() if rest else ""
+    kind = {b"bookmarks": "b", b"parents": "w"}.get(word, "c")
+    if name == ".":
+        kind = "w"
+    elif name and not name.isdecimal() and name not in ("tip", "null"):
+        kind = "b"
+    for place in range(least[kind], len(states)):
+        rev = states[place].store.named(name) if name else None
+        if word != b"phase" or rev is None:
+            yield states[place].ask(job), {kind: place}
+            continue
+        for later in range(max(place, least["p"]), len(states)):
+            yield (0, PHASES[states[later].store.phases[rev]].encode() + b"\n"), {kind: place, "p": later}
+
+
+def raise_to(least, kind, place):
+    """No later view has this number, or one of those behind it, below the place."""
+    for behind in "bwcp"["bwcp".index(kind) :]:
+        least[behind] = max(least[behind], place)
 
 
 class Sessions(Checks):
@@ -153,31 +186,31 @@ class Sessions(Checks):
         self.check(f"{what}: verify", self.run(["verify"])[0] == 0)
 
     def replayed(self, what, replay, workers, published, replies):
-        """Does the published jobs one after another. What each question of the script would be answered, before and after each, and
-        what the repository is then."""
-        questions = {job for jobs in workers for job in jobs if not writes(job)}
-        states = [({job: replay.ask(job) for job in questions}, replay.kept())]
+        """Does the published jobs one after another. What the repository is before and after each."""
+        states = [replay.copy()]
         for worker, job, rev, node in published:
             said = replay.do(workers[worker][job])
             self.check(f"{what}: {worker} {job}: not {said}", replies[worker][job] == said)
-            self.check(f"{what}: {worker} {job}: {rev} is another", replay.store.changelog.nodes[rev].hex().encode() == node)
-            states.append(({job: replay.ask(job) for job in questions}, replay.kept()))
+            is_this = said[0] == 0 and rev == replay.made_by(workers[worker][job], said[1])
+            self.check(f"{what}: {worker} {job}: {rev} is another", is_this and replay.store.changelog.nodes[rev].hex().encode() == node)
+            states.append(replay.copy())
         return states
 
     def judge(self, what, jobs, answers, own, states):
-        """Each question was answered of a state that is not before the last one, nor before the worker's own jobs; and each job that
-        was refused is refused so by one that is not before these."""
-        least, behind, done = 0, 0, iter(own)
+        """Each question was answered of a view none of whose numbers is below those of the one before, nor before the worker's own jobs;
+        and each job that was refused is refused so by the repository at some place that is not before these."""
+        least, behind, done = dict.fromkeys("bwcp", 0), 0, iter(own)
         for job, (status, text) in zip(jobs, answers):
             if not writes(job):
-                fits = [place for place in range(least, len(states)) if states[place][0][job] == (status, text)]
-                self.check(f"{what}: {job[:60]}: {status} is of no state from {least} on", bool(fits))
-                least = fits[0] if fits else least
+                fits = [numbers for said, numbers in views(job, states, least) if said == (status, text)]
+                self.check(f"{what}: {job[:60]}: {status} is of no view from {least} on", bool(fits))
+                for kind in {kind for numbers in fits for kind in numbers}:
+                    raise_to(least, kind, min(numbers[kind] for numbers in fits))
             elif status == 0:
                 behind = next(done, len(states)) + 1
-                least = max(least, behind)
+                raise_to(least, "b", behind)
             else:
-                fits = any(pickle.loads(kept).do(job) == (status, text) for _, kept in states[behind:])
+                fits = any(state.copy().do(job) == (status, text) for state in states[behind:])
                 self.check(f"{what}: {job[:60]}: {status} is of no state from {behind} on", status in (12, 13, 26) and fits)
         self.check(f"{what}: a job is listed twice, or is not", next(done, None) is None)
 
@@ -277,6 +310,8 @@ class Sessions(Checks):
         if shutil.which("hg"):
             told = subprocess.run(["hg", "verify", "-q"], stdout=subprocess.PIPE, stderr=subprocess.STDOUT, cwd=self.folder, check=False)
             self.check(f"hg verify: {told.stdout}", (told.returncode, told.stdout) == (0, b""))
+        else:
+            self.skipped += 1
 
 
 def main():
@@ -291,7 +326,7 @@ def main():
         sessions.mercurial()
         sessions.random_scripts()
         sessions.mercurial()
-    print(f"{sessions.passed} passed, {sessions.failed} failed")
+    print(sessions)
     return 1 if sessions.failed else 0
 
 

@@ -127,7 +127,7 @@ def try_command(checks, world, base, words, given, opened):
             ended = world.run(words, given, ["-e", f"inject={name}:error={error}:when={number}"])
             what = f"{words}, {error} at {name} {number}"
             # a program that cannot be loaded says so with 127
-            checks.check(f"{what}: status {ended.returncode}", ended.returncode in (0, 16, 17, 19, 24, 127))
+            checks.check(f"{what}: status {ended.returncode}", ended.returncode in (0, 16, 17, 19, 127))
             if ended.returncode == 16:
                 checks.check(f"{what}: is as before", leftovers(world, before))
             look(what, ended.returncode == 0)
@@ -144,7 +144,8 @@ def try_recovery(checks, world, opened, before):
     places = world.places(opened, ["recover"], b"")
     for name, number in places:
         world.lay(opened)
-        world.run(["recover"], b"", ["-e", f"inject={name}:signal=SIGKILL:when={number}"])
+        ended = world.run(["recover"], b"", ["-e", f"inject={name}:signal=SIGKILL:when={number}"])
+        checks.check(f"recover, stopped at {name} {number}: status {ended.returncode}", ended.returncode in (-9, 137))
         recovered = world.run(["recover"])
         checks.check(f"recover, stopped at {name} {number}: recovers", recovered.returncode in (0, 1))
         checks.check(f"recover, stopped at {name} {number}: is as before", digest(world.state()) == before and not world.has_locks())

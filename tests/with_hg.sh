@@ -3,6 +3,6 @@ with_hg() {
     if ! command -v hg >/dev/null && [ "$(id -u)" = 0 ] && command -v apt-get >/dev/null; then
         { apt-get update -qq && DEBIAN_FRONTEND=noninteractive apt-get install -y -qq mercurial; } >/dev/null 2>&1
     fi
-    export HGPLAIN=1 HGRCPATH=/dev/null HGUSER=test
+    export HGPLAIN=1 HGRCPATH=/dev/null HGUSER=test HGENCODING=UTF-8
     command -v hg >/dev/null
 }

@@ -121,7 +121,7 @@ done
 check "the stores are the same" same_store ours theirs
 cd ours || exit 1
 check "both say the same" same_answers
-check "Mercurial finds no change in the folder" bash -c '[ -z "$(hg status)" ]'
+check "Mercurial finds no change in the folder" bash -c '[ -z "$(hg status 2>&1)" ]'
 
 # ---- in turn
 
@@ -161,7 +161,7 @@ ln -s elsewhere:2 .hg/store/lock
 check "Mercurial holds the store's lock" refused 10 "abort: lock held by elsewhere:2" "$program" phase 4 public
 rm .hg/store/lock
 printf hg-store >.hg/store/lock
-check "Mercurial waits for a lock of the program" bash -c '! hg phase --public -r 4'
+check "Mercurial waits for a lock of the program" bash -c '! said=$(hg --config ui.timeout=1 phase --public -r 4 2>&1) && grep -q "lock held by .hg-store" <<<"$said"'
 rm .hg/store/lock
 : >.hg/store/journal
 check "a journal stands" refused 11 "abort: abandoned transaction found" "$program" phase 4 public
@@ -270,6 +270,15 @@ printf xyz >.hg/store/data/c.d
 separate() { printf 'commit\nuser u\ndate 0 0\ndesc 0\n\nfile - 4097 c\n%04097d\nend\n' 0 | "$program" commit; }
 check "a file where a separate filelog has its data" refused 34 "abort: file in the way store/data/c.d" separate
 check "a repository is made once" refused 25 "abort: repository exists" "$program" init
+cd ..
+
+# ---- a store that a group shares
+
+mkdir shared && cd shared && "$program" init && chmod 2770 .hg .hg/store || exit 1
+shares() { printf 'commit\nuser u\ndate 0 0\ndesc 0\n\nfile - 1 d/e\nx\nend\n' | "$program" commit; }
+check "a commit in a store that a group shares" shares
+check "whose new folders are the group's" [ "$(find .hg/store -mindepth 1 -type d -printf '%m\n' | sort -u)" = 2770 ]
+check "and so are its new files" [ "$(find .hg/store -type f -printf '%m\n' | sort -u)" = 660 ]
 
 [ "$skipped" = 0 ] && echo "$passed passed, $failed failed" || echo "$passed passed, $failed failed, $skipped skipped"
 [ "$failed" = 0 ]

@@ -13,7 +13,7 @@ import sys
 import tempfile
 
 from mercurial import error, registrar
-from mercurial.node import hex, nullid, nullrev
+from mercurial.node import bin, hex, nullid, nullrev
 
 cmdtable = {}
 command = registrar.command(cmdtable)
@@ -102,6 +102,9 @@ class Revlog:
     def __len__(self):
         return len(self.log)
 
+    def nodes(self):
+        return {self.log.node(rev) for rev in range(len(self))}
+
     def revisions(self, name):
         """Number, parents, link, node and text of each revision."""
         if len(self) > MOST_REVISIONS:
@@ -158,11 +161,14 @@ def check_change(rev, text):
         refuse(b"changeset %d has a text that is not UTF-8 or out of form", rev)
 
 
-def paths_of(rev, text):
+def rows_of(rev, text):
+    """The path and the node of each row of a manifest."""
     rows = text.split(b"\n")[:-1]
     if len(rows) > MOST_FILES:
         refuse(b"manifest revision %d has more than %d files", rev, MOST_FILES)
-    return [row.split(b"\0")[0] for row in rows]
+    for row in rows:
+        path, rest = row.split(b"\0")
+        yield path, bin(rest[:40])
 
 
 def check_body(path, rev, text):
@@ -226,22 +232,26 @@ def write_store(repo, folder, progress):
     for rev, text in write_revlog(store, [b"00changelog.i", b"00changelog.d"], changelog.revisions(b"the changelog")):
         check_change(rev, text)
         progress.say("changesets: {} of {}", rev + 1, count)
-    paths = set()
+    named = {}
     for rev, text in write_revlog(store, [b"00manifest.i", b"00manifest.d"], manifest.revisions(b"the manifest")):
-        paths.update(paths_of(rev, text))
+        for path, node in rows_of(rev, text):
+            named.setdefault(path, set()).add(node)
         progress.say("manifests: {} of {}", rev + 1, len(manifest))
     used = {}
     lines = []
-    for number, path in enumerate(sorted(paths)):
+    for number, path in enumerate(sorted(named)):
         check_path(path)
+        log = Revlog(repo.file(path))
+        if not named[path] <= log.nodes():
+            refuse(b"%s lacks a revision that a manifest names", path)
         names = [store_name(path, ext) for ext in (b".i", b".d")]
         for name in names:
             if used.setdefault(name, path) != path:
                 refuse(b"%s and %s have one name in the store", used[name], path)
-        for rev, text in write_revlog(store, names, Revlog(repo.file(path)).revisions(path)):
+        for rev, text in write_revlog(store, names, log.revisions(path)):
             check_body(path, rev, text)
         lines += [listed_name(path, ext) + b"\n" for ext in (b".i", b".d")]
-        progress.say("files: {} of {}", number + 1, len(paths))
+        progress.say("files: {} of {}", number + 1, len(named))
     small = {"store/fncache": b"".join(lines), "store/phaseroots": roots_text(repo)}
     small |= {"bookmarks": bookmarks_text(repo), "dirstate": dirstate_text(repo)}
     small["requires"] = b"".join(word + b"\n" for word in REQUIREMENTS)
@@ -250,7 +260,7 @@ def write_store(repo, folder, progress):
             with open(os.path.join(folder, name), "xb") as out:
                 out.write(text)
     progress.say("")
-    return count, len(paths)
+    return count, len(named)
 
 
 @command(b"hg-store-export", [], b"DESTINATION")
