@@ -8,7 +8,7 @@ command's status and text are the same, and then all files byte for byte, and th
 from any changeset, with files that are changed, removed, moved, flagged and brought back, folders that are renamed, and files of the
 other side of a merge; phases and bookmarks; commands that are refused, for what they ask or for what stands in their way; and records
 that are changed or cut. `verify` finds nothing at each look, and Mercurial, where it is there, nothing now and then. The statuses that
-came are counted, and each that a history can have must have come. The last line is 'N passed, M failed'.
+came are counted, and each that a history can have must have come. The last line is 'N passed, M failed' or 'N passed, M failed, K skipped'.
 """
 
 import collections
