@@ -31,8 +31,8 @@ use std::thread::Threads;
 ///
 /// `rt` is the runtime's handle, by which `verify` and `session` start threads, and `session` waits; nothing else is done by it. `progress`
 /// is told how far a report is. The status is 0, or that of the refusal whose line was written last; 29 says that the report has
-/// findings. The writing end of a session need take no more than
-/// what the script on the input may leave. The yard is left whole, but for a session that found no memory to put its ends together: then these are left.
+/// findings. The writing end of a session need take no more than what the script on the input may leave. The yard is left whole, but for a
+/// session that found no memory to put its ends together: then these are left.
 pub fn run<T: Threads + Wait + Sync, Y: Yard, S: Source, K: Sink, P: Progress>(
     rt: &T,
     alloc: Global,
