@@ -65,6 +65,45 @@ def makes(program, checks, seed, count):
             checks.skipped += 2
 
 
+LEFTOVER = b"leftover files remain\n"
+
+
+def said_of(path, is_last, wanted):
+    """What `gen` says where this file of a commit could not be removed: a journal that stands leaves its transaction unfinished, a
+    lock bars the next commit and is found behind the last one, and of any other file it is said that it remains."""
+    if path.endswith(b".hg_store-copy"):  # the name that a new file has while it is made, and which need not stand
+        return wanted, 0
+    if path == b"store/journal":
+        return b"abort: transaction unfinished (published yes)\n", 17
+    if path not in (b"store/lock", b"wlock"):
+        return wanted + LEFTOVER, 0
+    if is_last:
+        return wanted.replace(b"findings 0", b"findings 1") + LEFTOVER, 29
+    return b"abort: lock held by hg-store\n" + LEFTOVER, 10
+
+
+def tells_what_is_left(program, checks, count):
+    """Each removal of a file fails in turn."""
+    bodies, tip = generated(7, count)
+    wanted = b"changesets %d\nfiles %d\ntip %s\nfindings 0\n" % (count, len(bodies), tip.encode())
+    seen = set()
+    for number in range(1, 100):
+        with tempfile.TemporaryDirectory() as folder:
+            trace = f"{folder}/trace"
+            inject = ["strace", "-f", "-qq", "-o", trace, "-e", "trace=unlink", "-e", f"inject=unlink:error=EIO:when={number}"]
+            said = subprocess.run([*inject, program, "gen", "7", str(count)], stdin=subprocess.DEVNULL, stdout=subprocess.PIPE, stderr=subprocess.DEVNULL, cwd=folder, check=False)
+            with open(trace, "rb") as file:
+                calls = [line for line in file if b"unlink(" in line]
+        if not any(b"INJECTED" in line for line in calls):
+            break
+        path = calls[number - 1].split(b'"')[1].split(b".hg/")[1]
+        is_last = sum(b"store/journal\"" in line for line in calls[:number]) == count
+        seen.add((path, is_last))
+        checks.check(f"{path}, {is_last}, not removed: {said.stdout}, {said.returncode}", (said.stdout, said.returncode) == said_of(path, is_last, wanted))
+    asked = {(path, last) for path in (b"store/journal", b"store/journal.backupfiles", b"store/lock", b"wlock") for last in ((True,) if count == 1 else (False, True))}
+    checks.check(f"removals that failed: {seen}", asked <= seen)
+
+
 # Words that do not fit, and the place of the first such.
 REFUSED = [
     (["gen"], 1),
@@ -81,6 +120,11 @@ def main():
     program, checks = built_program(), Checks()
     for seed, count in [(1, 1), (2**64 - 1, 3), (7, 1000)]:
         makes(program, checks, seed, count)
+    for count in (1, 2):
+        if shutil.which("strace"):
+            tells_what_is_left(program, checks, count)
+        else:
+            checks.skipped += 1
     for words, place in REFUSED:
         with tempfile.TemporaryDirectory() as folder:
             said = ask(program, folder, *words)

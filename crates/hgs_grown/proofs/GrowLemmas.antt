@@ -1,28 +1,34 @@
 -- Commits that were done lead from a repository to the next, one after another.
-use Rattle.std.proofs.Common.{◌≡◌, ◌⊎◌, inl, inr, Bool, ℕ, suc, ◌+◌, ◌<◌, ◌≤◌, ◌^◌, List, [], ◌++◌, append-nil, refl, sym, ◌∙◌, ap, subst, arith}
+use Rattle.std.proofs.Common.{◌≡◌, ◌⊎◌, inl, inr, Bool, true, false, ◌&&◌, ℕ, suc, ◌+◌, ◌<◌, ◌≤◌, ◌^◌, List, [], ◌++◌, append-nil, refl, sym, ◌∙◌, ap, subst, arith}
 use Rattle.std.specs.Prelude.{Option, Some, None, Result, Ok, Err}
 use Rattle.std.specs.Option.{option_and_then}
 use Rattle.hgs_answers.specs.declared.answer.Answer.{Answer}
+use Rattle.hgs_answers.specs.declared.outcome.Outcome.{Outcome}
+use Rattle.hgs_answers.specs.declared.outcome.Outcome.TheVariants.{Done, Fault, Unfinished}
+use Rattle.hgs_answers.specs.declared.outcome.Published.{Published}
 use Rattle.hgs_files.specs.declared.op.Op.{Op}
 use Rattle.hgs_files.specs.Tree.{Tree, after_all}
 use Rattle.hgs_files.specs.Theorems.TreeLemmas.{after_all-append}
 use Rattle.hgs_files.specs.Reads.{Rose}
 use Rattle.hgs_gen.specs.Generated.{change_of, files_after, generated, next_number, number_after, path_of, text_of, with_text}
 use Rattle.hgs_index.specs.declared.node.Node.{Node}
-use Rattle.hgs_machine.specs.Refusals.{WereRefused}
+use Rattle.hgs_machine.specs.Refusals.{WereRefused, refusals_of_left}
+use Rattle.hgs_machine.specs.Theorems.RefusedLemmas.{both-refused, fewer-refused}
 use Rattle.hgs_model.specs.Repo.{Repo}
 use Rattle.hgs_model.specs.Step.{Next, step}
 use Rattle.hgs_model.specs.Valid.{IsNewChange}
+use Rattle.hgs_model.specs.declared.command.Command.{Command}
 use Rattle.hgs_model.specs.declared.command.Command.TheVariants.{Commit}
 use Rattle.hgs_model.specs.declared.command.NewChange.{NewChange}
 use Rattle.hgs_model.specs.declared.files.NewFile.{NewFile}
 use Rattle.hgs_model.specs.declared.command.Refusal.{Refusal}
 use Rattle.hgs_stands.specs.Stands.{Stands}
 use Rattle.hgs_writer.specs.Alone.{HasWhatItNeeds, IsAnswered, IsDoneAs}
-use Rattle.hgs_writer.specs.Refusals.{refusals_of}
+use Rattle.hgs_writer.specs.Refusals.{refusals_of, refusals_of_outcome}
 use Rattle.hgs_writer.specs.Written.{IsWritten}
-use Rattle.hgs_grown.specs.Grown.{AreCommitted, CommitsNext, GrowsTo, HasWhatAllNeed, StopHasCause, grown, next_repo, nothing, one_more}
+use Rattle.hgs_grown.specs.Grown.{AreCommitted, CommitsNext, GrowsTo, HasWhatAllNeed, LeftHasCause, grown, is_swept, next_repo, nothing, one_more}
 use Rattle.hgs_grown.specs.declared.commits.Stop.{Stop}
+use Rattle.hgs_grown.specs.declared.commits.Tip.{Tip}
 use Rattle.hgs_grown.specs.declared.commits.Stop.TheVariants.{Memory, Answered}
 
 -- what a call leaves that was alone
@@ -35,7 +41,7 @@ module _ (law : Leaves) (valid : (seed made : ℕ) → seed < 2 ^ 64 → made < 
   accepted (Ok next) rev node u h = (next.0, refl, h.0)
   accepted (Err e) rev node u h = absurd h
 
-  pub leads : (n : ℕ) (last : Option Node) (done : List Op) → n ≤ count → AreCommitted who seed t n last done → (s : Repo) × (grown seed n r ≡ Some s) × Stands (after_all done t) s
+  pub leads : (n : ℕ) (last : Option Tip) (done : List Op) → n ≤ count → AreCommitted who seed t n last done → (s : Repo) × (grown seed n r ≡ Some s) × Stands (after_all done t) s
   leads _ _ _ le nothing = (r, refl, stands)
   leads _ _ _ le (one_more n last done more answer rev node before written is) =
       let sofar = leads n last done (omega (arith, le)) before in
@@ -55,37 +61,56 @@ is-generated seed n before new files change number_is files_are next is =
     is ∙ ap (λ x. change_of n (with_text (path_of x) (text_of n x) files)) (next ∙ ap next_number number_is) ∙ ap (λ l. change_of n (with_text (path_of at) (text_of n at) l)) files_are
 
 module _ (G : Type 0) (who : List ℕ) (seed count : ℕ) where
-  pub stops-behind : (stop : Stop) (n : ℕ) (last : Option Node) (t : Tree) (a b : List Op) → n < count → AreCommitted who seed t n last a → CommitsNext {G = G} who seed n (Err stop) (after_all a t) b → GrowsTo who seed count (Err stop) t (a ++ b)
-  stops-behind Memory n last t a b lt before e = (n, last, lt, subst (AreCommitted who seed t n last) (sym (ap (λ l. a ++ l) e ∙ append-nil a)) before)
-  stops-behind (Answered command answer) n last t a b lt before h = record { made = n; last = last; done = a; more = b; fewer = lt; committed = before; next = h.0; written = h.1; refused = h.2; all = refl }
+  pub stops-behind : (stop : Stop) (n : ℕ) (last : Option Tip) (t : Tree) (a b : List Op) → n < count → AreCommitted who seed t n last a → CommitsNext {G = G} who seed n (is_swept last) (Err stop) (after_all a t) b → GrowsTo who seed count (Err stop) t (a ++ b)
+  stops-behind (Memory swept) n last t a b lt before h = (n, last, lt, subst (AreCommitted who seed t n last) (sym (ap (λ l. a ++ l) h.0 ∙ append-nil a)) before, h.1)
+  stops-behind (Answered command answer swept) n last t a b lt before h =
+      record { made = n; last = last; done = a; more = b; fewer = lt; committed = before; next = h.0; written = h.1; refused = h.2; left = h.3; all = refl }
 
-  pub stops-first : (stop : Stop) (n : ℕ) (t : Tree) (b : List Op) → n ≡ 0 → n < count → CommitsNext {G = G} who seed n (Err stop) t b → GrowsTo who seed count (Err stop) t b
-  stops-first stop n t b zero_is lt h = stops-behind stop 0 None t [] b (subst (λ k. k < count) zero_is lt) nothing (subst (λ k. CommitsNext {G = G} who seed k (Err stop) t b) zero_is h)
+  pub stops-first : (stop : Stop) (n : ℕ) (t : Tree) (b : List Op) → n ≡ 0 → n < count → CommitsNext {G = G} who seed n true (Err stop) t b → GrowsTo who seed count (Err stop) t b
+  stops-first stop n t b zero_is lt h = stops-behind stop 0 None t [] b (subst (λ k. k < count) zero_is lt) nothing (subst (λ k. CommitsNext {G = G} who seed k true (Err stop) t b) zero_is h)
 
-  pub goes-behind : (next : G × Node) (n made : ℕ) (last : Option Node) (t : Tree) (a b : List Op) → made ≡ n + 1 → AreCommitted who seed t n last a → CommitsNext {G = G} who seed n (Ok next) (after_all a t) b → AreCommitted who seed t made (Some next.1) (a ++ b)
+  pub goes-behind : (next : G × Tip) (n made : ℕ) (last : Option Tip) (t : Tree) (a b : List Op) → made ≡ n + 1 → AreCommitted who seed t n last a → CommitsNext {G = G} who seed n (is_swept last) (Ok next) (after_all a t) b → AreCommitted who seed t made (Some next.1) (a ++ b)
   goes-behind next n made last t a b is before h =
       let more : made ≡ suc n = is ∙ (let e : n + 1 ≡ suc n = omega arith in e) in
-      subst (λ k. AreCommitted who seed t k (Some next.1) (a ++ b)) (sym more) (one_more n last a b h.0 h.1 next.1 before h.2 h.3)
+      subst (λ k. AreCommitted who seed t k (Some next.1) (a ++ b)) (sym more) (subst (λ (x : Tip). AreCommitted who seed t (suc n) (Some x) (a ++ b)) (sym h.5) (one_more n last a b h.0 h.1 h.2 before h.3 h.4))
 
-  pub goes-first : (next : G × Node) (n made : ℕ) (t : Tree) (b : List Op) → n ≡ 0 → made ≡ n + 1 → CommitsNext {G = G} who seed n (Ok next) t b → AreCommitted who seed t made (Some next.1) b
-  goes-first next n made t b zero_is is h = goes-behind next 0 made None t [] b (is ∙ ap (λ k. k + 1) zero_is) nothing (subst (λ k. CommitsNext {G = G} who seed k (Ok next) t b) zero_is h)
+  pub goes-first : (next : G × Tip) (n made : ℕ) (t : Tree) (b : List Op) → n ≡ 0 → made ≡ n + 1 → CommitsNext {G = G} who seed n true (Ok next) t b → AreCommitted who seed t made (Some next.1) b
+  goes-first next n made t b zero_is is h = goes-behind next 0 made None t [] b (is ∙ ap (λ k. k + 1) zero_is) nothing (subst (λ k. CommitsNext {G = G} who seed k true (Ok next) t b) zero_is h)
 
--- a count that rose since rose all in all
-pub rose-since : (old mid new : ℕ) → old ≤ mid → Rose mid new → Rose old new
-rose-since old mid new le h = omega (arith, le, h)
+-- ---- causes
 
--- and calls that were refused since were refused all in all
-refused-since : (n a b c x y z : ℕ) → a ≤ b → x ≤ y → WereRefused n b c y z → WereRefused n a c x z
-refused-since n a b c x y z p q h = record { failed = h.failed; wanting = h.wanting; all = h.all; faults = omega (arith, p, h.faults); denied = omega (arith, q, h.denied) }
+both-left : (a b : Bool) → refusals_of_left (a && b) ≤ refusals_of_left a + refusals_of_left b
+both-left true b = omega arith
+both-left false b = omega arith
 
-pub cause-since : (told now : Bool) (stop : Stop) (a b c x y z : ℕ) → now ≡ told → a ≤ b → x ≤ y → StopHasCause now b c y z stop → StopHasCause told a c x z stop
-cause-since told now Memory a b c x y z same p q h = tt
-cause-since told now (Answered command answer) a b c x y z same p q h = (
-  λ e. rose-since a b c p (h.0 e),
-  λ published e. by (h.1 published e),
-  refused-since (refusals_of told answer) a b c x y z p q (subst (λ t. WereRefused (refusals_of t answer) b c y z) same h.2),
+-- a count that rose since calls were refused
+rose-since : (n f g h d e : ℕ) → WereRefused n f g d e → Rose g h → Rose f h
+rose-since n f g h d e calls rose = omega (arith, calls.faults, rose)
+
+wanted-since : (n f g d e i : ℕ) → WereRefused n f g d e → Rose e i → Rose d i
+wanted-since n f g d e i calls rose = omega (arith, calls.denied, rose)
+
+-- what a call that was done leaves over
+pub left-since : (told before : Bool) (answer : Answer) (rev : ℕ) (node : Node) (f g h d e i : ℕ) → answer.outcome ≡ Done rev node → WereRefused (refusals_of_left before) f g d e → WereRefused (refusals_of told answer) g h e i
+    → WereRefused (refusals_of_left (before && answer.swept)) f h d i
+left-since told before answer rev node f g h d e i done first more =
+    let own = subst (λ (o : Outcome). WereRefused (refusals_of_outcome told o + refusals_of_left answer.swept) g h e i) done more in
+    fewer-refused (refusals_of_left (before && answer.swept)) (refusals_of_left before + (0 + refusals_of_left answer.swept)) f h d i (omega (arith, both-left before answer.swept))
+    (both-refused (refusals_of_left before) (0 + refusals_of_left answer.swept) f g h d e i first own)
+
+-- one that was answered otherwise
+pub stops-since : (told before : Bool) (command : Command) (answer : Answer) (f g h d e i : ℕ) → (answer.outcome ≡ Fault → Rose g h) → ((published : Published) → answer.outcome ≡ Unfinished published → Rose g h ⊎ Rose e i) → WereRefused (refusals_of told answer) g h e i
+    → WereRefused (refusals_of_left before) f g d e → LeftHasCause told f h d i (Err (Answered command answer before))
+stops-since told before command answer f g h d e i fault unfinished calls first = (
+  λ x. rose-since (refusals_of_left before) f g h d e first (fault x),
+  λ published x. by (unfinished published x),
+  fewer-refused (refusals_of told answer + refusals_of_left before) (refusals_of_left before + refusals_of told answer) f h d i (omega arith) (both-refused (refusals_of_left before) (refusals_of told answer) f g h d e i first calls),
 )
   where
-    by : Rose b c ⊎ Rose y z → Rose a c ⊎ Rose x z
-    by (inl r) = inl (rose-since a b c p r)
-    by (inr r) = inr (rose-since x y z q r)
+    by : Rose g h ⊎ Rose e i → Rose f h ⊎ Rose d i
+    by (inl r) = inl (rose-since (refusals_of_left before) f g h d e first r)
+    by (inr r) = inr (wanted-since (refusals_of_left before) f g d e i first r)
+
+-- whether the log is told stays as it is
+pub told-as : (told now : Bool) (f g d e : ℕ) (result : Result Tip Stop) → now ≡ told → LeftHasCause now f g d e result → LeftHasCause told f g d e result
+told-as told now f g d e result same h = subst (λ b. LeftHasCause b f g d e result) same h

@@ -1,13 +1,14 @@
 //! Commits of the changesets that a number gives.
-ghost use Rattle.std.specs.Prelude.{◌≡◌, ◌≤◌, ◌<◌, ◌+◌, ◌*◌, ℕ, List, Some, Ok, IfOk, IfErr, IsOk, is_some, length};
+ghost use Rattle.std.specs.Prelude.{◌≡◌, ◌≤◌, ◌<◌, ◌+◌, ◌*◌, ℕ, List, Some, Ok, IfOk, IsOk, is_some, length};
 ghost use Rattle.hgs_files.specs.declared.op.Op.{Op};
 ghost use Rattle.hgs_files.specs.Files.{GoesOn};
 ghost use Rattle.hgs_gen.specs.Generated.{files_after, generated, number_after};
 ghost use Rattle.hgs_machine.specs.Carry.{tree_now};
+ghost use Rattle.hgs_machine.specs.Refusals.{WereRefused, refusals_of_left};
 ghost use Rattle.hgs_model.specs.declared.command.Command.TheVariants.{Commit};
 ghost use Rattle.hgs_model.specs.declared.command.NewChange.{NewChange};
 ghost use Rattle.hgs_writer.specs.Written.{IsWritten};
-ghost use Rattle.hgs_grown.specs.Grown.{AreCommitted, CommitsNext, GrowsTo, StopHasCause};
+ghost use Rattle.hgs_grown.specs.Grown.{AreCommitted, CommitsNext, GrowsTo, LeftHasCause, last_of};
 
 use hgs_answers::answer::Answer;
 use hgs_answers::outcome::Outcome;
@@ -20,13 +21,27 @@ use hgs_model::files::NewFiles;
 use hgs_writer::write::write;
 use std::alloc::Global;
 
-/// Why not all changesets were committed.
+/// The last changeset that was committed.
+#[derive(Debug, Drop)]
+pub struct Tip {
+    pub node: Node,
+    /// Whether each of the commits removed all that it had left beside the repository.
+    pub swept: bool,
+}
+
+/// Why not all changesets were committed. `swept` says of those that were what it says in a `Tip`.
 #[derive(Debug, Drop)]
 pub enum Stop {
     /// There was no memory for the next one.
-    Memory,
+    Memory {
+        swept: bool,
+    },
     /// It was answered otherwise than that it is done.
-    Answered { command: Command, answer: Answer },
+    Answered {
+        command: Command,
+        answer: Answer,
+        swept: bool,
+    },
 }
 
 // A generator, beside the files of the changeset that it gave last.
@@ -51,20 +66,21 @@ fn files_of(alloc: Global, command: Command) -> NewFiles
     }
 }
 
-// Commits the next changeset, and gives its node.
+// Commits the next changeset, and gives it. `swept` says whether nothing was left over before.
 fn commit_next<F: Files>(
     alloc: Global,
     store: &mut F,
     who: &[u8],
     growing: Growing,
-) -> Result<(Growing, Node), Stop>
+    swept: bool,
+) -> Result<(Growing, Tip), Stop>
     requires few { growing.generator.made < 5000 }
     requires least { 1 ≤ length who.now }
     requires most { length who.now ≤ 255 }
     requires allows { (log : List Op) → F.allows (F.start store.old) log }
     ensures made { IfOk result (λ next. (next.0.seed ≡ growing.seed) × (next.0.generator.made ≡ growing.generator.made + 1)) }
-    ensures log { GoesOn (F.log store.old) (F.log store.new) (CommitsNext who.now growing.seed growing.generator.made result (tree_now (F.log store.old) (F.start store.old))) }
-    ensures cause { IfErr result (StopHasCause (is_some (F.log store.old)) (F.faults store.old) (F.faults store.new) (F.denied store.old) (F.denied store.new)) }
+    ensures log { GoesOn (F.log store.old) (F.log store.new) (CommitsNext who.now growing.seed growing.generator.made swept result (tree_now (F.log store.old) (F.start store.old))) }
+    ensures cause { (faults denied : ℕ) → WereRefused (refusals_of_left swept) faults (F.faults store.old) denied (F.denied store.old) → LeftHasCause (is_some (F.log store.old)) faults (F.faults store.new) denied (F.denied store.new) (last_of result) }
     ensures later { F.faults store.old ≤ F.faults store.new }
     ensures denied { F.denied store.old ≤ F.denied store.new }
     ensures same_start { F.start store.new ≡ F.start store.old }
@@ -76,12 +92,20 @@ fn commit_next<F: Files>(
         files,
     } = growing;
     let Ok(change) = generator.next(alloc, files) else {
-        return Err(Stop::Memory);
+        return Err(Stop::Memory { swept });
     };
     let command = Command::Commit(change);
     let answer = write(alloc, store, &command, who);
     let Outcome::Done { node, .. } = answer.outcome else {
-        return Err(Stop::Answered { command, answer });
+        return Err(Stop::Answered {
+            command,
+            answer,
+            swept,
+        });
+    };
+    let tip = Tip {
+        node,
+        swept: swept & answer.swept,
     };
     let files = files_of(alloc, command);
     let next = Growing {
@@ -89,25 +113,25 @@ fn commit_next<F: Files>(
         generator,
         files,
     };
-    Ok((next, node))
+    Ok((next, tip))
 }
 
 /// Commits so many changesets of the generator that begins with this number, one after another, with these bytes in the locks
-/// of each, and gives the node of the last. It ends at the first that is not done.
+/// of each, and gives the last. It ends at the first that is not done.
 pub fn commit_all<F: Files>(
     alloc: Global,
     store: &mut F,
     who: &[u8],
     seed: u64,
     count: u32,
-) -> Result<Node, Stop>
+) -> Result<Tip, Stop>
     requires some { 1 ≤ count }
     requires few { count ≤ 5000 }
     requires least { 1 ≤ length who.now }
     requires most { length who.now ≤ 255 }
     requires allows { (log : List Op) → F.allows (F.start store.old) log }
     ensures log { GoesOn (F.log store.old) (F.log store.new) (GrowsTo who.now seed count result (tree_now (F.log store.old) (F.start store.old))) }
-    ensures cause { IfErr result (StopHasCause (is_some (F.log store.old)) (F.faults store.old) (F.faults store.new) (F.denied store.old) (F.denied store.new)) }
+    ensures cause { LeftHasCause (is_some (F.log store.old)) (F.faults store.old) (F.faults store.new) (F.denied store.old) (F.denied store.new) result }
     ensures later { F.faults store.old ≤ F.faults store.new }
     ensures same_start { F.start store.new ≡ F.start store.old }
 {
@@ -116,17 +140,17 @@ pub fn commit_all<F: Files>(
         generator: Generator::new(seed),
         files: NewFiles::new(alloc),
     };
-    let (mut growing, mut last) = match commit_next(alloc, store, who, first) {
+    let (mut growing, mut last) = match commit_next(alloc, store, who, first, true) {
         Ok(next) => next,
         Err(stop) => return Err(stop),
     };
     while growing.generator.made < count {
-        let (next, node) = match commit_next(alloc, store, who, growing) {
+        let (next, tip) = match commit_next(alloc, store, who, growing, last.swept) {
             Ok(next) => next,
             Err(stop) => return Err(stop),
         };
         growing = next;
-        last = node;
+        last = tip;
     }
     Ok(last)
 }

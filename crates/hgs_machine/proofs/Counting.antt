@@ -17,8 +17,10 @@ use Rattle.hgs_machine.specs.Asked.{bytes_in}
 use Rattle.hgs_machine.specs.Carry.{Counted, CountsReply}
 use Rattle.hgs_machine.specs.Fed.{advanced, fed, fed_denied, fed_done, fed_failed, fed_no_size, fed_size, passed, stray_sized, sweeping, undoing, unpublished}
 use Rattle.hgs_machine.specs.Locks.{CausesLeft, NeverFall}
-use Rattle.hgs_machine.specs.Refusals.{WereRefused, refusals_at, refusals_in, refusals_of_ended, refusals_of_left, refusals_of_lock, refusals_of_locks, refusals_of_short, refusals_so_far}
+use Rattle.hgs_machine.specs.Refusals.{WereRefused, refusals_at, refusals_in, refusals_of_ended, refusals_of_call, refusals_of_left, refusals_of_lock, refusals_of_locks, refusals_of_short, refusals_so_far}
+use Rattle.hgs_machine.specs.Theorems.RefusedLemmas.{both-refused, fewer-refused}
 use Rattle.hgs_machine.specs.declared.locks.LockRefusal.{LockRefusal}
+use Rattle.hgs_machine.specs.declared.locks.LockRefusal.TheVariants.{Held, Abandoned, Fault as LockFault, Memory as NoMemory}
 
 -- ---- what a reply adds
 
@@ -140,21 +142,6 @@ by-reply m SizeMemory = by-no-size m.stage m
 
 -- ---- what is counted
 
-pub none-refused : (f d : ℕ) → WereRefused 0 f f d d
-none-refused f d = record { failed = 0; wanting = 0; all = omega arith; faults = omega arith; denied = omega arith }
-
-pub fewer-refused : (m n f g d e : ℕ) → m ≤ n → WereRefused n f g d e → WereRefused m f g d e
-fewer-refused m n f g d e less h = record { failed = h.failed; wanting = h.wanting; all = omega arith; faults = h.faults; denied = h.denied }
-
-pub both-refused : (m n f g h d e i : ℕ) → WereRefused m f g d e → WereRefused n g h e i → WereRefused (m + n) f h d i
-both-refused m n f g h d e i a b = record {
-  failed = a.failed + b.failed;
-  wanting = a.wanting + b.wanting;
-  all = omega arith;
-  faults = omega (arith, a.faults, b.faults);
-  denied = omega (arith, a.denied, b.denied);
-}
-
 one-failed : (f g d e : ℕ) → Rises f g 1 → e ≡ d → WereRefused 1 f g d e
 one-failed f g d e rises same = record { failed = 1; wanting = 0; all = omega arith; faults = omega (arith, rises.0); denied = omega arith }
 
@@ -199,12 +186,12 @@ carried-refused f g d e m ended same h = subst (λ (x : Ended). WereRefused (ref
 
 -- ---- the locks
 
-left-refused : (f g d e : ℕ) (swept : Bool) → NeverFall f g d e → CausesLeft f g d e swept → WereRefused (refusals_of_left swept) f g d e
+pub left-refused : (f g d e : ℕ) (swept : Bool) → NeverFall f g d e → CausesLeft f g d e swept → WereRefused (refusals_of_left swept) f g d e
 left-refused f g d e true n h = record { failed = 0; wanting = 0; all = omega arith; faults = omega (arith, n.faults); denied = omega (arith, n.denied) }
 left-refused f g d e false n (inl a) = record { failed = 1; wanting = 0; all = omega arith; faults = a; denied = omega (arith, n.denied) }
 left-refused f g d e false n (inr b) = record { failed = 0; wanting = 1; all = omega arith; faults = omega (arith, n.faults); denied = b }
 
-nothing-refused : (f g d e : ℕ) → NeverFall f g d e → WereRefused 0 f g d e
+pub nothing-refused : (f g d e : ℕ) → NeverFall f g d e → WereRefused 0 f g d e
 nothing-refused f g d e n = record { failed = 0; wanting = 0; all = omega arith; faults = omega (arith, n.faults); denied = omega (arith, n.denied) }
 
 pub falls-never : (f g h d e i : ℕ) → NeverFall f g d e → NeverFall g h e i → NeverFall f h d i
@@ -214,14 +201,21 @@ pub told-on : (old new : Option (List Op)) (Holds : List Op → Type 0) → Goes
 told-on None new Holds h = ap is_some h
 told-on (Some log) new Holds h = ap is_some h.1
 
-pub first-barred : (f g d e : ℕ) (told : Bool) (why : LockRefusal) → WereRefused (refusals_of_lock told why) f g d e → WereRefused (refusals_of_locks told why true) f g d e
-first-barred f g d e told why h = fewer-refused (refusals_of_locks told why true) (refusals_of_lock told why) f g d e (omega arith) h
+-- a call that was refused is counted, also where it found no memory
+of-call : (told : Bool) (why : LockRefusal) → refusals_of_lock told why ≤ refusals_of_call told why
+of-call told (Held holder) = omega arith
+of-call told Abandoned = omega arith
+of-call told LockFault = omega arith
+of-call told NoMemory = omega arith
+
+pub first-barred : (f g d e : ℕ) (told : Bool) (why : LockRefusal) → WereRefused (refusals_of_call told why) f g d e → WereRefused (refusals_of_locks told why true) f g d e
+first-barred f g d e told why h = fewer-refused (refusals_of_locks told why true) (refusals_of_call told why) f g d e (omega (arith, of-call told why)) h
 
 -- Some was made before the refusal, and was removed behind it or not.
-pub lock-refused : (f g h i d e j k : ℕ) (before now : Bool) (why : LockRefusal) (swept : Bool) → now ≡ before → NeverFall f g d e → WereRefused (refusals_of_lock now why) g h e j
+pub lock-refused : (f g h i d e j k : ℕ) (before now : Bool) (why : LockRefusal) (swept : Bool) → now ≡ before → NeverFall f g d e → WereRefused (refusals_of_call now why) g h e j
     → NeverFall h i j k → CausesLeft h i j k swept → WereRefused (refusals_of_locks before why swept) f i d k
 lock-refused f g h i d e j k before now why swept same n calls m left =
-    let refused = subst (λ b. WereRefused (refusals_of_lock b why) g h e j) same calls in
-    let first = both-refused 0 (refusals_of_lock before why) f g h d e j (nothing-refused f g d e n) refused in
-    let all = both-refused (0 + refusals_of_lock before why) (refusals_of_left swept) f h i d j k first (left-refused h i j k swept m left) in
-    fewer-refused (refusals_of_locks before why swept) (0 + refusals_of_lock before why + refusals_of_left swept) f i d k (omega arith) all
+    let refused = subst (λ b. WereRefused (refusals_of_call b why) g h e j) same calls in
+    let first = both-refused 0 (refusals_of_call before why) f g h d e j (nothing-refused f g d e n) refused in
+    let all = both-refused (0 + refusals_of_call before why) (refusals_of_left swept) f h i d j k first (left-refused h i j k swept m left) in
+    fewer-refused (refusals_of_locks before why swept) (0 + refusals_of_call before why + refusals_of_left swept) f i d k (omega (arith, of-call before why)) all

@@ -14,3 +14,5 @@ pub mod Stopping
 pub mod Going
 pub mod Counting
 pub mod Allowed
+pub mod Running
+pub mod Leaving

@@ -53,7 +53,7 @@ removed-some lock wlock a b h k e =
 -- ---- refusals
 
 -- the first lock is not the second
-lock-apart : (who : List ℕ) (t : Tree) (a : List Op) → IsDone (Create wlock_path who ∷ []) a [] → after_all a t lock_path ≡ t lock_path
+pub lock-apart : (who : List ℕ) (t : Tree) (a : List Op) → IsDone (Create wlock_path who ∷ []) a [] → after_all a t lock_path ≡ t lock_path
 lock-apart who t a d = ap (λ (u : Tree). u lock_path) (after-done (Create wlock_path who ∷ []) a [] t d)
 
 pub barred-first : (who : List ℕ) (t : Tree) (why : LockRefusal) (done : List Op) → Makes wlock_path who t (Err why) done → TakesLocks {T = Unit {0}} who t (Err (record { why = why; swept = true })) done

@@ -6,5 +6,6 @@ pub mod Carry
 pub mod Locks
 pub mod Sound
 pub mod Fed
+pub mod Ran
 pub mod Refusals
 pub mod Theorems

@@ -1,6 +1,8 @@
 -- How many calls on the files were refused, at the least.
-use Rattle.std.specs.Prelude.{ℕ, ◌+◌, ◌≤◌, max, Bool, true, false, List, Option, Some, None, if◌then◌else◌}
+use Rattle.std.specs.Prelude.{ℕ, zero, suc, ◌+◌, ◌≤◌, max, Bool, true, false, List, [], ◌∷◌, Option, Some, None, if◌then◌else◌}
 use Rattle.hgs_files.specs.Reads.{counted}
+use Rattle.hgs_files.specs.Tree.{Tree}
+use Rattle.hgs_ops.specs.Operations.{lock_path, wlock_path}
 use Rattle.hgs_machine.specs.declared.ended.Published.TheVariants.{No, Yes, Unknown}
 use Rattle.hgs_machine.specs.declared.ended.Short.{Short}
 use Rattle.hgs_machine.specs.declared.ended.Short.TheVariants.{Done as AllDone, Fault, Unfinished, Memory as OutOfMemory}
@@ -71,3 +73,38 @@ refusals_of_lock told NoMemory = 0
 -- how often the calls of a writer were refused that did not get the locks
 abbrev pub refusals_of_locks : Bool → LockRefusal → Bool → ℕ
 refusals_of_locks told why swept = refusals_of_lock told why + refusals_of_left swept
+
+-- the locks that are made and removed
+abbrev pub lock_paths : List (List ℕ)
+lock_paths = lock_path ∷ wlock_path ∷ []
+
+-- one that a call made could not be made
+abbrev pub refusals_of_call : Bool → LockRefusal → ℕ
+refusals_of_call told NoMemory = 1
+refusals_of_call told why = refusals_of_lock told why
+
+-- ---- files that stay behind
+
+abbrev pub standing : Option (List ℕ) → ℕ
+standing None = 0
+standing (Some bytes) = 1
+
+-- how many of these files stand
+abbrev pub how_many_stand : List (List ℕ) → Tree → ℕ
+how_many_stand [] t = 0
+how_many_stand (path ∷ paths) t = standing (t path) + how_many_stand paths t
+
+abbrev pub made_now : Option (List ℕ) → Option (List ℕ) → ℕ
+made_now None (Some bytes) = 1
+made_now _ _ = 0
+
+-- how many of them stand that did not before
+abbrev pub how_many_made : List (List ℕ) → Tree → Tree → ℕ
+how_many_made [] before now = 0
+how_many_made (path ∷ paths) before now = made_now (before path) (now path) + how_many_made paths before now
+
+-- Each lock that was made and stands was not removed, which is one refusal more; where one does, want of memory was that of a call.
+abbrev pub refusals_of_made : Bool → LockRefusal → ℕ → ℕ
+refusals_of_made told NoMemory zero = 0
+refusals_of_made told NoMemory (suc n) = 1 + suc n
+refusals_of_made told why n = refusals_of_lock told why + n

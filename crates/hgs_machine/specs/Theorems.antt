@@ -1,3 +1,4 @@
 -- What is proved of this crate's definitions and the crates above build on: statements with their proofs, no definitions
 -- that a contract cites.
 pub mod LogLemmas
+pub mod RefusedLemmas

@@ -9,6 +9,7 @@ ghost use Rattle.hgs_machine.specs.Asked.{Ending, asked};
 ghost use Rattle.hgs_machine.specs.Carry.{CountsReply, IsCausedSince, IsReplied, IsStep, IsUnderWay, MayAsk, MayCarry, reply_of, size_reply_of, tree_now};
 ghost use Rattle.hgs_machine.specs.Course.{CarriedOut};
 ghost use Rattle.hgs_machine.specs.Planned.{HasSource, IsPlanned};
+ghost use Rattle.hgs_machine.specs.Ran.{ComesOn, IsRunOut};
 ghost use Rattle.hgs_machine.specs.Refusals.{WereRefused, refusals_of_ended, refusals_so_far};
 ghost use Rattle.hgs_machine.specs.SoFar.{Fits, Leaves, questions_left};
 
@@ -84,6 +85,7 @@ fn step<F: Files>(files: &mut F, machine: &mut Machine) -> bool
     ensures plan { machine.new.plan ≡ machine.old.plan }
     ensures same_start { F.start files.new ≡ F.start files.old }
     ensures causes { (faults denied : ℕ) → IsCausedSince faults (F.faults files.old) denied (F.denied files.old) machine.old.outcome machine.old.swept → IsCausedSince faults (F.faults files.new) denied (F.denied files.new) machine.new.outcome machine.new.swept }
+    ensures ran { GoesOn (F.log files.old) (F.log files.new) (ComesOn (tree_now (F.log files.old) (F.start files.old)) machine.old machine.new (F.faults files.old) (F.faults files.new) (F.denied files.old) (F.denied files.new)) }
     ensures calls { (faults denied : ℕ) → WereRefused (refusals_so_far machine.old) faults (F.faults files.old) denied (F.denied files.old) → WereRefused (refusals_so_far machine.new) faults (F.faults files.new) denied (F.denied files.new) }
 {
     match call(files, machine) {
@@ -95,7 +97,8 @@ fn step<F: Files>(files: &mut F, machine: &mut Machine) -> bool
     }
 }
 
-/// Carries a plan out. Where an operation fails, or finds no memory, before the transaction is published, it is taken back.
+/// Carries a plan out by its machine, each of whose calls is made once. Where an operation fails, or finds no memory, before the
+/// transaction is published, it is taken back; each file behind it is removed whether or not the others could be.
 ///
 /// No file but the plan's is touched, and no memory is taken beside that of the files. The files need take no more than carrying the
 /// plan out may leave, wherever it breaks off.
@@ -105,6 +108,7 @@ pub fn carry_out<F: Files>(files: &mut F, plan: Plan) -> Ended
     ensures log { GoesOn (F.log files.old) (F.log files.new) (CarriedOut (tree_now (F.log files.old) (F.start files.old)) plan result.outcome result.swept) }
     ensures same_start { F.start files.new ≡ F.start files.old }
     ensures causes { IsCausedSince (F.faults files.old) (F.faults files.new) (F.denied files.old) (F.denied files.new) result.outcome result.swept }
+    ensures ran { GoesOn (F.log files.old) (F.log files.new) (IsRunOut (tree_now (F.log files.old) (F.start files.old)) plan result (F.faults files.old) (F.faults files.new) (F.denied files.old) (F.denied files.new)) }
     ensures calls { WereRefused (refusals_of_ended result.outcome result.swept) (F.faults files.old) (F.faults files.new) (F.denied files.old) (F.denied files.new) }
 {
     let mut machine = Machine::new(plan);

@@ -8,7 +8,7 @@ ghost use Rattle.hgs_ops.specs.Operations.{lock_path, wlock_path};
 ghost use Rattle.hgs_machine.specs.Carry.{tree_now};
 ghost use Rattle.hgs_machine.specs.Course.{lock_removals};
 ghost use Rattle.hgs_machine.specs.Locks.{AreRemoved, CausesLeft, CausesNotLocked, CausesRefusal, IsFrontOf, Looks, Makes, MayLock, MayRelease, NeverFall, TakesLocks};
-ghost use Rattle.hgs_machine.specs.Refusals.{WereRefused, refusals_of_lock, refusals_of_locks};
+ghost use Rattle.hgs_machine.specs.Refusals.{WereRefused, how_many_made, how_many_stand, lock_paths, refusals_of_call, refusals_of_locks, refusals_of_made};
 
 use hgs_bytes::bytes::Bytes;
 use hgs_files::files::{Created, FileFault, Files};
@@ -74,7 +74,7 @@ fn make<F: Files>(
     ensures same_start { F.start files.new ≡ F.start files.old }
     ensures counts { NeverFall (F.faults files.old) (F.faults files.new) (F.denied files.old) (F.denied files.new) }
     ensures causes { CausesRefusal (F.faults files.old) (F.faults files.new) result }
-    ensures calls { IfErr result (λ why. WereRefused (refusals_of_lock (is_some (F.log files.old)) why) (F.faults files.old) (F.faults files.new) (F.denied files.old) (F.denied files.new)) }
+    ensures calls { IfErr result (λ why. WereRefused (refusals_of_call (is_some (F.log files.old)) why) (F.faults files.old) (F.faults files.new) (F.denied files.old) (F.denied files.new)) }
 {
     match files.create_new(path, who) {
         Ok(Created::Made) => Ok(()),
@@ -110,7 +110,7 @@ impl Locks {
         ensures same_start { F.start files.new ≡ F.start files.old }
         ensures counts { NeverFall (F.faults files.old) (F.faults files.new) (F.denied files.old) (F.denied files.new) }
         ensures causes { CausesRefusal (F.faults files.old) (F.faults files.new) result }
-        ensures calls { IfErr result (λ why. WereRefused (refusals_of_lock (is_some (F.log files.old)) why) (F.faults files.old) (F.faults files.new) (F.denied files.old) (F.denied files.new)) }
+        ensures calls { IfErr result (λ why. WereRefused (refusals_of_call (is_some (F.log files.old)) why) (F.faults files.old) (F.faults files.new) (F.denied files.old) (F.denied files.new)) }
     {
         match files.size(&self.journal) {
             Ok(None) => Ok(()),
@@ -120,13 +120,15 @@ impl Locks {
         }
     }
 
-    /// Removes both locks, and answers whether they are removed. Takes no memory beside that of the files.
+    /// Removes both locks, the second whether or not the first could be, and answers whether they are removed. Takes no memory
+    /// beside that of the files.
     pub fn release<F: Files>(&self, files: &mut F) -> bool
         requires { MayRelease (F.log files.old) (F.allows (F.start files.old)) }
         ensures log { GoesOn (F.log files.old) (F.log files.new) (AreRemoved lock_removals result) }
         ensures same_start { F.start files.new ≡ F.start files.old }
         ensures counts { NeverFall (F.faults files.old) (F.faults files.new) (F.denied files.old) (F.denied files.new) }
         ensures causes { CausesLeft (F.faults files.old) (F.faults files.new) (F.denied files.old) (F.denied files.new) result }
+        ensures left { GoesOn (F.log files.old) (F.log files.new) (λ done. WereRefused (how_many_stand lock_paths (after_all done (tree_now (F.log files.old) (F.start files.old)))) (F.faults files.old) (F.faults files.new) (F.denied files.old) (F.denied files.new)) }
     {
         let lock = remove(files, &self.lock);
         let wlock = remove(files, &self.wlock);
@@ -141,6 +143,7 @@ impl Locks {
         ensures counts { NeverFall (F.faults files.old) (F.faults files.new) (F.denied files.old) (F.denied files.new) }
         ensures causes { CausesNotLocked (F.faults files.old) (F.faults files.new) (F.denied files.old) (F.denied files.new) result }
         ensures calls { IfErr result (λ refusal. WereRefused (refusals_of_locks (is_some (F.log files.old)) refusal.why refusal.swept) (F.faults files.old) (F.faults files.new) (F.denied files.old) (F.denied files.new)) }
+        ensures left { GoesOn (F.log files.old) (F.log files.new) (λ done. IfErr result (λ refusal. WereRefused (refusals_of_made (is_some (F.log files.old)) refusal.why (how_many_made lock_paths (tree_now (F.log files.old) (F.start files.old)) (after_all done (tree_now (F.log files.old) (F.start files.old))))) (F.faults files.old) (F.faults files.new) (F.denied files.old) (F.denied files.new))) }
     {
         if let Err(why) = make(alloc, files, &self.wlock, who) {
             return Err(NotLocked { why, swept: true });
@@ -166,6 +169,7 @@ pub fn take_locks<F: Files>(alloc: Global, files: &mut F, who: &[u8]) -> Result<
     ensures counts { NeverFall (F.faults files.old) (F.faults files.new) (F.denied files.old) (F.denied files.new) }
     ensures causes { CausesNotLocked (F.faults files.old) (F.faults files.new) (F.denied files.old) (F.denied files.new) result }
     ensures calls { IfErr result (λ refusal. WereRefused (refusals_of_locks (is_some (F.log files.old)) refusal.why refusal.swept) (F.faults files.old) (F.faults files.new) (F.denied files.old) (F.denied files.new)) }
+    ensures left { GoesOn (F.log files.old) (F.log files.new) (λ done. IfErr result (λ refusal. WereRefused (refusals_of_made (is_some (F.log files.old)) refusal.why (how_many_made lock_paths (tree_now (F.log files.old) (F.start files.old)) (after_all done (tree_now (F.log files.old) (F.start files.old))))) (F.faults files.old) (F.faults files.new) (F.denied files.old) (F.denied files.new))) }
 {
     let Ok(locks) = Locks::new(alloc) else {
         return Err(NotLocked {
@@ -173,6 +177,8 @@ pub fn take_locks<F: Files>(alloc: Global, files: &mut F, who: &[u8]) -> Result<
             swept: true,
         });
     };
-    locks.take(alloc, files, who)?;
-    Ok(locks)
+    match locks.take(alloc, files, who) {
+        Ok(()) => Ok(locks),
+        Err(refusal) => Err(refusal),
+    }
 }

@@ -31,7 +31,7 @@ false-true e = cc
 clears-removed : (path : List ℕ) (t : Tree) → Clears (path ∷ []) t true (Remove path ∷ [])
 clears-removed path t = record { some = inr ([], refl, refl); gone = λ e. (with_file-same t path None, tt) }
 
-clears-left : (path : List ℕ) (t : Tree) → Clears (path ∷ []) t false []
+pub clears-left : (path : List ℕ) (t : Tree) → Clears (path ∷ []) t false []
 clears-left path t = record { some = inl refl; gone = λ e. false-true e }
 
 -- ---- one after another
@@ -81,28 +81,18 @@ clears-both xs ys t a b l m h k = record {
 
 -- ---- what calls leave
 
-removed-by : (t : Tree) (path : List ℕ) (r : Result Unit FileFault) (more : List Op) → LeavesWhole (Remove path) r more → Clears (path ∷ []) t (is_ok r) more
+pub removed-by : (t : Tree) (path : List ℕ) (r : Result Unit FileFault) (more : List Op) → LeavesWhole (Remove path) r more → Clears (path ∷ []) t (is_ok r) more
 removed-by t path (Ok x) more h = subst (Clears (path ∷ []) t true) (sym h) (clears-removed path t)
 removed-by t path (Err e) more h = subst (Clears (path ∷ []) t false) (sym h) (clears-left path t)
 
-pub removed : (before after : Option (List Op)) (t : Tree) (path : List ℕ) (r : Result Unit FileFault) (ok : Bool) → ok ≡ is_ok r → GoesOn before after (LeavesWhole (Remove path) r) → GoesOn before after (Clears (path ∷ []) t ok)
-removed None after t path r ok e h = h
-removed (Some log) after t path r ok e (more, is, h) = (more, is, subst (λ b. Clears (path ∷ []) t b more) (sym e) (removed-by t path r more h))
-
 -- what is done at a tree, and then at the tree that this leaves
-then : (before mid after : Option (List Op)) (start start_mid : Tree) (P Q R : Tree → List Op → Type 0) → start_mid ≡ start → ((t : Tree) (a b : List Op) → P t a → Q (after_all a t) b → R t (a ++ b))
+pub then : (before mid after : Option (List Op)) (start start_mid : Tree) (P Q R : Tree → List Op → Type 0) → start_mid ≡ start → ((t : Tree) (a b : List Op) → P t a → Q (after_all a t) b → R t (a ++ b))
     → GoesOn before mid (P (tree_now before start)) → GoesOn mid after (Q (tree_now mid start_mid)) → GoesOn before after (R (tree_now before start))
 then None mid after start start_mid P Q R same f h k = subst (λ x. GoesOn x after (Q (tree_now x start_mid))) h k
 then (Some log) mid after start start_mid P Q R same f h k =
     let second = subst (λ x. GoesOn x after (Q (tree_now x start_mid))) h.1 k in
     let tree : after_all (log ++ h.0) start_mid ≡ after_all h.0 (after_all log start) = ap (λ (u : Tree). after_all (log ++ h.0) u) same ∙ after_all-append log h.0 start in
     (h.0 ++ second.0, second.1 ∙ ap (λ (l : List Op). Some l) (append_assoc log h.0 second.0), f (after_all log start) h.0 second.0 h.2 (subst (λ (u : Tree). Q u second.0) tree second.2))
-
-pub cleared : (before mid after : Option (List Op)) (start start_mid : Tree) (xs ys all : List (List ℕ)) (a b : Bool) → xs ++ ys ≡ all → start_mid ≡ start → GoesOn before mid (Clears xs (tree_now before start) a) → GoesOn mid after (Clears ys (tree_now mid start_mid) b)
-    → GoesOn before after (Clears all (tree_now before start) (a && b))
-cleared before mid after start start_mid xs ys all a b whole same h k =
-    then before mid after start start_mid (λ t. Clears xs t a) (λ t. Clears ys t b) (λ t. Clears all t (a && b)) same
-    (λ t l m x y. subst (λ paths. Clears paths t (a && b) (l ++ m)) whole (clears-both xs ys t a b l m x y)) h k
 
 -- the paths up to a place, and the one there
 pub one-more : (paths : List (List ℕ)) (i : ℕ) (path : List ℕ) → i < length paths → path ≡ slice_index_or paths i path → take i paths ++ path ∷ [] ≡ take (i + 1) paths

@@ -2,6 +2,7 @@ pub mod Basics
 pub mod Pieces
 pub mod Stopping
 pub mod Clears
+pub mod Left
 pub mod Undone
 pub mod Finding
 pub mod Below

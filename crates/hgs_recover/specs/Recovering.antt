@@ -49,3 +49,9 @@ Answers given Memory = Unit {0}
 pub data Attempts (t : Tree) : Tree → Type 0 where
   not_yet : Attempts t t
   once_more : (u v : Tree) (answer : RecoverAnswer) (swept : Bool) (log : List Op) → Attempts t u → RecoversBy u answer swept log → StopLeaves u log v → Attempts t v
+
+-- this holds where what is left over was to be removed
+abbrev pub WhereSwept : RecoverAnswer → Type 0 → Type 0
+WhereSwept Restored Holds = Holds
+WhereSwept NothingToDo Holds = Holds
+WhereSwept answer Holds = Unit {0}

@@ -5,7 +5,7 @@ ghost use Rattle.hgs_files.specs.Files.{GoesOn};
 ghost use Rattle.hgs_machine.specs.Carry.{tree_now};
 ghost use Rattle.hgs_machine.specs.Locks.{CausesLeft, NeverFall};
 ghost use Rattle.hgs_ops.specs.Operations.{lock_path, strays, wlock_path};
-ghost use Rattle.hgs_recover.specs.Clearing.{Clears, leftover_paths};
+ghost use Rattle.hgs_recover.specs.Clearing.{Clears, ClearsEach, IsLeft, leftover_paths};
 
 use hgs_files::files::Files;
 use hgs_files::path::StorePath;
@@ -42,7 +42,7 @@ fn stray_paths(alloc: Global) -> Result<Vec<StorePath>, AllocError>
 // Removes a file, and answers whether it is gone.
 fn remove<F: Files>(files: &mut F, path: &StorePath) -> bool
     requires { (log : List Op) → F.allows (F.start files.old) log }
-    ensures log { GoesOn (F.log files.old) (F.log files.new) (Clears (path.now ∷ []) (tree_now (F.log files.old) (F.start files.old)) result) }
+    ensures log { GoesOn (F.log files.old) (F.log files.new) (ClearsEach (path.now ∷ []) (tree_now (F.log files.old) (F.start files.old)) result (F.faults files.old) (F.faults files.new) (F.denied files.old) (F.denied files.new)) }
     ensures same_start { F.start files.new ≡ F.start files.old }
     ensures counts { NeverFall (F.faults files.old) (F.faults files.new) (F.denied files.old) (F.denied files.new) }
     ensures causes { CausesLeft (F.faults files.old) (F.faults files.new) (F.denied files.old) (F.denied files.new) result }
@@ -53,7 +53,7 @@ fn remove<F: Files>(files: &mut F, path: &StorePath) -> bool
 // Removes a file where it stands, and answers whether it is gone.
 fn clear<F: Files>(files: &mut F, path: &StorePath) -> bool
     requires { (log : List Op) → F.allows (F.start files.old) log }
-    ensures log { GoesOn (F.log files.old) (F.log files.new) (Clears (path.now ∷ []) (tree_now (F.log files.old) (F.start files.old)) result) }
+    ensures log { GoesOn (F.log files.old) (F.log files.new) (ClearsEach (path.now ∷ []) (tree_now (F.log files.old) (F.start files.old)) result (F.faults files.old) (F.faults files.new) (F.denied files.old) (F.denied files.new)) }
     ensures same_start { F.start files.new ≡ F.start files.old }
     ensures counts { NeverFall (F.faults files.old) (F.faults files.new) (F.denied files.old) (F.denied files.new) }
     ensures causes { CausesLeft (F.faults files.old) (F.faults files.new) (F.denied files.old) (F.denied files.new) result }
@@ -68,7 +68,7 @@ fn clear<F: Files>(files: &mut F, path: &StorePath) -> bool
 // Removes those of the files that stand, and answers whether all are gone.
 fn clear_all<F: Files>(files: &mut F, paths: &[StorePath]) -> bool
     requires { (log : List Op) → F.allows (F.start files.old) log }
-    ensures log { GoesOn (F.log files.old) (F.log files.new) (Clears paths.now (tree_now (F.log files.old) (F.start files.old)) result) }
+    ensures log { GoesOn (F.log files.old) (F.log files.new) (ClearsEach paths.now (tree_now (F.log files.old) (F.start files.old)) result (F.faults files.old) (F.faults files.new) (F.denied files.old) (F.denied files.new)) }
     ensures same_start { F.start files.new ≡ F.start files.old }
     ensures counts { NeverFall (F.faults files.old) (F.faults files.new) (F.denied files.old) (F.denied files.new) }
     ensures causes { CausesLeft (F.faults files.old) (F.faults files.new) (F.denied files.old) (F.denied files.new) result }
@@ -93,7 +93,7 @@ impl Leftovers {
     // Removes both locks, and answers whether they are gone.
     fn release<F: Files>(&self, files: &mut F) -> bool
         requires { (log : List Op) → F.allows (F.start files.old) log }
-        ensures log { GoesOn (F.log files.old) (F.log files.new) (Clears (lock_path ∷ wlock_path ∷ []) (tree_now (F.log files.old) (F.start files.old)) result) }
+        ensures log { GoesOn (F.log files.old) (F.log files.new) (ClearsEach (lock_path ∷ wlock_path ∷ []) (tree_now (F.log files.old) (F.start files.old)) result (F.faults files.old) (F.faults files.new) (F.denied files.old) (F.denied files.new)) }
         ensures same_start { F.start files.new ≡ F.start files.old }
         ensures counts { NeverFall (F.faults files.old) (F.faults files.new) (F.denied files.old) (F.denied files.new) }
         ensures causes { CausesLeft (F.faults files.old) (F.faults files.new) (F.denied files.old) (F.denied files.new) result }
@@ -108,6 +108,7 @@ impl Leftovers {
     pub fn sweep<F: Files>(&self, files: &mut F) -> bool
         requires { (log : List Op) → F.allows (F.start files.old) log }
         ensures log { GoesOn (F.log files.old) (F.log files.new) (Clears leftover_paths (tree_now (F.log files.old) (F.start files.old)) result) }
+        ensures left { GoesOn (F.log files.old) (F.log files.new) (IsLeft (tree_now (F.log files.old) (F.start files.old)) (F.faults files.old) (F.faults files.new) (F.denied files.old) (F.denied files.new)) }
         ensures same_start { F.start files.new ≡ F.start files.old }
         ensures counts { NeverFall (F.faults files.old) (F.faults files.new) (F.denied files.old) (F.denied files.new) }
         ensures causes { CausesLeft (F.faults files.old) (F.faults files.new) (F.denied files.old) (F.denied files.new) result }

@@ -6,9 +6,10 @@ ghost use Rattle.hgs_files.specs.Reads.{Rose};
 ghost use Rattle.hgs_files.specs.Tree.{after_all};
 ghost use Rattle.hgs_machine.specs.Carry.{tree_now};
 ghost use Rattle.hgs_machine.specs.Locks.{CausesLeft, NeverFall};
+ghost use Rattle.hgs_recover.specs.Clearing.{IsLeft};
 ghost use Rattle.hgs_recover.specs.declared.answer.RecoverAnswer.TheVariants.{Fault, Unfinished};
 ghost use Rattle.hgs_recover.specs.Found.{answer_in};
-ghost use Rattle.hgs_recover.specs.Recovering.{Answers, RecoversBy};
+ghost use Rattle.hgs_recover.specs.Recovering.{Answers, RecoversBy, WhereSwept};
 
 use crate::answer::{RecoverAnswer, Recovered, of_read};
 use crate::find::find;
@@ -28,6 +29,7 @@ pub fn recover<F: Files>(alloc: Global, files: &mut F) -> Recovered
     ensures fault { result.outcome ≡ Fault → Rose (F.faults files.old) (F.faults files.new) }
     ensures unfinished { result.outcome ≡ Unfinished → Rose (F.faults files.old) (F.faults files.new) ⊎ Rose (F.denied files.old) (F.denied files.new) }
     ensures swept { result.swept ≡ false → Rose (F.faults files.old) (F.faults files.new) ⊎ Rose (F.denied files.old) (F.denied files.new) }
+    ensures left { WhereSwept result.outcome (GoesOn (F.log files.old) (F.log files.new) (IsLeft (tree_now (F.log files.old) (F.start files.old)) (F.faults files.old) (F.faults files.new) (F.denied files.old) (F.denied files.new))) }
     ensures counts { NeverFall (F.faults files.old) (F.faults files.new) (F.denied files.old) (F.denied files.new) }
     ensures same_start { F.start files.new ≡ F.start files.old }
 {

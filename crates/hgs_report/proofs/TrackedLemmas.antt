@@ -13,7 +13,6 @@ use Rattle.hgs_bytes.specs.Bytes.{same, among}
 use Rattle.hgs_index.specs.Manifest.{Row}
 use Rattle.hgs_index.specs.Revision.{Revision}
 use Rattle.hgs_index.specs.TrackedPath.{is_tracked}
-use Rattle.hgs_manifest.specs.Held.{found_in}
 use Rattle.hgs_findings.specs.Findings.{have_same, tracks_others, paths_of_seen}
 use Rattle.hgs_findings.specs.Sight.{Sight, row_paths, tracked_rows, seen, seen_of}
 use Rattle.hgs_judge.specs.declared.changesets.Changeset.{Changeset}
@@ -33,25 +32,50 @@ same-turned x y = by (same x y) refl (same y x) refl
     by true p false q = never (sym ((bytes_decides y x).1 (sym ((bytes_decides x y).0 p))) ∙ q)
     by false p true q = never (sym ((bytes_decides x y).1 (sym ((bytes_decides y x).0 q))) ∙ p)
 
+or-swap : (a b c : Bool) → (a || (b || c)) ≡ (b || (a || c))
+or-swap true true c = refl
+or-swap true false c = refl
+or-swap false b c = refl
+
 -- ---- the rows that may be tracked
 
-pub row-among : (path : List ℕ) (rows : List Row) → among path (row_paths (tracked_rows rows)) ≡ (is_tracked path && is_some (found_in path rows))
-row-among path [] = by (is_tracked path)
+-- the paths of one row more
+rows-more : (rows : List Row) (i : ℕ) (r : Row) (path : List ℕ) → slice_get rows i ≡ Some r
+    → among path (row_paths (tracked_rows (take (suc i) rows))) ≡ cond (is_tracked r.path) (same path r.path || among path (row_paths (tracked_rows (take i rows)))) (among path (row_paths (tracked_rows (take i rows))))
+rows-more [] i r path at = absurd (clash at)
   where
-    by : (b : Bool) → false ≡ (b && false)
+    clash : None ≡ Some r → ⊥
+    clash h = cc
+rows-more (x ∷ rows) zero r path at = by (is_tracked x.path) ∙ ap (λ (y : Row). cond (is_tracked y.path) (same path y.path || false) false) (some-row x r at)
+  where
+    some-row : (a b : Row) → Some a ≡ Some b → a ≡ b
+    some-row a b h = ap (elim [ None ↦ a | Some z ↦ z ]) h
+
+    by : (b : Bool) → among path (row_paths (cond b (x ∷ []) [])) ≡ cond b (same path x.path || false) false
     by true = refl
     by false = refl
-row-among path (r ∷ rows) = by (is_tracked r.path) refl (same r.path path) refl (row-among path rows)
+rows-more (x ∷ rows) (suc i) r path at = by (is_tracked x.path) (rows-more rows i r path at)
   where
-    by : (a : Bool) → is_tracked r.path ≡ a → (b : Bool) → same r.path path ≡ b → among path (row_paths (tracked_rows rows)) ≡ (is_tracked path && is_some (found_in path rows))
-        → among path (row_paths (cond a (r ∷ tracked_rows rows) (tracked_rows rows))) ≡ (is_tracked path && is_some (cond b (Some (r.node, r.flag)) (found_in path rows)))
-    by true e true f rec = ap (λ b. b || among path (row_paths (tracked_rows rows))) (same-turned path r.path ∙ f) ∙ ap (λ b. b && true) (sym (sym (ap is_tracked ((bytes_decides r.path path).0 f)) ∙ e))
-    by true e false f rec = ap (λ b. b || among path (row_paths (tracked_rows rows))) (same-turned path r.path ∙ f) ∙ rec
-    by false e true f rec = rec ∙ ap (λ b. b && is_some (found_in path rows)) no ∙ ap (λ b. b && true) (sym no)
-      where
-        no : is_tracked path ≡ false
-        no = sym (ap is_tracked ((bytes_decides r.path path).0 f)) ∙ e
-    by false e false f rec = rec
+    before : List (List ℕ)
+    before = row_paths (tracked_rows (take i rows))
+
+    after : List (List ℕ)
+    after = row_paths (tracked_rows (take (suc i) rows))
+
+    deep : (t : Bool) → among path after ≡ cond t (same path r.path || among path before) (among path before) → (same path x.path || among path after) ≡ cond t (same path r.path || (same path x.path || among path before)) (same path x.path || among path before)
+    deep true e = ap (λ b. same path x.path || b) e ∙ or-swap (same path x.path) (same path r.path) (among path before)
+    deep false e = ap (λ b. same path x.path || b) e
+
+    by : (b : Bool) → among path after ≡ cond (is_tracked r.path) (same path r.path || among path before) (among path before)
+        → among path (row_paths (cond b (x ∷ tracked_rows (take (suc i) rows)) (tracked_rows (take (suc i) rows)))) ≡ cond (is_tracked r.path) (same path r.path || among path (row_paths (cond b (x ∷ tracked_rows (take i rows)) (tracked_rows (take i rows))))) (among path (row_paths (cond b (x ∷ tracked_rows (take i rows)) (tracked_rows (take i rows)))))
+    by true e = deep (is_tracked r.path) e
+    by false e = e
+
+pub row-entered : (rows : List Row) (i : ℕ) (r : Row) (path : List ℕ) → slice_get rows i ≡ Some r → is_tracked r.path ≡ true → among path (row_paths (tracked_rows (take (suc i) rows))) ≡ (same path r.path || among path (row_paths (tracked_rows (take i rows))))
+row-entered rows i r path at is = rows-more rows i r path at ∙ ap (λ b. cond b (same path r.path || among path (row_paths (tracked_rows (take i rows)))) (among path (row_paths (tracked_rows (take i rows))))) is
+
+pub row-passed : (rows : List Row) (i : ℕ) (r : Row) (path : List ℕ) → slice_get rows i ≡ Some r → is_tracked r.path ≡ false → among path (row_paths (tracked_rows (take (suc i) rows))) ≡ among path (row_paths (tracked_rows (take i rows)))
+row-passed rows i r path at is = rows-more rows i r path at ∙ ap (λ b. cond b (same path r.path || among path (row_paths (tracked_rows (take i rows)))) (among path (row_paths (tracked_rows (take i rows))))) is
 
 pub mapped-some : {A B : Type 0} (f : A → B) (o : Option A) → is_some (option_map f o) ≡ is_some o
 mapped-some f None = refl
@@ -102,11 +126,6 @@ not-kept f (x ∷ rows) (suc i) r at one = by (is_tracked x.path) (not-kept f ro
     by false e = e
 
 -- ---- sets of paths
-
-or-swap : (a b c : Bool) → (a || (b || c)) ≡ (b || (a || c))
-or-swap true true c = refl
-or-swap true false c = refl
-or-swap false b c = refl
 
 or-twice : (a c : Bool) → (a || c) ≡ (a || (a || c))
 or-twice true c = refl

@@ -7,7 +7,7 @@ ghost use Rattle.hgs_findings.specs.Findings.{have_same, tracks_others};
 ghost use Rattle.hgs_findings.specs.Sight.{row_paths, tracked_rows};
 ghost use Rattle.hgs_report.specs.Lines.{has_key, tracked_in};
 
-use crate::sets::set_of;
+use crate::sets::{enter, set_of};
 use hgs_bytes::bytes::Bytes;
 use hgs_bytes::names::Names;
 use hgs_judge::changesets::Tree;
@@ -17,20 +17,27 @@ use hgs_path::laws::tracked_without_fault;
 use std::alloc::{AllocError, Global};
 use std::collections::BTreeSet;
 
-// Whether the rows have a path, which may be tracked.
-fn has_row(rows: &Manifest, path: &[u8]) -> bool
-    ensures { result ≡ among path.now (row_paths (tracked_rows rows.now)) }
+// The set of the paths of the rows that may be tracked.
+fn set_of_rows(alloc: Global, rows: &Manifest) -> Result<BTreeSet<Vec<u8>>, AllocError>
+    ensures { IfOk result (λ set. (path : List ℕ) → has_key set.keys path ≡ among path (row_paths (tracked_rows rows.now))) }
 {
     tracked_without_fault();
-    check(path).is_ok() && rows.get(path).is_some()
+    let mut set = BTreeSet::new(alloc);
+    for i in 0..rows.len() {
+        let path = rows.row(i).path;
+        if check(path).is_ok() {
+            enter(&mut set, Vec::from_slice(alloc, path)?)?;
+        }
+    }
+    Ok(set)
 }
 
-// Whether the rows have each path.
-fn have_rows(rows: &Manifest, paths: &[Bytes]) -> bool
-    ensures { result ≡ list_all (λ path. among path (row_paths (tracked_rows rows.now))) paths.now }
+// Whether a set has each path.
+fn has_each(set: &BTreeSet<Vec<u8>>, paths: &[Bytes]) -> bool
+    ensures { result ≡ list_all (has_key set.now.keys) paths.now }
 {
     for path in paths {
-        if !has_row(rows, path.as_slice()) {
+        if !set.contains(path.as_slice()) {
             return false;
         }
     }
@@ -61,8 +68,9 @@ fn has_all(set: &BTreeSet<Vec<u8>>, rows: &Manifest) -> bool
 fn are_rows(alloc: Global, paths: &[Bytes], rows: &Manifest) -> Result<bool, AllocError>
     ensures { IfOk result (λ same. same ≡ have_same paths.now (row_paths (tracked_rows rows.now))) }
 {
-    let set = set_of(alloc, paths)?;
-    Ok(have_rows(rows, paths) && has_all(&set, rows))
+    let tracked = set_of(alloc, paths)?;
+    let named = set_of_rows(alloc, rows)?;
+    Ok(has_each(&named, paths) && has_all(&tracked, rows))
 }
 
 /// Whether the paths are others than those of a tree that can be read.

@@ -1,12 +1,12 @@
 -- How many calls on the files were refused.
-use Rattle.std.proofs.Common.{◌≡◌, ◌⊎◌, ◌≤◌, ℕ, Bool, true, false, List, inl, inr, refl, arith}
+use Rattle.std.proofs.Common.{◌≡◌, ◌⊎◌, ◌≤◌, ℕ, ◌+◌, Bool, true, false, List, inl, inr, refl, arith}
 use Rattle.std.specs.Prelude.{Option, is_some, Result, Ok, Err}
 use Rattle.hgs_files.specs.Reads.{Rose}
 use Rattle.hgs_files.specs.Tree.{Tree}
 use Rattle.hgs_files.specs.declared.op.Op.{Op}
 use Rattle.hgs_grown.specs.declared.commits.Stop.{Stop}
 use Rattle.hgs_grown.specs.declared.commits.Stop.TheVariants as stops
-use Rattle.hgs_index.specs.declared.node.Node.{Node}
+use Rattle.hgs_grown.specs.declared.commits.Tip.{Tip}
 use Rattle.hgs_machine.specs.Refusals.{WereRefused, refusals_of_left}
 use Rattle.hgs_recover.specs.declared.answer.RecoverAnswer.{RecoverAnswer}
 use Rattle.hgs_recover.specs.declared.answer.RecoverAnswer.TheVariants as recoveries
@@ -50,10 +50,14 @@ refused_later f g h d e k le less n calls = record { failed = calls.failed; want
 
 -- ---- a repository that grows
 
-tells_under : (C D : ℕ → Type 0) → ((n : ℕ) → C n → D n) → (told : Bool) (grown : Result Node Stop) (log : Option (List Op)) (start : Tree) (status : ℕ) (old new : Option (List ℕ)) → TellsGrown C told grown log start status old new → TellsGrown D told grown log start status old new
-tells_under C D f told (Ok tip) log start status old new h = h
-tells_under C D f told (Err stops.Memory) log start status old new h = h
-tells_under C D f told (Err (stops.Answered command answer)) log start status old new h = (f (refusals_of told answer) h.0, h.1)
+-- and calls that were refused before
+pub refused_before : (n f g h d e i : ℕ) → g ≤ h → e ≤ i → WereRefused n f g d e → WereRefused n f h d i
+refused_before n f g h d e i p q calls = record { failed = calls.failed; wanting = calls.wanting; all = calls.all; faults = omega (arith, p, calls.faults); denied = omega (arith, q, calls.denied) }
+
+tells_under : (C D : ℕ → Type 0) → ((n : ℕ) → C n → D n) → (told : Bool) (grown : Result Tip Stop) (log : Option (List Op)) (start : Tree) (status : ℕ) (old new : Option (List ℕ)) → TellsGrown C told grown log start status old new → TellsGrown D told grown log start status old new
+tells_under C D f told (Ok tip) log start status old new h = (f (refusals_of_left tip.swept) h.0, h.1)
+tells_under C D f told (Err (stops.Memory swept)) log start status old new h = (f (refusals_of_left swept) h.0, h.1)
+tells_under C D f told (Err (stops.Answered command answer swept)) log start status old new h = (f (refusals_of told answer + refusals_of_left swept) h.0, h.1)
 
 pub grows_under : (C D : ℕ → Type 0) → ((n : ℕ) → C n → D n) → (seed count : ℕ) (old new : Option (List Op)) (start : Tree) (status : ℕ) (written_old written_new : Option (List ℕ)) → Grows C seed count old new start status written_old written_new → Grows D seed count old new start status written_old written_new
 grows_under C D f seed count old new start status written_old written_new h = (h.0, h.1, tells_under C D f (is_some old) h.0 new start status written_old written_new h.2)

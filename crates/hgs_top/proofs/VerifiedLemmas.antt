@@ -1,5 +1,5 @@
 -- A report that was written is told.
-use Rattle.std.proofs.Common.{◌≡◌, ◌⊎◌, ℕ, List, Option, Some, None, Ok, arith, inl, inr}
+use Rattle.std.proofs.Common.{◌≡◌, ◌⊎◌, ◌++◌, ℕ, List, Option, Some, None, Ok, arith, inl, inr}
 use Rattle.hgs_files.specs.declared.op.Op.{Op}
 use Rattle.hgs_files.specs.Streams.{IsWritten}
 use Rattle.hgs_files.specs.Tree.{Tree, after_all}
@@ -15,7 +15,8 @@ use Rattle.hgs_verify.specs.Parts.{HaveShortLogs}
 use Rattle.hgs_verify.specs.Refusal.{PassesNone, required_in}
 use Rattle.hgs_verify.specs.Report.{IsReportOf}
 use Rattle.hgs_top.specs.Run.{EndsLine, IsReportable, OfTree, TellsReport, Verifies}
-use Rattle.hgs_index.specs.declared.node.Node.{Node}
+use Rattle.hgs_answers.specs.Answer.{leftover_text}
+use Rattle.hgs_grown.specs.declared.commits.Tip.{Tip}
 use Rattle.hgs_top.specs.Orders.{TellsSummary}
 use Rattle.hgs_top.specs.Verified.{report_status, report_text, summary_text}
 
@@ -29,8 +30,8 @@ pub tells : (log : Option (List Op)) (start : Tree) (report : Report) (status : 
 tells None start report status old new has is line = tt
 tells (Some l) start report status old new has is line = (has, findings_in report.findings.items, report.changesets, report.filelogs, is, line)
 
-pub tells-summary : (log : Option (List Op)) (start : Tree) (report : Report) (tip : Node) (status : ℕ) (old new : Option (List ℕ)) → OfTree log start IsReportable → OfTree log start (IsReportOf report)
-    → EndsLine (summary_text (findings_in report.findings.items) report.changesets report.filelogs tip) (report_status (findings_in report.findings.items)) status old new → OfTree log start (TellsSummary tip status old new)
+pub tells-summary : (log : Option (List Op)) (start : Tree) (report : Report) (tip : Tip) (status : ℕ) (old new : Option (List ℕ)) → OfTree log start IsReportable → OfTree log start (IsReportOf report)
+    → EndsLine (summary_text (findings_in report.findings.items) report.changesets report.filelogs tip.node ++ leftover_text tip.swept) (report_status (findings_in report.findings.items)) status old new → OfTree log start (TellsSummary tip status old new)
 tells-summary None start report tip status old new has is line = tt
 tells-summary (Some l) start report tip status old new has is line = (has, findings_in report.findings.items, report.changesets, report.filelogs, is, line)
 

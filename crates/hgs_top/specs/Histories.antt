@@ -1,5 +1,5 @@
 -- What a command that was answered did to files that stood for a repository.
-use Rattle.std.specs.Prelude.{◌≡◌, ◌++◌, List, Option, Some, ℕ, Ok, IfSome, ⊤}
+use Rattle.std.specs.Prelude.{◌≡◌, ◌++◌, List, Option, Some, ℕ, Ok, IfSome, IsSome, ⊤}
 use Rattle.hgs_answers.specs.declared.outcome.Outcome.{Outcome}
 use Rattle.hgs_files.specs.declared.op.Op.{Op}
 use Rattle.hgs_files.specs.Stop.{IsStopped}
@@ -35,12 +35,17 @@ IsWriting (do_move rev phase force) = ⊤
 IsWriting (do_mark name rev) = ⊤
 IsWriting (do_unmark name) = ⊤
 
--- From files that stand for a repository, and have what the command on the input needs of them that no test tells, the log went on
--- by pieces of a legal log.
-abbrev pub MakesPieces : Job → List ℕ → List Op → Option (List Op) → Tree → Type 0
-MakesPieces job bytes log new start = (r : Repo) → Stands (after_all log start) r → ((command : Command) → IsCommandOf job (Some bytes) command → HasWhatItNeeds (after_all log start) r command)
+-- the input is told where the command stands there
+abbrev pub IsTold : Job → Option (List ℕ) → Type 0
+IsTold do_commit left = IsSome left
+IsTold job left = ⊤
+
+-- From files that stand for a repository, and have what the command of these words and this input needs of them that no test tells,
+-- the log went on by pieces of a legal log.
+abbrev pub MakesPieces : Job → Option (List ℕ) → List Op → Option (List Op) → Tree → Type 0
+MakesPieces job left log new start = (r : Repo) → Stands (after_all log start) r → ((command : Command) → IsCommandOf job left command → HasWhatItNeeds (after_all log start) r command)
     → (done : List Op) × (new ≡ Some (log ++ done)) × Pieces (after_all log start) r done
 
--- where the input and the log are told
+-- where the log is told, and of a commit the input too
 abbrev pub MakesHistory : List (List ℕ) → Option (List ℕ) → Option (List Op) → Option (List Op) → Tree → Type 0
-MakesHistory words left old new start = IfSome left (λ bytes. IfSome old (λ log. (job : Job) → request_of_words words ≡ Ok (to_do job) → IsWriting job → MakesPieces job bytes log new start))
+MakesHistory words left old new start = IfSome old (λ log. (job : Job) → request_of_words words ≡ Ok (to_do job) → IsWriting job → IsTold job left → MakesPieces job left log new start)

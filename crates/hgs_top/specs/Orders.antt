@@ -1,6 +1,6 @@
 -- What a command that changes files comes to, and what it leaves.
-use Rattle.std.specs.Prelude.{◌≡◌, ◌≤◌, ◌⊎◌, ℕ, Bool, List, [], ◌∷◌, ◌++◌, Option, None, is_some, Result, Ok, Err, IfSome, IsSome, codes, decimal, ⊤, true}
-use Rattle.hgs_answers.specs.Answer.{answer_text, status_of as answer_status}
+use Rattle.std.specs.Prelude.{◌≡◌, ◌≤◌, ◌⊎◌, ℕ, ◌+◌, Bool, ◌&&◌, List, [], ◌∷◌, ◌++◌, Option, None, is_some, Result, Ok, Err, IfSome, IsSome, codes, decimal, ⊤, true}
+use Rattle.hgs_answers.specs.Answer.{answer_text, leftover_text, status_of as answer_status}
 use Rattle.hgs_answers.specs.declared.answer.Answer.{Answer}
 use Rattle.hgs_answers.specs.declared.outcome.Outcome.{Outcome}
 use Rattle.hgs_answers.specs.declared.outcome.Outcome.TheVariants as outcomes
@@ -44,10 +44,11 @@ use Rattle.hgs_top.specs.declared.orders.Order.{Order}
 use Rattle.hgs_top.specs.declared.orders.Order.TheVariants as orders
 use Rattle.hgs_grown.specs.declared.commits.Stop.{Stop}
 use Rattle.hgs_grown.specs.declared.commits.Stop.TheVariants as stops
+use Rattle.hgs_grown.specs.declared.commits.Tip.{Tip}
 use Rattle.hgs_grown.specs.Grown.{GrowsTo}
 use Rattle.hgs_findings.specs.Findings.{Finding, IsReport}
-use Rattle.hgs_index.specs.declared.node.Node.{Node}
-use Rattle.hgs_top.specs.Run.{EndsLine, IsReportable, OfTree, RefusesReport, memory_line}
+use Rattle.hgs_verify.specs.Refusal.{IsWhy, is_refusal}
+use Rattle.hgs_top.specs.Run.{EndsLine, IsReportable, OfTree, memory_line}
 use Rattle.hgs_top.specs.Verified.{report_status, summary_text}
 use Rattle.hgs_top.specs.Words.{Job, do_init, do_commit, do_recover, do_move, do_mark, do_unmark, Request, to_answer, to_do, to_play, to_session, to_verify, to_generate}
 
@@ -208,26 +209,36 @@ Does AreRefused job left old new start status written_old written_new =
 
 -- ---- a generated repository
 
--- The report of the grown repository was made, and its counts are told behind the last node; or there is none.
-abbrev pub TellsSummary : Node → ℕ → Option (List ℕ) → Option (List ℕ) → Tree → Type 0
+-- The report of the grown repository was made, and its counts are told behind the last node; or there is none. Where a commit left
+-- something over, a line more says so.
+abbrev pub TellsSummary : Tip → ℕ → Option (List ℕ) → Option (List ℕ) → Tree → Type 0
 TellsSummary tip status written_old written_new t =
     IsReportable t
-    × (findings : List Finding) × (changesets : ℕ) × (filelogs : ℕ) × IsReport t findings changesets filelogs × EndsLine (summary_text findings changesets filelogs tip) (report_status findings) status written_old written_new
+    × (findings : List Finding) × (changesets : ℕ) × (filelogs : ℕ) × IsReport t findings changesets filelogs × EndsLine (summary_text findings changesets filelogs tip.node ++ leftover_text tip.swept) (report_status findings) status written_old written_new
 
-abbrev pub Summarizes : Node → Option (List Op) → Tree → ℕ → Option (List ℕ) → Option (List ℕ) → Type 0
-Summarizes tip log start status written_old written_new = OfTree log start (TellsSummary tip status written_old written_new) ⊎ RefusesReport ⊤ log start status written_old written_new
+abbrev pub RefusesSummary : Bool → Option (List Op) → Tree → ℕ → Option (List ℕ) → Option (List ℕ) → Type 0
+RefusesSummary swept log start status written_old written_new =
+    (refusal : ReadAnswer) × (is_refusal refusal ≡ true) × OfTree log start (IsWhy refusal) × EndsLine (refusal_line refusal ++ leftover_text swept) (status_of refusal) status written_old written_new
 
--- what is said of the commits: where all are done, what they came to; else the answer of the one that is not, and as many calls were
--- refused as it tells of
-abbrev pub TellsGrown : (ℕ → Type 0) → Bool → Result Node Stop → Option (List Op) → Tree → ℕ → Option (List ℕ) → Option (List ℕ) → Type 0
-TellsGrown AreRefused told (Ok tip) log start status written_old written_new = Summarizes tip log start status written_old written_new
-TellsGrown AreRefused told (Err stops.Memory) log start status written_old written_new = EndsLine memory_line 30 status written_old written_new
-TellsGrown AreRefused told (Err (stops.Answered command answer)) log start status written_old written_new = AreRefused (refusals_of told answer) × EndsLine (answer_text command answer) (answer_status answer.outcome) status written_old written_new
+abbrev pub Summarizes : Tip → Option (List Op) → Tree → ℕ → Option (List ℕ) → Option (List ℕ) → Type 0
+Summarizes tip log start status written_old written_new = OfTree log start (TellsSummary tip status written_old written_new) ⊎ RefusesSummary tip.swept log start status written_old written_new
+
+-- the answer to a commit, and whether it or one before it left something over
+abbrev pub answer_behind : Bool → Answer → Answer
+answer_behind swept answer = record answer { swept = answer.swept && swept }
+
+-- What is said of the commits: where all are done, what they came to; else the answer of the one that is not, and as many calls were
+-- refused as it tells of. Where commits left something over one call more was.
+abbrev pub TellsGrown : (ℕ → Type 0) → Bool → Result Tip Stop → Option (List Op) → Tree → ℕ → Option (List ℕ) → Option (List ℕ) → Type 0
+TellsGrown AreRefused told (Ok tip) log start status written_old written_new = AreRefused (refusals_of_left tip.swept) × Summarizes tip log start status written_old written_new
+TellsGrown AreRefused told (Err (stops.Memory swept)) log start status written_old written_new = AreRefused (refusals_of_left swept) × EndsLine (memory_line ++ leftover_text swept) 30 status written_old written_new
+TellsGrown AreRefused told (Err (stops.Answered command answer swept)) log start status written_old written_new =
+    AreRefused (refusals_of told answer + refusals_of_left swept) × EndsLine (answer_text command (answer_behind swept answer)) (answer_status answer.outcome) status written_old written_new
 
 -- the commits are made one after another, and then all is verified
 abbrev pub Grows : (ℕ → Type 0) → ℕ → ℕ → Option (List Op) → Option (List Op) → Tree → ℕ → Option (List ℕ) → Option (List ℕ) → Type 0
 Grows AreRefused seed count old new start status written_old written_new =
-    (grown : Result Node Stop) × GoesOn old new (GrowsTo lock_text seed count grown (tree_now old start)) × TellsGrown AreRefused (is_some old) grown new start status written_old written_new
+    (grown : Result Tip Stop) × GoesOn old new (GrowsTo lock_text seed count grown (tree_now old start)) × TellsGrown AreRefused (is_some old) grown new start status written_old written_new
 
 abbrev pub IsNotMade : Ended → Type 0
 IsNotMade Made = ⊥

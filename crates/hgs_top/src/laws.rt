@@ -28,7 +28,7 @@ ghost use Rattle.hgs_model.specs.Valid.{IsValid};
 ghost use Rattle.hgs_model.specs.declared.command.Command.{Command};
 ghost use Rattle.hgs_stands.specs.Stands.{Stands};
 ghost use Rattle.hgs_writer.specs.Alone.{HasWhatItNeeds};
-ghost use Rattle.hgs_top.specs.Histories.{GoesOnAs, MakesHistory};
+ghost use Rattle.hgs_top.specs.Histories.{GoesOnAs, IsTold, MakesHistory};
 ghost use Rattle.hgs_top.specs.Orders.{ComesTo, IsCommandOf, Obeys};
 ghost use Rattle.hgs_top.specs.declared.ended.Ended.TheVariants.{Answered};
 
@@ -81,7 +81,7 @@ pub fn replies_of_repository()
 /// A command that words and input give is one that a repository takes: each text of a commit is one that a record can hold, and
 /// each name that is set is a bookmark's.
 pub fn commands_are_valid()
-    ensures { (words : List (List ℕ)) (job : Job) (bytes : List ℕ) (command : Command) → request_of_words words ≡ Ok (to_do job) → IsCommandOf job (Some bytes) command → IsValid command }
+    ensures { (words : List (List ℕ)) (job : Job) (left : Option (List ℕ)) (command : Command) → request_of_words words ≡ Ok (to_do job) → IsTold job left → IsCommandOf job left command → IsValid command }
 {
     read_records_are_records();
 }

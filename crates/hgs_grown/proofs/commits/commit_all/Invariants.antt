@@ -1,6 +1,7 @@
 use Rattle.std.proofs.Common.{◌≡◌, ◌≤◌, ◌-◌, Some}
 use Rattle.hgs_files.specs.Files.{GoesOn}
 use Rattle.hgs_machine.specs.Carry.{tree_now}
+use Rattle.hgs_machine.specs.Refusals.{WereRefused, refusals_of_left}
 use Rattle.hgs_grown.specs.Grown.{AreCommitted}
 use Rattle.hgs_grown.proofs.commits.commit_all.Given as goal
 
@@ -10,7 +11,7 @@ invariant-loop-growing g l = record {
   within : l.growing.generator.made ≤ l.count;
   log : GoesOn (g.F.Files.log l.fn.store) (g.F.Files.log l.store) (AreCommitted l.who l.seed (tree_now (g.F.Files.log l.fn.store) (g.F.Reads.start l.fn.store)) l.growing.generator.made (Some l.last));
   later : g.F.Reads.faults l.fn.store ≤ g.F.Reads.faults l.store;
-  denied : g.F.Reads.denied l.fn.store ≤ g.F.Reads.denied l.store;
+  left : WereRefused (refusals_of_left l.last.swept) (g.F.Reads.faults l.fn.store) (g.F.Reads.faults l.store) (g.F.Reads.denied l.fn.store) (g.F.Reads.denied l.store);
   same_start : g.F.Reads.start l.store ≡ g.F.Reads.start l.fn.store;
 }
 

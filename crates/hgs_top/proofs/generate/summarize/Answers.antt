@@ -27,4 +27,4 @@ returns-in-Err-clause-summarizes g c =
     let L : Option (List Op) → Type 0 = λ log. OfTree log (g.F.Reads.start c.args.files.now) (IsWhy c.in-Err.refusal) in
     let S : Tree → Type 0 = λ start. OfTree seen start (IsWhy c.in-Err.refusal) in
     let why = subst L (e.still alone ∙ g.met.F.Files.latest c.args.files.now) (subst S e.same_start (e.why alone)) in
-    inr (c.in-Err.refusal, e.refused, (λ f. tt), why, c.refuse.ensures.line)
+    inr (c.in-Err.refusal, e.refused, why, c.tell_refusal.ensures.line)
