@@ -2,8 +2,8 @@
 //!
 //! A file is named by the folder's name, `/` and its path. Folders between are made as needed. What the system refuses is
 //! the error; how often it refused is counted above.
-ghost use Rattle.std.specs.Prelude.{◌≡◌, ◌≤◌, ◌+◌, ◌++◌, length, List, ℕ};
-ghost use Rattle.hg_store.specs.Reading.{Adds, AddsAnswered, AddsPart};
+ghost use Rattle.std.specs.Prelude.{◌≤◌, ◌+◌, length};
+ghost use Rattle.hg_store.specs.Reading.{AddsAnswered, AddsPart};
 
 use crate::streams::read_once;
 use hgs_files::files::Created;

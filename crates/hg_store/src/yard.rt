@@ -1,10 +1,10 @@
 //! The place of a repository on the disk.
-ghost use Rattle.std.specs.Prelude.{◌≡◌, All, IfErr, IfOk, None, vec_len};
+ghost use Rattle.std.specs.Prelude.{◌≡◌, All, IfErr, IfOk, vec_len};
 ghost use Rattle.std.specs.List.{AllZip};
 ghost use Rattle.hgs_files.specs.Ends.{EndsWithin, Follow, total_of};
 ghost use Rattle.hgs_files.specs.Reads.{counted};
 ghost use Rattle.hgs_files.specs.Ties.{untied};
-ghost use Rattle.hg_store.specs.Disk.{untold};
+ghost use Rattle.hg_store.specs.Disk.{untold, untold_start};
 
 use crate::files::{OsFiles, OsFront, OsReader};
 use hgs_files::ends::{Follows, Leads, Told};
@@ -91,12 +91,13 @@ impl Yard for OsYard {
 
     fn finish(w: OsFiles, rs: Vec<OsReader>) -> Result<OsYard, (OsFiles, Vec<OsReader>)>
         requires { All (λ r. untied.home ≡ untied.home) rs.items }
-        ensures log { IfOk result (λ yard. Follow untied untold untold (λ path. None)) }
+        ensures log { IfOk result (λ yard. Follow untied untold untold untold_start) }
         ensures readers { IfOk result (λ yard. All (λ r. EndsWithin untold untold untied.told) rs.items) }
         ensures faults { IfOk result (λ yard. yard.files.tally.faults ≡ counted w.tally.faults (total_of (λ r. r.files.tally.faults) rs.items)) }
         ensures denied { IfOk result (λ yard. yard.files.tally.denied ≡ counted w.tally.denied (total_of (λ r. r.files.tally.denied) rs.items)) }
-        ensures same { IfErr result (λ ends. (untold ≡ untold) × (untied ≡ untied)) }
-        ensures same_readers { IfErr result (λ ends. AllZip (λ r s. (untied ≡ untied) × (untold ≡ untold)) rs.items ends.1.items) }
+        ensures same { IfErr result (λ ends. (untold ≡ untold) × (untold_start ≡ untold_start) × (untied ≡ untied)) }
+        ensures same_counts { IfErr result (λ ends. (ends.0.tally.faults ≡ w.tally.faults) × (ends.0.tally.denied ≡ w.tally.denied)) }
+        ensures same_readers { IfErr result (λ ends. AllZip (λ r s. (untied ≡ untied) × (untold ≡ untold) × (s.files.tally.faults ≡ r.files.tally.faults) × (s.files.tally.denied ≡ r.files.tally.denied)) rs.items ends.1.items) }
         ensures same_home { IfErr result (λ ends. All (λ r. untied.home ≡ untied.home) ends.1.items) }
     {
         let mut files = w;

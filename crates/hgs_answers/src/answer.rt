@@ -1,5 +1,5 @@
 //! The answer to a command that writes, and its text.
-ghost use Rattle.std.specs.Prelude.{◌≡◌, ◌++◌, ◌∷◌, [], codes, decimal, OnOk, OnErr, IfOk};
+ghost use Rattle.std.specs.Prelude.{◌≡◌, ◌++◌, ◌∷◌, decimal, OnOk, OnErr, IfOk};
 ghost use Rattle.hgs_index.specs.Hex.{hex};
 ghost use Rattle.hgs_model.specs.Phase.{phase_name};
 ghost use Rattle.hgs_answers.specs.Answer.{answer_text, done_text, held_text, collision_text, outcome_text, refusal_text, status_of, unfinished_text};

@@ -1,5 +1,5 @@
 //! The loads of such a session.
-ghost use Rattle.std.specs.Prelude.{◌≡◌, List, Some};
+ghost use Rattle.std.specs.Prelude.{◌≡◌, List};
 ghost use Rattle.hgs_bytes.specs.Bytes.{IsPrefixOf};
 ghost use Rattle.hgs_files.specs.declared.op.Op.{Op};
 ghost use Rattle.hgs_legal.specs.LegalLog.{IsLegal};

@@ -6,7 +6,7 @@ ghost use Rattle.hgs_history.specs.History.{AlwaysHaveWhatTheyNeed};
 ghost use Rattle.hgs_legal.specs.LegalLog.{IsLegal};
 ghost use Rattle.hgs_script.specs.Script.{CanBeRun};
 ghost use Rattle.hgs_session.specs.Calls.{Beginning};
-ghost use Rattle.hgs_session.specs.Session.{AreCounted, AreOfOneStart, BeginsOver, Comes, IfParts, IsWhole, LeftAs, RestsOn};
+ghost use Rattle.hgs_session.specs.Session.{AreCounted, AreOfOneStart, BeginsOver, Comes, IfParts, IsAt, IsWhole, LeftAs, RestsOn};
 
 use hgs_files::yard::Yard;
 use hgs_history::laws::sessions_make_legal_logs;
@@ -32,7 +32,7 @@ where
     requires can { CanBeRun script.now }
     requires protocol { (start : Tree) (log : List Op) → ∥ IsLegal start log ∥₁ → Y.W.allows start log }
     requires needs { (old : List Op) × (Y.A.log (Y.files yard) ≡ Some old) × AlwaysHaveWhatTheyNeed script.now.workers (after_all old (Y.A.start (Y.files yard))) }
-    ensures comes { ∥ ((x : Beginning) × BeginsOver x script.now.workers (Y.A.log (Y.files yard)) (Y.A.start (Y.files yard)) (Y.A.faults (Y.files yard)) (Y.A.denied (Y.files yard)) × Comes x (λ last. LeftAs result.left (λ y. RestsOn (Y.A.log (Y.files yard)) (Y.A.start (Y.files yard)) last.log (Y.A.log (Y.files y)) (Y.A.start (Y.files y))) (λ w. Y.W.log w ≡ last.log)) (λ last states. LeftAs result.left (λ y. AreCounted last states (Y.A.faults (Y.files y)) (Y.A.denied (Y.files y))) (λ w. ⊤)) result.result) ∥₁ }
+    ensures comes { ∥ ((x : Beginning) × BeginsOver x script.now.workers (Y.A.log (Y.files yard)) (Y.A.start (Y.files yard)) (Y.A.faults (Y.files yard)) (Y.A.denied (Y.files yard)) × Comes x (λ last. LeftAs result.left (λ y. RestsOn (Y.A.log (Y.files yard)) (Y.A.start (Y.files yard)) last.log (Y.A.log (Y.files y)) (Y.A.start (Y.files y))) (λ w. IsAt last (Y.W.log w) (Y.W.faults w) (Y.W.denied w))) (λ last states. LeftAs result.left (λ y. AreCounted last states (Y.A.faults (Y.files y)) (Y.A.denied (Y.files y))) (λ w. ⊤)) result.result) ∥₁ }
     ensures parts { IfParts result.left (λ w rs. AreOfOneStart (Y.A.log (Y.files yard)) (Y.A.start (Y.files yard)) (Y.W.ties w) (λ r. Y.R.ties r) rs) }
     ensures whole { IsOk result.result → IsWhole result.left }
 {

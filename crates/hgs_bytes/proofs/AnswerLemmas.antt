@@ -1,5 +1,5 @@
 -- A fault that the definition gives is a right answer.
-use Rattle.std.proofs.Common.{◌≡◌, Bool, true, false, Result, Ok, Err}
+use Rattle.std.proofs.Common.{◌≡◌, Bool, true, false, Result, Err}
 use Rattle.std.specs.Prelude.{⊤}
 use Rattle.std.specs.Bool.{MatchBool}
 use Rattle.hgs_bytes.specs.Answer.{Gives}

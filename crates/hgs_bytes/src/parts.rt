@@ -1,5 +1,5 @@
 //! Parts of bytes: what stands before and behind a separator, fronts and rests, and the order of bytes.
-ghost use Rattle.std.specs.Prelude.{◌≡◌, ◌+◌, ◌<◌, ◌∷◌, List, ℕ, length, take, drop};
+ghost use Rattle.std.specs.Prelude.{◌≡◌, ◌+◌, ◌<◌, ◌∷◌, List, length, take, drop};
 ghost use Rattle.std.specs.Option.{option_map};
 ghost use Rattle.hgs_bytes.specs.Bytes.{same, is_below, begins_with};
 ghost use Rattle.hgs_bytes.specs.Text.{split, lines_of};

@@ -1,5 +1,5 @@
 // The date line of a changeset.
-ghost use Rattle.std.specs.Prelude.{◌≡◌, ◌↔◌, ◌<◌, ◌≤◌, ◌^◌, IsTrue, IfOk, IfSome, IfNone, unsigned_abs, ℤ, nat_le, ◌&&◌};
+ghost use Rattle.std.specs.Prelude.{◌≡◌, ◌<◌, ◌≤◌, ◌^◌, IfOk, IfSome, IfNone, unsigned_abs, ℤ, nat_le, ◌&&◌};
 ghost use Rattle.std.specs.Option.{option_map};
 ghost use Rattle.std.specs.Str.{is_utf8};
 ghost use Rattle.std.specs.Str.Parse.{signed_digits_value};

@@ -1,5 +1,5 @@
 //! A commit: what is read for it, and the parts of its transaction.
-ghost use Rattle.std.specs.Prelude.{◌≡◌, ◌≤◌, ◌<◌, ◌+◌, ◌^◌, [], true, false, length, nat_lt, Some, IfOk, IfSome, OnOk};
+ghost use Rattle.std.specs.Prelude.{◌≡◌, ◌≤◌, ◌<◌, ◌+◌, [], true, false, length, nat_lt, Some, IfOk, IfSome, OnOk};
 ghost use Rattle.std.specs.List.{list_all};
 ghost use Rattle.hgs_bytes.specs.Text.{ascends};
 ghost use Rattle.hgs_model.specs.Valid.{IsNewChange, new_paths};

@@ -1,8 +1,6 @@
 //! A file of a commit: its revision in the new tree.
-ghost use Rattle.std.specs.Prelude.{◌≡◌, ◌<◌, ◌^◌, ◌∷◌, ◌++◌, [], true, length, is_ok, IfOk, IfSome, OnOk, ◌≤◌, false, Ok};
+ghost use Rattle.std.specs.Prelude.{◌≡◌, ◌<◌, ◌^◌, ◌++◌, [], true, length, IfOk, IfSome, OnOk, ◌≤◌, false, Ok};
 ghost use Rattle.hgs_index.specs.FileText.{plain_prefix};
-ghost use Rattle.hgs_index.specs.Manifest.{Row};
-ghost use Rattle.hgs_manifest.specs.Held.{with_last};
 ghost use Rattle.hgs_load.specs.Answer.{HasFaultCause};
 ghost use Rattle.hgs_revlog.specs.Loaded.{AreEntries, parents_in};
 ghost use Rattle.std.specs.Option.{option_map};
@@ -18,7 +16,6 @@ ghost use Rattle.hgs_commit.specs.Tree.{ClashIn, adding, files_in};
 ghost use Rattle.hgs_files.specs.Tree.{after_all};
 ghost use Rattle.hgs_commit.specs.Obstacles.{ClashBehind, either_list, met_of, noted, noting, with_all};
 ghost use Rattle.hgs_commit.specs.Walk.{told_of_found};
-ghost use Rattle.hgs_index.specs.Manifest.{last_path};
 
 use crate::filelog::Filelog;
 use crate::filelogs::{load_filelog, revise_in};

@@ -1,9 +1,8 @@
 //! What is appended of what a text became, or what keeps it from being written.
-ghost use Rattle.std.specs.Prelude.{◌≡◌, true, false, is_some, IfOk, IfSome, length};
+ghost use Rattle.std.specs.Prelude.{◌≡◌, true, false, is_some, IfOk, IfSome};
 ghost use Rattle.std.specs.Option.{option_map};
 ghost use Rattle.hgs_bytes.specs.Bytes.{same};
 ghost use Rattle.hgs_index.specs.Node.{null_node};
-ghost use Rattle.hgs_revlog.specs.Load.{entry_behind};
 ghost use Rattle.hgs_revlog.specs.Loaded.{AreEntries};
 ghost use Rattle.hgs_commit.specs.Hindered.{is_met};
 ghost use Rattle.hgs_commit.specs.Appended.{is_beside_path};

@@ -1,8 +1,8 @@
 //! What a text becomes in a revlog, and what is appended to the revlog's two files.
-ghost use Rattle.std.specs.Prelude.{◌≡◌, ◌<◌, ◌≤◌, ◌^◌, ◌++◌, ◌∷◌, [], true, false, codes, length, slice_get, OnOk, IfOk, IfSome};
+ghost use Rattle.std.specs.Prelude.{◌≡◌, ◌<◌, ◌^◌, false, length, IfOk, IfSome};
 ghost use Rattle.std.specs.Option.{option_copied};
 ghost use Rattle.hgs_bytes.specs.Answer.{Gives};
-ghost use Rattle.hgs_index.specs.Revision.{Revision, parent_node};
+ghost use Rattle.hgs_index.specs.Revision.{parent_node};
 ghost use Rattle.hgs_revlog.specs.Add.{added, entry_with, next_entry, IsChunkOf};
 ghost use Rattle.hgs_revlog.specs.Fault.{is_memory};
 ghost use Rattle.hgs_revlog.specs.Log.{nodes_of};

@@ -1,5 +1,5 @@
 //! What keeps an accepted commit from being written.
-ghost use Rattle.std.specs.Prelude.{◌≡◌, [], true, false, None, Some, OnOk};
+ghost use Rattle.std.specs.Prelude.{◌≡◌, true, false, None, Some, OnOk};
 ghost use Rattle.hgs_model.specs.History.{first_of};
 ghost use Rattle.hgs_commit.specs.Hindered.{is_met, refusal_of};
 ghost use Rattle.hgs_commit.specs.Obstacles.{collides, met_of, nothing_met, noted_one, passes, stands};

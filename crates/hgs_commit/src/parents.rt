@@ -1,6 +1,6 @@
 //! The parents of the revisions that a commit makes.
-ghost use Rattle.std.specs.Prelude.{◌≡◌, ◌<◌, ◌++◌, ◌∷◌, [], length, take, Some, IfOk, IfSome};
-ghost use Rattle.hgs_index.specs.Revision.{Parents, ParentsBefore};
+ghost use Rattle.std.specs.Prelude.{◌≡◌, ◌<◌, length, Some, IfOk, IfSome};
+ghost use Rattle.hgs_index.specs.Revision.{ParentsBefore};
 ghost use Rattle.hgs_model.specs.History.{file_parents_of, manifest_parents_of};
 ghost use Rattle.hgs_revlog.specs.Loaded.{parents_in};
 

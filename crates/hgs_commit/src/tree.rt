@@ -1,7 +1,6 @@
 //! The tree of a commit that is under way: its files up to some path, and what they change.
 ghost use Rattle.std.specs.Prelude.{◌≡◌, ◌≤◌, ◌<◌, ◌+◌, ◌*◌, ◌++◌, ◌∷◌, [], true, length, map, is_ok, Some, OnOk, IfOk};
 ghost use Rattle.std.specs.List.{list_all};
-ghost use Rattle.hgs_index.specs.Manifest.{Row};
 ghost use Rattle.hgs_manifest.specs.Held.{with_last};
 ghost use Rattle.hgs_model.specs.History.{first_of, in_order, inserted};
 ghost use Rattle.std.specs.Option.{ForSome, option_map};

@@ -1,6 +1,5 @@
 //! The rows of a parent's manifest, passed in the order of their paths.
 ghost use Rattle.std.specs.Prelude.{◌≡◌, ◌≤◌, ◌++◌, ◌∷◌, [], List, length, map, OnOk, option_map};
-ghost use Rattle.hgs_manifest.specs.Held.{view_row};
 ghost use Rattle.hgs_commit.specs.Walk.{before, behind_row, first_row, from_path, told_of_found, told_of_row};
 
 use hgs_bytes::bytes::Bytes;

@@ -1,5 +1,5 @@
 //! A revision with two parents goes through load, add and push, and is found again.
-ghost use Rattle.std.specs.Prelude.{◌≡◌, ◌<◌, ◌≤◌, false, length, OnOk};
+ghost use Rattle.std.specs.Prelude.{◌≡◌, ◌<◌, ◌≤◌, false, length};
 
 use hgs_index::node::Node;
 use hgs_revlog::add::Added;

@@ -29,7 +29,7 @@ use Rattle.hgs_findings.specs.Namings.{FollowsRules}
 use Rattle.hgs_findings.specs.Sight.{Sight, Seen, value, place, row_paths, seen}
 use Rattle.hgs_findings.specs.Regular.{rows_of_seen, used_paths, is_used, has_file, IsRegular}
 use Rattle.hgs_findings.specs.Reading.{Log, the_changelog, the_manifest, the_filelog, index_in, data_in, sight_of, IsWholeReading}
-use Rattle.hgs_findings.specs.Findings.{IsFinding, is_looked_at, revisions_in, namings_in, roots_in, mark_lines_in, names_in, dirstate_in, known, is_name_used, is_unknown_parent, paths_of_seen, paths_at_node, have_same, tracks_others, AreWithin}
+use Rattle.hgs_findings.specs.Findings.{IsFinding, is_looked_at, revisions_in, namings_in, roots_in, mark_lines_in, names_in, dirstate_in, known, is_unknown_parent, paths_of_seen, paths_at_node, have_same, tracks_others, AreWithin}
 use Rattle.hgs_findings.specs.Findings as found
 use Rattle.hgs_findings.proofs.Basics.{same-eq, same-refl, bool, never, none-some, some-same, and-left, and-right}
 use Rattle.hgs_findings.proofs.LogLemmas.{IsLog, position-none}

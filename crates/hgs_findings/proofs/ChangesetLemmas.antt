@@ -22,7 +22,7 @@ use Rattle.hgs_model.specs.Theorems.CountLemmas.{sound-more, changelog-one}
 use Rattle.hgs_stands.specs.Theorems.ListedLemmas.{node_at-front}
 use Rattle.hgs_findings.specs.Built.{above}
 use Rattle.hgs_findings.specs.Namings.{makes, untold, Naming, FollowsRules}
-use Rattle.hgs_findings.specs.Sight.{Sight, Seen, Use, unknown, absent, at, place, row_paths, use_of_place, use_of_row, use_in, use_of, use_at, kept_or_made, file_rule, file_naming, naming_of, manifest_rule, manifest_naming, manifest_parent, told, tree_file, changeset_with, flag_in, is_other_flag, is_made, differ, lists_wrongly, is_wrongly_listed}
+use Rattle.hgs_findings.specs.Sight.{Sight, Seen, Use, absent, at, place, row_paths, use_of_place, use_of_row, use_in, use_of, use_at, kept_or_made, file_rule, file_naming, naming_of, manifest_rule, manifest_naming, manifest_parent, told, tree_file, flag_in, is_other_flag, is_made, differ, is_wrongly_listed}
 use Rattle.hgs_findings.specs.Sight as sight
 use Rattle.hgs_findings.proofs.Basics.{same-eq, never, found-has}
 use Rattle.hgs_findings.proofs.NamingLemmas.{above-push, above-none, made-step}

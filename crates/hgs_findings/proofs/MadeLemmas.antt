@@ -26,7 +26,7 @@ use Rattle.hgs_stands.specs.Theorems.ListedLemmas.{rev-same, length-nodes, node_
 use Rattle.hgs_stands.specs.Theorems.ManifestLemmas.{rows-good}
 use Rattle.hgs_findings.specs.Built.{above, IsOld, IsNew, IsGood, IsBuilt}
 use Rattle.hgs_findings.specs.Namings.{makes, untold, Naming}
-use Rattle.hgs_findings.specs.Sight.{Sight, Seen, Use, unknown, absent, at, value, place, row_paths, tracked_rows, seen, seen_of, rows_of as sight_rows, use_of_place, use_of_row, use_in, use_of, use_at, kept_or_made, rule_with, file_rule, file_naming, naming_of, manifest_rule, manifest_naming, manifest_parent, told, flag_in, is_other_flag, is_made, differ, lists_wrongly, is_wrongly_listed}
+use Rattle.hgs_findings.specs.Sight.{Sight, Seen, Use, absent, at, value, place, row_paths, tracked_rows, seen_of, rows_of as sight_rows, use_of, use_at, kept_or_made, rule_with, file_rule, file_naming, naming_of, manifest_rule, manifest_naming, manifest_parent, told, flag_in, is_other_flag, is_made, differ, is_wrongly_listed}
 use Rattle.hgs_findings.specs.Sight as sight
 use Rattle.hgs_findings.proofs.Basics.{same-eq, same-refl, never, none-some, some-same, and-left, and-right, all-push, found-has, slice_get-front, slice_get-last}
 use Rattle.hgs_findings.proofs.NamingLemmas.{above-push, above-none}

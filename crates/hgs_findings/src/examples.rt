@@ -3,12 +3,11 @@
 ghost use Rattle.hgs_bytes.specs.Text.{line, lines};
 ghost use Rattle.hex.specs.Hex.{IsBytes};
 ghost use Rattle.hgs_files.specs.Tree.{bytes_at, with_file};
-ghost use Rattle.std.specs.Prelude.{◌≡◌, ◌++◌, ◌∷◌, ℕ, List, [], Bool, true, false, codes, map, take, None, Some};
+ghost use Rattle.std.specs.Prelude.{◌≡◌, ◌++◌, ◌∷◌, ℕ, List, [], true, false, codes, map, take, None, Some};
 ghost use Rattle.hgs_findings.specs.Built.{AreTold, IsBuilt};
 ghost use Rattle.hgs_findings.specs.Findings.{AreWithin, IsFinding, IsReport, repo_of, rise};
 ghost use Rattle.hgs_findings.specs.Namings.{first_use, is_misplaced, is_unneeded, is_wrongly_made};
 ghost use Rattle.hgs_findings.specs.OnePath.{lists_word_wrongly, words};
-ghost use Rattle.hgs_findings.specs.Reading.{reading, sight_of, the_changelog, the_filelog, the_manifest};
 ghost use Rattle.hgs_findings.specs.Regular.{used_paths};
 ghost use Rattle.hgs_findings.specs.Samples.{drafts_at, drafts_behind, drafts_with, strange_digits, strange_node, five_namings, finding, inline_a, inline_changelog, inline_drafts, kept_as, listing_files, made, merged_sight, lost_files, needless_files, three_revisions, turned_files};
 ghost use Rattle.hgs_findings.specs.Sight.{changesets_of, file_namings, manifest_namings};

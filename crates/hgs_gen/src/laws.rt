@@ -1,5 +1,5 @@
 //! Each function is one law; none does anything.
-ghost use Rattle.std.specs.Prelude.{ℕ, ◌<◌, ◌≤◌, ◌^◌};
+ghost use Rattle.std.specs.Prelude.{ℕ, ◌<◌, ◌^◌};
 ghost use Rattle.hgs_gen.specs.Generated.{generated};
 ghost use Rattle.hgs_model.specs.Valid.{IsNewChange};
 

@@ -1,14 +1,13 @@
 //! Commits of the changesets that a number gives.
-ghost use Rattle.std.specs.Prelude.{◌≡◌, ◌≤◌, ◌<◌, ◌+◌, ◌*◌, ℕ, List, Some, Ok, IfOk, IsOk, is_some, length};
+ghost use Rattle.std.specs.Prelude.{◌≡◌, ◌≤◌, ◌<◌, ◌+◌, ℕ, List, Ok, IfOk, is_some, length};
 ghost use Rattle.hgs_files.specs.declared.op.Op.{Op};
 ghost use Rattle.hgs_files.specs.Files.{GoesOn};
-ghost use Rattle.hgs_gen.specs.Generated.{files_after, generated, number_after};
+ghost use Rattle.hgs_gen.specs.Generated.{files_after, number_after};
 ghost use Rattle.hgs_machine.specs.Carry.{tree_now};
 ghost use Rattle.hgs_machine.specs.Refusals.{WereRefused, refusals_of_left};
 ghost use Rattle.hgs_model.specs.declared.command.Command.TheVariants.{Commit};
 ghost use Rattle.hgs_model.specs.declared.command.NewChange.{NewChange};
-ghost use Rattle.hgs_writer.specs.Written.{IsWritten};
-ghost use Rattle.hgs_grown.specs.Grown.{AreCommitted, CommitsNext, GrowsTo, LeftHasCause, last_of};
+ghost use Rattle.hgs_grown.specs.Grown.{CommitsNext, GrowsTo, LeftHasCause, last_of};
 
 use hgs_answers::answer::Answer;
 use hgs_answers::outcome::Outcome;

@@ -1,5 +1,5 @@
 -- What failed in the calls of a session was counted.
-use Rattle.std.proofs.Common.{◌≡◌, ◌⊎◌, ◌≤◌, ◌<◌, ℕ, ◌+◌, Bool, List, [], ◌∷◌, refl, ap, sym, subst, arith, inl, inr}
+use Rattle.std.proofs.Common.{◌≡◌, ◌≤◌, ◌<◌, ℕ, ◌+◌, Bool, List, [], ◌∷◌, refl, ap, subst, arith, inl, inr}
 use Rattle.std.specs.Prelude.{is_some, sum_by}
 use Rattle.std.specs.List.{FoldsTo}
 use Rattle.std.proofs.lemmas.List.Sums.{sum_by-cons}

@@ -1,5 +1,5 @@
 -- No worker of a session falls back.
-use Rattle.std.proofs.Common.{◌≡◌, ℕ, suc, List, [], ◌∷◌, ◌++◌, refl, sym, ◌∙◌, ap, subst}
+use Rattle.std.proofs.Common.{◌≡◌, ℕ, suc, List, [], ◌∷◌, sym, subst}
 use Rattle.std.specs.Prelude.{IfSome, Option, Some}
 use Rattle.std.specs.List.{AllByRecursion, FoldsTo}
 use mathlib.Core.List.{IsPrefix}

@@ -9,3 +9,4 @@ pub mod Refused
 pub mod Histories
 pub mod Working
 pub mod Kept
+pub mod SampleLemmas

@@ -17,7 +17,7 @@ use Rattle.hgs_model.specs.declared.command.Command.{Command}
 use Rattle.hgs_script.specs.declared.job.Job.{Job}
 use Rattle.hgs_script.specs.declared.job.Job.TheVariants.{Change}
 use Rattle.hgs_script.specs.declared.result.PublishedJob.{PublishedJob}
-use Rattle.hgs_session.specs.Calls.{Beginning, Call, IsCall, Makes, Stage, job_in, name_of, published_of, unsure_of}
+use Rattle.hgs_session.specs.Calls.{AreInOrder, Beginning, Call, IsCall, Makes, Stage, job_in, name_of, published_of, unsure_of}
 use Rattle.hgs_stands.specs.Stands.{Stands}
 use Rattle.hgs_pieces.specs.Made.{HasNoLocks}
 use Rattle.hgs_writer.specs.Alone.{HasWhatItNeeds, IsBarred, IsOutcomeOf, ReadsWithin}
@@ -108,7 +108,7 @@ HaveWhatTheyNeed x old calls last makes =
     (front back : List Call) (c : Call) (now : Repo) (command : Command) → calls ≡ front ++ c ∷ back → job_in x.jobs c.worker c.job ≡ Some (Change command)
     → Stands (tree_now (stage_behind x old calls last makes front).log x.start) now → HasWhatItNeeds (tree_now (stage_behind x old calls last makes front).log x.start) now command
 
--- So it is whatever calls the jobs make from this tree.
+-- So it is whatever calls the jobs make in their order from this tree.
 abbrev pub AlwaysHaveWhatTheyNeed : List (List Job) → Tree → Type 0
 AlwaysHaveWhatTheyNeed jobs start =
-    (x : Beginning) (calls : List Call) (last : Stage) (makes : Makes x calls last) → x.jobs ≡ jobs → x.start ≡ start → x.first.log ≡ Some [] → HaveWhatTheyNeed x x.first calls last makes
+    (x : Beginning) (calls : List Call) (last : Stage) (makes : Makes x calls last) → AreInOrder calls → x.jobs ≡ jobs → x.start ≡ start → x.first.log ≡ Some [] → HaveWhatTheyNeed x x.first calls last makes

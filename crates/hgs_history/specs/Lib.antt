@@ -2,3 +2,4 @@ pub mod History
 pub mod Once
 pub mod Workers
 pub mod Kept
+pub mod Samples

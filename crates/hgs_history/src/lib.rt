@@ -2,4 +2,5 @@
 //! order.
 #![tactic(auto)]
 
+pub mod examples;
 pub mod laws;

@@ -37,8 +37,8 @@ ties_at w = leading_ties w.book.front.sure.book w.base
 abbrev pub tally_at : {P T : Type 0} → HubWriter P T → Tally
 tally_at w = tally_of w.base
 
--- what a writing end did, over which files at rest and of which book, is the same
+-- what a writing end did, over which files at rest and of which book, and what it has counted, is the same
 abbrev pub IsSameWriter : {P T : Type 0} → HubWriter P T → HubWriter P T → Type 0
 IsSameWriter old new =
-    (new.log.items ≡ old.log.items) × (log_of new.base ≡ log_of old.base) × (start_of new.base ≡ start_of old.base)
+    (new.log.items ≡ old.log.items) × (log_of new.base ≡ log_of old.base) × (start_of new.base ≡ start_of old.base) × (tally_of new.base ≡ tally_of old.base)
     × (new.book.front.sure.book ≡ old.book.front.sure.book)

@@ -94,8 +94,9 @@ impl<P: Protocol, T: Wait + Drop + Send> Yard for Hub<P, T> {
         ensures readers { IfOk result (λ hub. All (λ r. EndsWithin (Some (done_by w)) (Some (seen_by r)) (ties_by r).told) rs.items) }
         ensures faults { IfOk result (λ hub. (tally_of (files_of hub)).faults ≡ counted (tally_at w).faults (total_of (λ r. (tally_by r).faults) rs.items)) }
         ensures denied { IfOk result (λ hub. (tally_of (files_of hub)).denied ≡ counted (tally_at w).denied (total_of (λ r. (tally_by r).denied) rs.items)) }
-        ensures same { IfErr result (λ ends. (Some (done_by ends.0) ≡ Some (done_by w)) × (ties_at ends.0 ≡ ties_at w)) }
-        ensures same_readers { IfErr result (λ ends. AllZip (λ r s. (ties_by s ≡ ties_by r) × (Some (seen_by s) ≡ Some (seen_by r))) rs.items ends.1.items) }
+        ensures same { IfErr result (λ ends. (Some (done_by ends.0) ≡ Some (done_by w)) × (base_of ends.0 ≡ base_of w) × (ties_at ends.0 ≡ ties_at w)) }
+        ensures same_counts { IfErr result (λ ends. ((tally_at ends.0).faults ≡ (tally_at w).faults) × ((tally_at ends.0).denied ≡ (tally_at w).denied)) }
+        ensures same_readers { IfErr result (λ ends. AllZip (λ r s. (ties_by s ≡ ties_by r) × (Some (seen_by s) ≡ Some (seen_by r)) × ((tally_by s).faults ≡ (tally_by r).faults) × ((tally_by s).denied ≡ (tally_by r).denied)) rs.items ends.1.items) }
         ensures same_home { IfErr result (λ ends. All (λ r. (ties_by r).home ≡ (ties_at w).home) ends.1.items) }
     {
         match w.close(rs) {

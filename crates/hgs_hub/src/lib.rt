@@ -7,7 +7,6 @@ pub mod front;
 pub mod hub;
 pub mod moment;
 mod open;
-pub mod past;
 pub mod reader;
 pub mod rule;
 pub mod show;

@@ -1,9 +1,9 @@
 //! Index entries: 64 bytes for each revision, all numbers big-endian (Mercurial's help page `internals.revlogs`).
-ghost use Rattle.std.specs.Prelude.{◌≡◌, ℕ, ◌+◌, ◌<◌, ◌≤◌, ◌^◌, List, length, take, drop, Some, None};
-ghost use Rattle.std.specs.Int.{w16, w64, from_be_bytes};
+ghost use Rattle.std.specs.Prelude.{◌≡◌, ◌+◌, ◌<◌, ◌^◌, length, Some, None};
+ghost use Rattle.std.specs.Int.{from_be_bytes};
 ghost use Rattle.hgs_index.specs.declared.entry.Entry.{Entry};
 ghost use Rattle.hgs_index.specs.declared.entry.Header.{Header};
-ghost use Rattle.hgs_index.specs.Entry.{Fits, head_bytes, parent_number, entry_at, entry_bytes, number_at, part, has_negative, has_padding, is_negative, is_no_parent, is_nonzero, parent_of, offset_of};
+ghost use Rattle.hgs_index.specs.Entry.{Fits, head_bytes, parent_number, entry_at, entry_bytes, part, has_negative, has_padding, is_negative, is_no_parent, is_nonzero, parent_of, offset_of};
 
 use crate::fields::{u16_at, u32_at};
 use crate::head::has_bad_flags;

@@ -1,5 +1,5 @@
 //! What the definitions of this crate imply. Each function is one law; none does anything.
-ghost use Rattle.std.specs.Prelude.{◌≡◌, ◌⊎◌, ◌↔◌, false, true, Bool, ℕ, ◌<◌, ◌*◌, ◌++◌, List, [], ◌∷◌, length, take, map, None, Some, Ok, IsSome, IfSome, Option, position, slice_index_or};
+ghost use Rattle.std.specs.Prelude.{◌≡◌, ◌⊎◌, ◌↔◌, false, true, Bool, ℕ, ◌<◌, ◌*◌, ◌++◌, List, [], ◌∷◌, length, take, None, Some, Ok, IsSome, IfSome, Option, position, slice_index_or};
 ghost use Rattle.hex.specs.Hex.{IsBytes};
 ghost use Rattle.hgs_bytes.specs.Bytes.{among, begins_with, same};
 ghost use Rattle.hgs_index.specs.declared.entry.Entry.{Entry};

@@ -1,5 +1,5 @@
 //! The names of a transaction's files, and the paths of names in the store and beside it.
-ghost use Rattle.std.specs.Prelude.{◌≡◌, ◌++◌, IfOk, codes, true};
+ghost use Rattle.std.specs.Prelude.{◌≡◌, IfOk, true};
 ghost use Rattle.hgs_files.specs.Path.{is_store_path};
 ghost use Rattle.hgs_journal.specs.Names.{backup_name, new_name, place};
 

@@ -14,7 +14,7 @@ use Rattle.std.proofs.lemmas.Cmp.{nat_cmp_total, nat_list_cmp_total}
 use Rattle.std.proofs.lemmas.List.Sorted.{list_any-IsPermutation}
 use Rattle.hgs_bytes.specs.Bytes.{same, is_below}
 use Rattle.hgs_findings.specs.Findings as findings
-use Rattle.hgs_findings.specs.Findings.{is_rev_below, is_same_rev, is_finding_below, is_finding, rise}
+use Rattle.hgs_findings.specs.Findings.{is_rev_below, is_same_rev, is_finding_below, rise}
 use Rattle.hgs_judge.specs.declared.report.Finding.{Finding}
 use Rattle.hgs_judge.specs.Report.{each_from, finding_in, findings_in}
 use Rattle.hgs_judge.proofs.Basics.{never, eq-test}

@@ -1,5 +1,5 @@
 //! The trees of the changesets, and what they say of a path.
-ghost use Rattle.std.specs.Prelude.{◌≡◌, ◌≤◌, List, ℕ, Some, true, length, IfOk, IfErr, map, is_ok};
+ghost use Rattle.std.specs.Prelude.{◌≡◌, ◌≤◌, List, Some, true, length, IfOk, IfErr, map, is_ok};
 ghost use Rattle.std.specs.Option.{option_map};
 ghost use Rattle.hgs_bytes.specs.Bytes.{among};
 ghost use Rattle.hgs_bytes.specs.Text.{ascends};

@@ -1,5 +1,5 @@
 //! What the changesets say of one path, and which revisions of its filelog they name.
-ghost use Rattle.std.specs.Prelude.{◌≡◌, ◌<◌, ◌&&◌, ℕ, List, Some, None, length, map, IfOk, IfSome, is_some};
+ghost use Rattle.std.specs.Prelude.{◌≡◌, ◌<◌, ◌&&◌, ℕ, List, Some, None, length, IfOk, IfSome, is_some};
 ghost use Rattle.hgs_index.specs.FileText.{body_of};
 ghost use Rattle.hgs_index.specs.Revision.{ParentsBefore, Revision};
 ghost use Rattle.hgs_model.specs.History.{file_parents_of, first_of, kept_of, same_flag, text_at};
@@ -8,7 +8,7 @@ ghost use Rattle.hgs_findings.specs.OnePath as one_path;
 ghost use Rattle.hgs_findings.specs.Namings as findings;
 ghost use Rattle.hgs_findings.specs.Sight.{differ, file_rule, flag_in, is_changed, is_known, is_other_flag, naming_of, rev_in, rule_of};
 ghost use Rattle.hgs_revlog.specs.Loaded.{parents_in};
-ghost use Rattle.hgs_judge.specs.Kinds.{naming_in, namings_in, rule_in};
+ghost use Rattle.hgs_judge.specs.Kinds.{naming_in, rule_in};
 ghost use Rattle.hgs_judge.specs.Read.{AreRead, revisions_in};
 ghost use Rattle.hgs_judge.specs.Words.{AreAmong, AreHeard, IsAmong, is_listed_wrongly, lacks_found, row_in, use_in, uses_in, uses_of, word_in, words_in};
 

@@ -1,5 +1,5 @@
 //! Files that Mercurial wrote and values of its formats.
-ghost use Rattle.std.specs.Prelude.{◌≡◌, false};
+ghost use Rattle.std.specs.Prelude.{false};
 
 use hgs_files::path::StorePath;
 use hgs_index::kinds::Flag;

@@ -1,5 +1,5 @@
 //! Why a reader refuses, and how that is printed.
-ghost use Rattle.std.specs.Prelude.{◌≡◌, ◌++◌, ◌∷◌, [], codes, OnOk, OnErr, IfOk};
+ghost use Rattle.std.specs.Prelude.{◌≡◌, ◌++◌, codes, OnOk, OnErr, IfOk};
 ghost use Rattle.hgs_load.specs.Answer.{status_of, refusal_text, refusal_line, read_fault};
 
 use hgs_bytes::bytes::Bytes;

@@ -1,5 +1,5 @@
 //! One read of a file that others may change meanwhile.
-ghost use Rattle.std.specs.Prelude.{◌≡◌, ◌≤◌, [], Bool, true, length, unwrap_or, IfOk, IfSome};
+ghost use Rattle.std.specs.Prelude.{◌≡◌, ◌≤◌, [], true, length, unwrap_or, IfOk, IfSome};
 ghost use Rattle.hgs_files.specs.Reads.{Grows};
 ghost use Rattle.hgs_load.specs.Answer.{HasFaultCause};
 ghost use Rattle.hgs_load.specs.Asks.{IsPart};

@@ -68,7 +68,7 @@ pub struct LoadMachine {
 }
 
 impl LoadMachine {
-    ghost use Rattle.std.specs.Prelude.{◌≡◌, ◌<◌, List, ℕ, IfOk, OnOk, Ok, Option, None, true, false, is_some};
+    ghost use Rattle.std.specs.Prelude.{◌≡◌, ◌<◌, IfOk, OnOk, Ok, Option, None, true, false, is_some};
     ghost use Rattle.std.specs.Option.{option_copied};
     ghost use Rattle.hgs_load.specs.Answer.{NeverFaults};
     ghost use Rattle.hgs_load.specs.Asks.{answer};

@@ -216,7 +216,7 @@ pub struct IndexLoad {
 }
 
 impl IndexLoad {
-    ghost use Rattle.std.specs.Prelude.{◌≡◌, ◌+◌, ◌<◌, ◌≤◌, [], List, ℕ, IfOk, OnOk, Ok, None, Option, is_some};
+    ghost use Rattle.std.specs.Prelude.{◌≡◌, ◌+◌, ◌<◌, ◌≤◌, [], IfOk, OnOk, Ok, None, Option, is_some};
     ghost use Rattle.std.specs.Option.{option_copied};
     ghost use Rattle.hgs_bytes.specs.Answer.{Gives};
     ghost use Rattle.hgs_load.specs.Answer.{is_of_outside, NeverFaults};

@@ -1,6 +1,5 @@
 //! Whether a history goes on from an older one.
 ghost use Rattle.std.specs.Prelude.{◌≡◌, ◌<◌, ◌-◌, ◌&&◌, length, slice_get, false};
-ghost use Rattle.hgs_plan.specs.declared.damage.Part.TheVariants.{Shrunk};
 ghost use Rattle.hgs_load.specs.Refresh.{same_parent, same_lengths, same_links, same_entry, first_changed, is_this, behind_last};
 ghost use Rattle.hgs_revlog.specs.Load.{separate_at};
 ghost use Rattle.std.specs.Option.{option_map};

@@ -1,5 +1,5 @@
 //! The file `requires`: what a repository requires of its readers.
-ghost use Rattle.std.specs.Prelude.{◌≡◌, not, find, false};
+ghost use Rattle.std.specs.Prelude.{◌≡◌, false};
 ghost use Rattle.std.specs.Option.{option_map, option_copied};
 ghost use Rattle.hgs_bytes.specs.Answer.{Gives};
 ghost use Rattle.hgs_bytes.specs.Bytes.{among};

@@ -1,5 +1,5 @@
 -- An index of either form, as it is read.
-use Rattle.std.proofs.Common.{◌≡◌, ◌<◌, ℕ, List, Bool, true, false, cond, length, take, Result, Ok, Err, sym, ◌∙◌, ap, subst, arith}
+use Rattle.std.proofs.Common.{◌≡◌, ◌<◌, ℕ, List, true, false, cond, length, take, Result, Ok, Err, sym, ◌∙◌, ap, subst, arith}
 use Rattle.std.proofs.lemmas.List.{length-take, take_all}
 use Rattle.std.specs.Prelude.{⊤}
 use Rattle.std.specs.Bool.{MatchBool}
@@ -7,11 +7,8 @@ use Rattle.hgs_bytes.specs.Answer.{Gives}
 use Rattle.hgs_files.specs.Tree.{Tree, bytes_at}
 use Rattle.hgs_load.specs.declared.answer.ReadAnswer.{ReadAnswer}
 use Rattle.hgs_load.specs.Answer.{is_of_outside}
-use Rattle.hgs_load.specs.View.{log_answer}
-use Rattle.hgs_revlog.specs.declared.fault.Tail.TheVariants.{Refuse}
-use Rattle.hgs_revlog.specs.Load.{loaded_either}
 use Rattle.hgs_revlog.specs.Log.{Log}
-use Rattle.hgs_loading.specs.Logs.{either_index_in, either_log_in, has_more, index_in}
+use Rattle.hgs_loading.specs.Logs.{either_index_in, has_more, index_in}
 use Rattle.hgs_loading.specs.Theorems.FoundLemmas.{either}
 
 abbrev Bytes : Type 0

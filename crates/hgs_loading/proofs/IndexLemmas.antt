@@ -8,7 +8,6 @@ use Rattle.hgs_files.specs.Tree.{Tree, after_all, bytes_at}
 use Rattle.hgs_load.specs.declared.answer.ReadAnswer.{ReadAnswer}
 use Rattle.hgs_load.specs.Asks.{IsPart, part_of}
 use Rattle.hgs_load.specs.View.{piece_length}
-use Rattle.hgs_loading.specs.Logs.{most_index, index_in}
 use Rattle.hgs_loading.specs.Theorems.FoundLemmas.{told-read}
 use Rattle.hgs_loading.proofs.PartLemmas.{part-bytes}
 

@@ -1,5 +1,5 @@
 -- A revlog as it is loaded before more is appended to it, and its texts.
-use Rattle.std.specs.Prelude.{ℕ, ◌*◌, ◌==◌, ◌&&◌, nat_le, Bool, true, false, List, [], length, take, Result, Ok, Err, slice_get, if◌then◌else◌}
+use Rattle.std.specs.Prelude.{ℕ, ◌*◌, ◌==◌, ◌&&◌, nat_le, Bool, true, false, List, length, take, Result, Ok, Err, slice_get, if◌then◌else◌}
 use Rattle.hgs_files.specs.Tree.{Tree, bytes_at}
 use Rattle.std.specs.Option.{option_map}
 use Rattle.hgs_index.specs.Inline.{is_inline}

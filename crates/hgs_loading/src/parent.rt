@@ -1,11 +1,10 @@
 //! The manifest of a changeset on which a new one is made.
-ghost use Rattle.std.specs.Prelude.{◌≡◌, ◌<◌, ◌≤◌, true, length, IfOk, IfSome};
+ghost use Rattle.std.specs.Prelude.{◌≡◌, ◌<◌, true, length, IfOk, IfSome};
 ghost use Rattle.hgs_bytes.specs.Answer.{Gives};
 ghost use Rattle.hgs_changelog.specs.View.{view_change};
 ghost use Rattle.hgs_files.specs.Reads.{Grows};
 ghost use Rattle.hgs_index.specs.ChangeText.{read_change};
 ghost use Rattle.hgs_revlog.specs.Loaded.{HaveSmallTexts};
-ghost use Rattle.hgs_revlog.specs.Log.{place_of};
 ghost use Rattle.hgs_load.specs.Answer.{is_of_outside, HasFaultCause, NeverFaults};
 ghost use Rattle.hgs_reader.specs.Contents.{manifest_index};
 ghost use Rattle.hgs_reader.specs.Line.{change_of_text};

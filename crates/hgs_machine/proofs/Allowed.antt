@@ -1,6 +1,6 @@
 -- What is asked of the files is what the call may leave when it breaks off behind that.
 use Rattle.std.proofs.Common.{◌≡◌, ℕ, ◌+◌, List, [], ◌∷◌, ◌++◌, refl, sym, ◌∙◌, ap, subst, inl, inr, append_assoc, append-nil, length, Bool, true, false}
-use Rattle.std.specs.Prelude.{Option, None, Result, Ok, Err, if◌then◌else◌, nat_lt}
+use Rattle.std.specs.Prelude.{Option, None, Ok, Err, if◌then◌else◌, nat_lt}
 use Rattle.hgs_files.specs.declared.op.Op.{Op}
 use Rattle.hgs_files.specs.declared.op.Op.TheVariants.{Append, Cut, Rename, Remove, Create, Sync, Settle}
 use Rattle.hgs_files.specs.Files.{GoesOn, MayCreate, MayDo}
@@ -11,7 +11,7 @@ use Rattle.hgs_machine.specs.declared.ended.Short.TheVariants.{Done as AllDone}
 use Rattle.hgs_machine.specs.declared.locks.LockRefusal.{LockRefusal}
 use Rattle.hgs_machine.specs.declared.locks.LockRefusal.TheVariants.{Fault}
 use Rattle.hgs_machine.specs.declared.machine.Machine.{Machine}
-use Rattle.hgs_machine.specs.declared.machine.Reply.TheVariants.{Done, Failed, Memory}
+use Rattle.hgs_machine.specs.declared.machine.Reply.TheVariants.{Done, Memory}
 use Rattle.hgs_machine.specs.declared.machine.Stage.{Stage}
 use Rattle.hgs_machine.specs.declared.machine.Stage.TheVariants.{Preparing, Beginning, Working, Publishing, Asking, Finishing, Undoing, Dropping, Sweeping, Removing}
 use Rattle.hgs_machine.specs.Asked.{Doing, Ending, Question, Sizing, asked}

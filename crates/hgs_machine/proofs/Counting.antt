@@ -1,21 +1,20 @@
 -- How many calls were refused while a machine was run.
-use Rattle.std.proofs.Common.{◌≡◌, ℕ, ◌+◌, ◌-◌, ◌<◌, ◌≤◌, refl, sym, ap, inl, inr, subst, arith, Bool, true, false, ◌&&◌, List, min, max}
+use Rattle.std.proofs.Common.{◌≡◌, ℕ, ◌+◌, ◌-◌, ◌≤◌, refl, sym, ap, inl, inr, subst, arith, Bool, true, false, ◌&&◌, List, max}
 use Rattle.std.specs.Prelude.{Option, Some, None, is_some, if◌then◌else◌, nat_lt, length, slice_get, unwrap_or, ◌==◌}
 use Rattle.hgs_files.specs.declared.op.Op.{Op}
 use Rattle.hgs_files.specs.Files.{GoesOn}
-use Rattle.hgs_files.specs.Reads.{Rises, counted, greatest}
+use Rattle.hgs_files.specs.Reads.{Rises}
 use Rattle.hgs_machine.specs.declared.ended.Ended.{Ended}
-use Rattle.hgs_machine.specs.declared.ended.Published.TheVariants.{No, Yes, Unknown}
 use Rattle.hgs_machine.specs.declared.ended.Short.{Short}
-use Rattle.hgs_machine.specs.declared.ended.Short.TheVariants.{Done as AllDone, Fault, Unfinished, Memory as OutOfMemory}
+use Rattle.hgs_machine.specs.declared.ended.Short.TheVariants.{Done as AllDone, Fault}
 use Rattle.hgs_machine.specs.declared.machine.Machine.{Machine}
 use Rattle.hgs_machine.specs.declared.machine.Reply.{Reply}
 use Rattle.hgs_machine.specs.declared.machine.Reply.TheVariants.{Done, Failed, Memory, Size, SizeFailed, SizeMemory}
 use Rattle.hgs_machine.specs.declared.machine.Stage.{Stage}
 use Rattle.hgs_machine.specs.declared.machine.Stage.TheVariants.{Preparing, Beginning, Working, Publishing, Asking, Finishing, Undoing, Dropping, Sweeping, Removing}
 use Rattle.hgs_machine.specs.Asked.{bytes_in}
-use Rattle.hgs_machine.specs.Carry.{Counted, CountsReply}
-use Rattle.hgs_machine.specs.Fed.{advanced, fed, fed_denied, fed_done, fed_failed, fed_no_size, fed_size, passed, stray_sized, sweeping, undoing, unpublished}
+use Rattle.hgs_machine.specs.Carry.{Counted}
+use Rattle.hgs_machine.specs.Fed.{advanced, fed, fed_denied, fed_done, fed_failed, fed_no_size, fed_size, passed, stray_sized, sweeping, undoing}
 use Rattle.hgs_machine.specs.Locks.{CausesLeft, NeverFall}
 use Rattle.hgs_machine.specs.Refusals.{WereRefused, refusals_at, refusals_in, refusals_of_ended, refusals_of_call, refusals_of_left, refusals_of_lock, refusals_of_locks, refusals_of_short, refusals_so_far}
 use Rattle.hgs_machine.specs.Theorems.RefusedLemmas.{both-refused, fewer-refused}

@@ -188,7 +188,7 @@ undoes-on t m new log more e on last h hand =
     ends n all refusal d = sweeps t m new m.outcome (log ++ more) n h.planned (refusal-ends m.plan m.outcome (log ++ more) refusal (is-undone m.plan (m.place + 1) (log ++ more) all d))
 
 -- the operation at hand is a removal
-removed-whole : (op : Op) (path : List ℕ) (more : List Op) → op ≡ Remove path → Leaves op Done more → more ≡ op ∷ []
+pub removed-whole : (op : Op) (path : List ℕ) (more : List Op) → op ≡ Remove path → Leaves op Done more → more ≡ op ∷ []
 removed-whole op path more e h = subst (λ (o : Op). more ≡ o ∷ []) (sym e) (subst (λ (o : Op). Leaves o Done more) e h)
 
 pub removed-none : (op : Op) (path : List ℕ) (more : List Op) → op ≡ Remove path → Leaves op Failed more → more ≡ []
@@ -236,7 +236,7 @@ is-removal t p place outcome op log planned h at =
     from-commit OutOfMemory h = h
     from-commit (Unfinished published) h = let many = so-many t p planned in omega arith
 
-at-removal : (m : Machine) (op : Op) (path : List ℕ) → slice_get m.plan.ops.items m.place ≡ Some op → op ≡ Remove path → slice_get m.plan.ops.items m.place ≡ Some (Remove path)
+pub at-removal : (m : Machine) (op : Op) (path : List ℕ) → slice_get m.plan.ops.items m.place ≡ Some op → op ≡ Remove path → slice_get m.plan.ops.items m.place ≡ Some (Remove path)
 at-removal m op path at e = at ∙ ap (λ o. Some o) e
 
 pub passes-done : (t : Tree) (m new : Machine) (op : Op) (log more : List Op) → IsPlanned t m.plan → SweepsTo m.plan m.place m.outcome log → SweepsAllTo t m.plan m.place m.outcome m.swept log → slice_get m.plan.ops.items m.place ≡ Some op → Leaves op Done more

@@ -3,24 +3,24 @@ use Rattle.std.proofs.Common.{◌≡◌, ℕ, ◌+◌, ◌-◌, ◌<◌, ◌≤�
 use Rattle.std.specs.Prelude.{◌&&◌, Option, Some, None, IsSome, slice_get, nat_lt, unwrap_or}
 use Rattle.std.proofs.lemmas.Bool.Decides.{nat_tests}
 use Rattle.hgs_files.specs.declared.op.Op.{Op}
-use Rattle.hgs_files.specs.declared.op.Op.TheVariants.{Append, Cut, Rename, Remove, Create, Sync, Settle}
 use Rattle.hgs_files.specs.Tree.{Tree, after_all}
 use Rattle.hgs_transaction.specs.declared.assemble.Plan.{Plan}
 use Rattle.hgs_machine.specs.declared.ended.Short.{Short}
 use Rattle.hgs_machine.specs.declared.ended.Short.TheVariants.{Done as AllDone, Fault, Unfinished, Memory as OutOfMemory}
 use Rattle.hgs_machine.specs.declared.machine.Machine.{Machine}
-use Rattle.hgs_machine.specs.declared.machine.Reply.TheVariants.{Done, Failed, Size}
+use Rattle.hgs_machine.specs.declared.machine.Reply.{Reply}
+use Rattle.hgs_machine.specs.declared.machine.Reply.TheVariants.{Done, Failed, Memory, Size, SizeFailed, SizeMemory}
 use Rattle.hgs_machine.specs.declared.machine.Stage.{Stage}
 use Rattle.hgs_machine.specs.declared.machine.Stage.TheVariants.{Preparing, Beginning, Working, Publishing, Asking, Finishing, Undoing, Dropping, Sweeping, Removing}
-use Rattle.hgs_machine.specs.Asked.{Question, Doing, Sizing, Ending, asked, bytes_in}
-use Rattle.hgs_machine.specs.Fed.{advanced, fed_done, fed_failed, fed_size, is_acknowledged, is_acknowledged_at, is_done_end, is_published, is_published_at, is_published_end, new_machine, stray_sized, sweeping, undoing}
+use Rattle.hgs_machine.specs.Asked.{asked, bytes_in}
+use Rattle.hgs_machine.specs.Fed.{advanced, fed, fed_denied, fed_done, fed_failed, fed_no_size, fed_size, is_acknowledged, is_acknowledged_at, is_done_end, is_published, is_published_at, is_published_end, new_machine, passed, stray_sized, sweeping, undoing}
 use Rattle.hgs_machine.specs.Planned.{IsPlanned}
-use Rattle.hgs_machine.specs.SoFar.{Fits, Leaves, Replies, SoFar}
-use Rattle.hgs_machine.proofs.Feeding.{asking-not, begins, begins-not, drops, drops-not, finishes, finishes-not, gives-up, passes-done, passes-failed, prepares, publishes, sweeps, undoes-not, undoes-on, works, works-stopped}
-use Rattle.hgs_machine.proofs.Pieces.{done-in-part}
-use Rattle.hgs_machine.proofs.Publishing.{sized, unpublished}
+use Rattle.hgs_machine.specs.SoFar.{Fits, HasNoSize, Replies, SoFar}
+use Rattle.hgs_machine.proofs.Feeding.{as-failed, asking-not, begins, begins-not, drops, drops-not, finishes, finishes-not, gives-up, gives-up-beginning, nothing-of-it, passes-done, passes-failed, passes-over, prepares, publishes, publishes-none, sweeps, undoes-not, undoes-on, works, works-stopped}
+use Rattle.hgs_machine.proofs.Pieces.{done-in-part, none-done}
+use Rattle.hgs_machine.proofs.Publishing.{sized, unpublished, unsized}
 use Rattle.hgs_machine.proofs.Replied.{at-stage, fits-at, is-gone, is-here}
-use Rattle.hgs_machine.proofs.Sized.{is-sweeping, stray-sized}
+use Rattle.hgs_machine.proofs.Sized.{fits-of, is-sweeping, of-no-size, size-does-nothing, stray-sized}
 
 -- ---- done
 
@@ -92,21 +92,31 @@ failed-by t m Removing log more e h r =
 pub goes-failed : (m : Machine) (t : Tree) (log more : List Op) → SoFar t m log → Replies (after_all log t) (asked m) Failed more → SoFar t (fed_failed m.stage m) (log ++ more)
 goes-failed m t log more h r = failed-by t m m.stage log more refl h r
 
+-- ---- no memory
+
+denied-by : (t : Tree) (m : Machine) (s : Stage) (log more : List Op) → m.stage ≡ s → SoFar t m log → Replies (after_all log t) (asked m) Memory more → SoFar t (fed_denied s m) (log ++ more)
+denied-by t m Preparing log more e h r =
+    sweeps t m (fed_denied Preparing m) OutOfMemory (log ++ more) refl h.planned (gives-up t m Memory log more e h (λ op. nothing-of-it op more) (at-stage (after_all log t) m Preparing Memory more e tt r))
+denied-by t m Beginning log more e h r =
+    let at = at-stage (after_all log t) m Beginning Memory more e tt r in
+    sweeps t m (fed_denied Beginning m) OutOfMemory (log ++ more) refl h.planned (gives-up-beginning t m log more e h (none-done at.op more at.leaves))
+denied-by t m Working log more e h r = works-stopped t m (fed_denied Working m) OutOfMemory Memory log more e refl tt (λ op. nothing-of-it op more) h (at-stage (after_all log t) m Working Memory more e tt r)
+denied-by t m Publishing log more e h r = publishes-none t m (fed_denied Publishing m) log more e refl h (at-stage (after_all log t) m Publishing Memory more e tt r)
+denied-by t m Asking log more e h r = asking-not (after_all log t) t m Memory log more e h tt r
+denied-by t m Finishing log more e h r = finishes-not t m (fed_denied Finishing m) log more e refl h (as-failed m Finishing more (at-stage (after_all log t) m Finishing Memory more e tt r))
+denied-by t m Undoing log more e h r = undoes-not t m (fed_denied Undoing m) log more e refl h (as-failed m Undoing more (at-stage (after_all log t) m Undoing Memory more e tt r))
+denied-by t m Dropping log more e h r = drops-not t m (fed_denied Dropping m) log more e refl h (as-failed m Dropping more (at-stage (after_all log t) m Dropping Memory more e tt r))
+denied-by t m Sweeping log more e h r =
+    let at = at-stage (after_all log t) m Sweeping Memory more e tt r in
+    passes-over t m (fed_denied Sweeping m) at.op log more h.planned (is-here t m Sweeping log e h) (is-gone t m Sweeping log e h) at.there (none-done at.op more at.leaves) refl
+denied-by t m Removing log more e h r =
+    let at = at-stage (after_all log t) m Removing Memory more e tt r in
+    passes-over t m (fed_denied Removing m) at.op log more h.planned (is-here t m Removing log e h) (is-gone t m Removing log e h) at.there (none-done at.op more at.leaves) refl
+
+pub goes-denied : (m : Machine) (t : Tree) (log more : List Op) → SoFar t m log → Replies (after_all log t) (asked m) Memory more → SoFar t (fed_denied m.stage m) (log ++ more)
+goes-denied m t log more h r = denied-by t m m.stage log more refl h r
+
 -- ---- a size
-
-no-size : {A : Type 0} (op : Op) (size : Option ℕ) (more : List Op) → Leaves op (Size size) more → A
-no-size (Append path bytes) size more h = elim h [ ]
-no-size (Create path bytes) size more h = elim h [ ]
-no-size (Cut path len) size more h = elim h [ ]
-no-size (Rename from to) size more h = elim h [ ]
-no-size (Remove path) size more h = elim h [ ]
-no-size (Sync path) size more h = elim h [ ]
-no-size Settle size more h = elim h [ ]
-
-fits-size : (t : Tree) (q : Question) (size : Option ℕ) (more : List Op) → Replies t q (Size size) more → Fits q (Size size)
-fits-size t (Sizing path) size more h = tt
-fits-size t Ending size more h = elim h [ ]
-fits-size t (Doing op) size more h = no-size op size more h
 
 asked-size-by : (t : Tree) (m : Machine) (size : Option ℕ) (log more : List Op) (b : Bool) → nat_lt (unwrap_or size 0 - m.plan.before) (bytes_in (slice_get m.plan.ops.items m.done)) ≡ b → m.stage ≡ Asking → SoFar t m log → Replies (after_all log t) (asked m) (Size size) more
     → SoFar t (if b then undoing m.outcome m else advanced Finishing m) (log ++ more)
@@ -131,7 +141,7 @@ and-true false = refl
 
 stray-by : (t : Tree) (m : Machine) (size : Option ℕ) (log more : List Op) → (m.stage ≡ Asking → ⊥) → SoFar t m log → Replies (after_all log t) (asked m) (Size size) more → SoFar t (stray_sized size m) (log ++ more)
 stray-by t m size log more n h r =
-    let fits = fits-size (after_all log t) (asked m) size more r in
+    let fits = fits-of (after_all log t) (asked m) (Size size) more tt r in
     let e = is-sweeping m (Size size) tt fits n in
     let at = fits-at m Sweeping (Size size) e fits in
     stray-sized t m (stray_sized size m) size at.0 log more e at.1 (stands-is size m) (λ k. absent-is size m e k ∙ ap (λ b. record m { stage = Sweeping; place = m.place + 1; swept = b }) (and-true m.swept)) h r
@@ -150,6 +160,38 @@ sized-by t m Removing size log more e h r = stray-by t m size log more (λ k. le
 
 pub goes-sized : (m : Machine) (size : Option ℕ) (t : Tree) (log more : List Op) → SoFar t m log → Replies (after_all log t) (asked m) (Size size) more → SoFar t (fed_size m.stage size m) (log ++ more)
 goes-sized m size t log more h r = sized-by t m m.stage size log more refl h r
+
+-- ---- no size
+
+stray-unsized : (t : Tree) (m : Machine) (reply : Reply) (log more : List Op) → HasNoSize reply → (m.stage ≡ Asking → ⊥) → SoFar t m log → Replies (after_all log t) (asked m) reply more → SoFar t (passed false m) (log ++ more)
+stray-unsized t m reply log more i n h r =
+    let of = of-no-size reply i in
+    let fits = fits-of (after_all log t) (asked m) reply more of r in
+    let e = is-sweeping m reply of fits n in
+    let at = fits-at m Sweeping reply e fits in
+    passes-over t m (passed false m) at.0 log more h.planned (is-here t m Sweeping log e h) (is-gone t m Sweeping log e h) at.1 (size-does-nothing (after_all log t) m reply more of r) refl
+
+unsized-by : (t : Tree) (m : Machine) (s : Stage) (reply : Reply) (log more : List Op) → HasNoSize reply → m.stage ≡ s → SoFar t m log → Replies (after_all log t) (asked m) reply more → SoFar t (fed_no_size s m) (log ++ more)
+unsized-by t m Asking reply log more i e h r = unsized t m (fed_no_size Asking m) reply log more e refl h i r
+unsized-by t m Preparing reply log more i e h r = stray-unsized t m reply log more i (λ k. let no : ⊥ = cc in no) h r
+unsized-by t m Beginning reply log more i e h r = stray-unsized t m reply log more i (λ k. let no : ⊥ = cc in no) h r
+unsized-by t m Working reply log more i e h r = stray-unsized t m reply log more i (λ k. let no : ⊥ = cc in no) h r
+unsized-by t m Publishing reply log more i e h r = stray-unsized t m reply log more i (λ k. let no : ⊥ = cc in no) h r
+unsized-by t m Finishing reply log more i e h r = stray-unsized t m reply log more i (λ k. let no : ⊥ = cc in no) h r
+unsized-by t m Undoing reply log more i e h r = stray-unsized t m reply log more i (λ k. let no : ⊥ = cc in no) h r
+unsized-by t m Dropping reply log more i e h r = stray-unsized t m reply log more i (λ k. let no : ⊥ = cc in no) h r
+unsized-by t m Sweeping reply log more i e h r = stray-unsized t m reply log more i (λ k. let no : ⊥ = cc in no) h r
+unsized-by t m Removing reply log more i e h r = stray-unsized t m reply log more i (λ k. let no : ⊥ = cc in no) h r
+
+-- ---- any reply
+
+pub goes-on : (t : Tree) (m : Machine) (reply : Reply) (log more : List Op) → SoFar t m log → Replies (after_all log t) (asked m) reply more → SoFar t (fed m reply) (log ++ more)
+goes-on t m Done log more h r = goes-done m t log more h r
+goes-on t m Failed log more h r = goes-failed m t log more h r
+goes-on t m Memory log more h r = goes-denied m t log more h r
+goes-on t m (Size size) log more h r = goes-sized m size t log more h r
+goes-on t m SizeFailed log more h r = unsized-by t m m.stage SizeFailed log more tt refl h r
+goes-on t m SizeMemory log more h r = unsized-by t m m.stage SizeMemory log more tt refl h r
 
 -- ---- the beginning
 

@@ -8,8 +8,8 @@ use Rattle.hgs_files.specs.Tree.{Tree, after_all}
 use Rattle.hgs_ops.specs.Operations.{lock_path, wlock_path}
 use Rattle.hgs_machine.specs.declared.locks.LockRefusal.{LockRefusal}
 use Rattle.hgs_machine.specs.declared.locks.LockRefusal.TheVariants.{Held, Abandoned, Fault, Memory}
-use Rattle.hgs_machine.specs.Locks.{AreRemoved, CausesLeft, Looks, Makes, NeverFall}
-use Rattle.hgs_machine.specs.Refusals.{WereRefused, how_many_made, how_many_stand, lock_paths, made_now, refusals_of_call, refusals_of_left, refusals_of_lock, refusals_of_made, standing}
+use Rattle.hgs_machine.specs.Locks.{AreRemoved, CausesLeft, Makes, NeverFall}
+use Rattle.hgs_machine.specs.Refusals.{WereRefused, how_many_made, how_many_stand, lock_paths, made_now, refusals_of_call, refusals_of_left, refusals_of_made, standing}
 use Rattle.hgs_machine.specs.Theorems.RefusedLemmas.{both-refused, fewer-refused, none-refused}
 use Rattle.hgs_machine.proofs.Counting.{left-refused, nothing-refused}
 use Rattle.hgs_machine.proofs.Locking.{Pair, lock-apart}
@@ -17,7 +17,7 @@ use Rattle.hgs_machine.proofs.Trees.{after_all-append}
 
 -- ---- one file
 
-at-most-one : (x : Option (List ℕ)) → standing x ≤ 1
+pub at-most-one : (x : Option (List ℕ)) → standing x ≤ 1
 at-most-one None = omega arith
 at-most-one (Some bytes) = omega arith
 

@@ -16,3 +16,4 @@ pub mod Counting
 pub mod Allowed
 pub mod Running
 pub mod Leaving
+pub mod Behind

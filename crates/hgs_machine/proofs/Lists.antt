@@ -1,6 +1,6 @@
 -- Parts of lists of operations.
 use Rattle.std.proofs.Common.{◌≡◌, ℕ, zero, suc, ◌+◌, ◌<◌, ◌≤◌, List, [], ◌∷◌, ◌++◌, length, take, drop, refl, sym, ◌∙◌, ap, inl, inr, arith, add-one}
-use Rattle.std.specs.Prelude.{◌⊎◌, Some, None, slice_get}
+use Rattle.std.specs.Prelude.{Some, None, slice_get}
 use Rattle.std.proofs.lemmas.List.{drop_all, length-take}
 use Rattle.hgs_files.specs.declared.op.Op.{Op}
 use Rattle.hgs_machine.specs.Course.{AreSome, between}

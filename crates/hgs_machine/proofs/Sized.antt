@@ -9,7 +9,7 @@ use Rattle.hgs_machine.specs.declared.machine.Reply.{Reply}
 use Rattle.hgs_machine.specs.declared.machine.Reply.TheVariants.{Done, Failed, Memory, Size, SizeFailed, SizeMemory}
 use Rattle.hgs_machine.specs.declared.machine.Stage.{Stage}
 use Rattle.hgs_machine.specs.declared.machine.Stage.TheVariants.{Preparing, Beginning, Working, Publishing, Asking, Finishing, Undoing, Dropping, Sweeping, Removing}
-use Rattle.hgs_machine.specs.Asked.{Doing, Sizing, op_at, asked, asks_size, asks_size_in, is_size_asked_of, op_at_hand, question_of, size_question}
+use Rattle.hgs_machine.specs.Asked.{Doing, Ending, Question, Sizing, op_at, asked, asks_size, asks_size_in, is_size_asked_of, op_at_hand, question_of, size_question}
 use Rattle.hgs_machine.specs.SoFar.{Blames, IsRefused, questions_left, Fits, HasNoSize, Leaves, Replies, SoFar}
 use Rattle.hgs_machine.proofs.Feeding.{passes-absent}
 use Rattle.hgs_machine.proofs.Replied.{fewer-at, is-gone, is-here}
@@ -81,6 +81,17 @@ no-fit op Done i h = elim i [ ]
 no-fit op Failed i h = elim i [ ]
 no-fit op Memory i h = elim i [ ]
 
+-- the reply is one to what is asked for
+pub fits-of : (t : Tree) (q : Question) (r : Reply) (more : List Op) → IsOfSize r → Replies t q r more → Fits q r
+fits-of t (Doing op) r more i h = no-leaves op r more i h
+fits-of t Ending r more i h = elim h [ ]
+fits-of t (Sizing path) (Size size) more i h = tt
+fits-of t (Sizing path) SizeFailed more i h = tt
+fits-of t (Sizing path) SizeMemory more i h = tt
+fits-of t (Sizing path) Done more i h = elim i [ ]
+fits-of t (Sizing path) Failed more i h = elim i [ ]
+fits-of t (Sizing path) Memory more i h = elim i [ ]
+
 none-fits : {A : Type 0} (o : Option Op) (r : Reply) → IsOfSize r → Fits (question_of o (λ op. false)) r → A
 none-fits None r i h = elim h [ ]
 none-fits (Some op) r i h = no-fit op r i h
@@ -139,7 +150,7 @@ absent-op u true op path more e h =
     let told : Replies u (Sizing path) (Size None) more = subst (λ (o : Op). Replies u (size_question o) (Size None) more) e h in
     told.1
 
-absent-at : (u : Tree) (o : Option Op) (asks : Op → Bool) (op : Op) (path : List ℕ) (more : List Op) → o ≡ Some op → op ≡ Remove path → Replies u (question_of o asks) (Size None) more → u path ≡ None
+pub absent-at : (u : Tree) (o : Option Op) (asks : Op → Bool) (op : Op) (path : List ℕ) (more : List Op) → o ≡ Some op → op ≡ Remove path → Replies u (question_of o asks) (Size None) more → u path ≡ None
 absent-at u o asks op path more at e h = absent-op u (asks op) op path more e (subst (λ x. Replies u (question_of x asks) (Size None) more) at h)
 
 pub stray-sized : (t : Tree) (m new : Machine) (size : Option ℕ) (op : Op) (log more : List Op) → m.stage ≡ Sweeping → slice_get m.plan.ops.items m.place ≡ Some op → (IsSome size → new ≡ record m { stage = Removing }) → (size ≡ None → new ≡ record m { stage = Sweeping; place = m.place + 1 })

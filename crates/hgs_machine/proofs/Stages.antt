@@ -296,7 +296,7 @@ gone-stays : (t : Tree) (path : List ℕ) (ops : List Op) → AreGone t ops → 
 gone-stays t path [] h = tt
 gone-stays t path (op ∷ ops) h = (one-stays t path op h.0, gone-stays t path ops h.1)
 
-removed-gone : (t : Tree) (path : List ℕ) → apply (Remove path) t path ≡ None
+pub removed-gone : (t : Tree) (path : List ℕ) → apply (Remove path) t path ≡ None
 removed-gone t path = rw (same_path-refl path) refl
 
 pub none-yet : (t : Tree) (p : Plan) (outcome : Short) (swept : Bool) (log : List Op) → SweepsAllTo t p (sweep_from p outcome) outcome swept log

@@ -1,20 +1,20 @@
 -- A machine that stops where it stands.
-use Rattle.std.proofs.Common.{◌≡◌, ℕ, zero, suc, ◌+◌, ◌<◌, ◌≤◌, List, [], ◌∷◌, ◌++◌, length, drop, take, refl, sym, ◌∙◌, ap, subst, inl, inr, arith, append-nil, append_assoc, Bool, true, false, if◌then◌else◌}
+use Rattle.std.proofs.Common.{◌≡◌, ℕ, ◌<◌, ◌≤◌, List, [], ◌∷◌, ◌++◌, length, drop, refl, sym, ◌∙◌, ap, subst, inl, inr, arith, append-nil, Bool, true, false, if◌then◌else◌}
 use Rattle.std.specs.Prelude.{◌⊎◌, Option, Some, None, slice_get, nat_lt}
 use Rattle.std.proofs.lemmas.Bool.Decides.{nat_tests}
 use Rattle.hgs_files.specs.declared.op.Op.{Op}
 use Rattle.hgs_files.specs.declared.op.Op.TheVariants.{Append, Cut, Rename, Remove, Create, Sync, Settle}
-use Rattle.hgs_files.specs.Tree.{Tree, after_all}
+use Rattle.hgs_files.specs.Tree.{Tree}
 use Rattle.hgs_transaction.specs.declared.assemble.Plan.{Plan}
 use Rattle.hgs_machine.specs.declared.ended.Published.TheVariants.{No, Yes, Unknown}
 use Rattle.hgs_machine.specs.declared.ended.Short.{Short}
-use Rattle.hgs_machine.specs.declared.ended.Short.TheVariants.{Done as AllDone, Fault, Unfinished, Memory as OutOfMemory}
+use Rattle.hgs_machine.specs.declared.ended.Short.TheVariants.{Fault, Unfinished}
 use Rattle.hgs_machine.specs.declared.machine.Machine.{Machine}
 use Rattle.hgs_machine.specs.declared.machine.Reply.TheVariants.{Failed}
 use Rattle.hgs_machine.specs.declared.machine.Stage.{Stage}
 use Rattle.hgs_machine.specs.declared.machine.Stage.TheVariants.{Preparing, Beginning, Working, Publishing, Asking, Finishing, Undoing, Dropping, Sweeping, Removing}
-use Rattle.hgs_machine.specs.Asked.{Question, Doing, Sizing, Ending, asked, bytes_in, op_at, op_at_hand}
-use Rattle.hgs_machine.specs.Course.{AreSome, CarriedOut, Ends, between, given_up, removals_after, unsure, while_dropped, while_undone}
+use Rattle.hgs_machine.specs.Asked.{Question, Doing, Sizing, Ending, asked, bytes_in, op_at}
+use Rattle.hgs_machine.specs.Course.{AreSome, CarriedOut, Ends, between, removals_after, unsure}
 use Rattle.hgs_machine.specs.Planned.{IsPlanned}
 use Rattle.hgs_machine.specs.SoFar.{IsInPart, Leaves, Replies, SoFar, SweepsTo, stops_as, sweep_from}
 use Rattle.hgs_machine.proofs.Ending.{past}
@@ -22,7 +22,7 @@ use Rattle.hgs_machine.proofs.Feeding.{asking-not, begins-not, drops-not, gives-
 use Rattle.hgs_machine.proofs.Lists.{between-split}
 use Rattle.hgs_machine.proofs.Pieces.{done-in-part, done-none}
 use Rattle.hgs_machine.proofs.Publishing.{unpublished}
-use Rattle.hgs_machine.proofs.Replied.{AtHand, at-stage, is-here, is-gone}
+use Rattle.hgs_machine.proofs.Replied.{AtHand, at-stage, is-here}
 use Rattle.hgs_machine.proofs.Stages.{breaks-behind, breaks-dropping, breaks-undoing, none-there, removals-left, take-all}
 
 none_of : (all : List Op) → AreSome all []

@@ -1,8 +1,8 @@
 -- How many calls on the files were refused, at the least.
-use Rattle.std.specs.Prelude.{ℕ, zero, suc, ◌+◌, ◌≤◌, max, Bool, true, false, List, [], ◌∷◌, Option, Some, None, if◌then◌else◌}
+use Rattle.std.specs.Prelude.{ℕ, zero, suc, ◌+◌, ◌≤◌, max, Bool, true, false, List, [], ◌∷◌, ◌++◌, Option, Some, None, if◌then◌else◌}
 use Rattle.hgs_files.specs.Reads.{counted}
 use Rattle.hgs_files.specs.Tree.{Tree}
-use Rattle.hgs_ops.specs.Operations.{lock_path, wlock_path}
+use Rattle.hgs_ops.specs.Operations.{lock_path, strays, wlock_path}
 use Rattle.hgs_machine.specs.declared.ended.Published.TheVariants.{No, Yes, Unknown}
 use Rattle.hgs_machine.specs.declared.ended.Short.{Short}
 use Rattle.hgs_machine.specs.declared.ended.Short.TheVariants.{Done as AllDone, Fault, Unfinished, Memory as OutOfMemory}
@@ -10,9 +10,9 @@ use Rattle.hgs_machine.specs.declared.locks.LockRefusal.{LockRefusal}
 use Rattle.hgs_machine.specs.declared.locks.LockRefusal.TheVariants.{Held, Abandoned, Fault as LockFault, Memory as NoMemory}
 use Rattle.hgs_machine.specs.declared.machine.Machine.{Machine}
 use Rattle.hgs_machine.specs.declared.machine.Reply.{Reply}
-use Rattle.hgs_machine.specs.declared.machine.Reply.TheVariants.{Done, Failed, Memory, Size, SizeFailed, SizeMemory}
+use Rattle.hgs_machine.specs.declared.machine.Reply.TheVariants.{Done, Size}
 use Rattle.hgs_machine.specs.declared.machine.Stage.{Stage}
-use Rattle.hgs_machine.specs.declared.machine.Stage.TheVariants.{Preparing, Beginning, Working, Publishing, Asking, Finishing, Undoing, Dropping, Sweeping, Removing}
+use Rattle.hgs_machine.specs.declared.machine.Stage.TheVariants.{Asking, Undoing, Dropping}
 
 -- So many calls were refused since the old counts, or more: each failed or found no memory, and was counted.
 pub record WereRefused (calls faults_old faults_new denied_old denied_new : ℕ) : Type 0 where
@@ -102,6 +102,14 @@ made_now _ _ = 0
 abbrev pub how_many_made : List (List ℕ) → Tree → Tree → ℕ
 how_many_made [] before now = 0
 how_many_made (path ∷ paths) before now = made_now (before path) (now path) + how_many_made paths before now
+
+-- The files that are removed behind a transaction that ended so: only the locks where its journal may stand, since a later call
+-- needs the strays to take it back.
+abbrev pub paths_removed_after : Short → List (List ℕ)
+paths_removed_after AllDone = strays ++ lock_paths
+paths_removed_after Fault = strays ++ lock_paths
+paths_removed_after OutOfMemory = strays ++ lock_paths
+paths_removed_after (Unfinished published) = lock_paths
 
 -- Each lock that was made and stands was not removed, which is one refusal more; where one does, want of memory was that of a call.
 abbrev pub refusals_of_made : Bool → LockRefusal → ℕ → ℕ

@@ -1,5 +1,5 @@
 //! Carries a transaction out over files.
-ghost use Rattle.std.specs.Prelude.{◌≡◌, ◌<◌, ℕ, List, true, false, IfSome, None};
+ghost use Rattle.std.specs.Prelude.{◌≡◌, ◌<◌, ◌+◌, ℕ, true, false, IfSome, None};
 ghost use Rattle.std.specs.Option.{ForSome};
 ghost use Rattle.hgs_files.specs.declared.op.Op.{Op};
 ghost use Rattle.hgs_files.specs.Files.{GoesOn, MayDo};
@@ -10,7 +10,7 @@ ghost use Rattle.hgs_machine.specs.Carry.{CountsReply, IsCausedSince, IsReplied,
 ghost use Rattle.hgs_machine.specs.Course.{CarriedOut};
 ghost use Rattle.hgs_machine.specs.Planned.{HasSource, IsPlanned};
 ghost use Rattle.hgs_machine.specs.Ran.{ComesOn, IsRunOut};
-ghost use Rattle.hgs_machine.specs.Refusals.{WereRefused, refusals_of_ended, refusals_so_far};
+ghost use Rattle.hgs_machine.specs.Refusals.{WereRefused, how_many_stand, paths_removed_after, refusals_of_ended, refusals_of_short, refusals_so_far};
 ghost use Rattle.hgs_machine.specs.SoFar.{Fits, Leaves, questions_left};
 
 use crate::ended::Ended;
@@ -110,6 +110,7 @@ pub fn carry_out<F: Files>(files: &mut F, plan: Plan) -> Ended
     ensures causes { IsCausedSince (F.faults files.old) (F.faults files.new) (F.denied files.old) (F.denied files.new) result.outcome result.swept }
     ensures ran { GoesOn (F.log files.old) (F.log files.new) (IsRunOut (tree_now (F.log files.old) (F.start files.old)) plan result (F.faults files.old) (F.faults files.new) (F.denied files.old) (F.denied files.new)) }
     ensures calls { WereRefused (refusals_of_ended result.outcome result.swept) (F.faults files.old) (F.faults files.new) (F.denied files.old) (F.denied files.new) }
+    ensures left { GoesOn (F.log files.old) (F.log files.new) (λ done. WereRefused (refusals_of_short result.outcome + how_many_stand (paths_removed_after result.outcome) (after_all done (tree_now (F.log files.old) (F.start files.old)))) (F.faults files.old) (F.faults files.new) (F.denied files.old) (F.denied files.new)) }
 {
     let mut machine = Machine::new(plan);
     while step(files, &mut machine) {}

@@ -1,5 +1,5 @@
 //! The two locks of a writer.
-ghost use Rattle.std.specs.Prelude.{◌≡◌, ◌∷◌, [], ℕ, None, IfSome, IfOk, IfErr, IsSome, is_some};
+ghost use Rattle.std.specs.Prelude.{◌≡◌, ◌∷◌, [], None, IfSome, IfErr, IsSome, is_some};
 ghost use Rattle.hgs_files.specs.declared.op.Op.{Op};
 ghost use Rattle.hgs_files.specs.Files.{GoesOn, MayCreate, MayDo};
 ghost use Rattle.hgs_files.specs.Tree.{after_all};

@@ -1,8 +1,7 @@
 //! Manifests.
-ghost use Rattle.std.specs.Prelude.{◌≡◌, ◌==◌, ◌<◌, ◌∷◌, [], ◌++◌, length, slice_get, Some, OnOk, OnErr};
+ghost use Rattle.std.specs.Prelude.{◌≡◌, ◌<◌, ◌∷◌, [], ◌++◌, length, slice_get, Some, OnOk, OnErr};
 ghost use Rattle.std.specs.Option.{option_map};
 ghost use Rattle.hgs_bytes.specs.Answer.{Gives};
-ghost use Rattle.hgs_bytes.specs.Bytes.{same, is_below};
 ghost use Rattle.hgs_index.specs.Manifest.{last_path, is_memory};
 ghost use Rattle.hgs_manifest.specs.Held.{view_row, found_in, is_row_path, is_without, with_last};
 

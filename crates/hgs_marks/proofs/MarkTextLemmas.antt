@@ -1,5 +1,5 @@
 -- Which texts are read as lines of bookmarks.
-use Rattle.std.proofs.Common.{◌≡◌, ◌⊎◌, ℕ, ◌+◌, ◌<◌, Bool, true, false, cond, ◌&&◌, List, [], ◌∷◌, ◌++◌, length, take, drop, Option, Some, None, Result, Ok, Err, refl, sym, ◌∙◌, ap, subst, inl, inr, append_assoc, append-nil, length-append, arith}
+use Rattle.std.proofs.Common.{◌≡◌, ◌⊎◌, ℕ, ◌+◌, ◌<◌, Bool, true, false, cond, List, [], ◌∷◌, ◌++◌, length, take, drop, Option, Some, None, Result, Ok, Err, refl, sym, ◌∙◌, ap, subst, inl, inr, append_assoc, append-nil, length-append, arith}
 use Rattle.std.specs.Prelude.{◌==◌, if◌then◌else◌}
 use Rattle.std.specs.List.{AllByRecursion}
 use Rattle.std.specs.Option.{option_map}
@@ -10,7 +10,6 @@ use Rattle.hgs_bytes.specs.Theorems.ByteLemmas.{same-eq}
 use Rattle.hgs_bytes.specs.Theorems.TextLemmas.{lines_split, lines_last_of, split_over, unlines, unlines-lines_of}
 use Rattle.hgs_index.specs.Hex.{hex, node_at}
 use Rattle.hgs_index.specs.MarkName.{is_mark_name}
-use Rattle.hgs_index.specs.Node.{IsNode}
 use Rattle.hgs_index.specs.Theorems.HexText.{hex_length, node_found}
 use Rattle.hgs_marks.specs.declared.fault.MarkFault.{MarkFault}
 use Rattle.hgs_marks.specs.declared.fault.MarkFault.TheVariants.{Line, Name}

@@ -1,7 +1,6 @@
 -- Bookmarks and dirstates that are read again as they are written.
 use Rattle.std.specs.Prelude.{◌≡◌, ◌<◌, ◌^◌, ℕ, true, List, length, map}
 use Rattle.std.specs.List.{AllByRecursion}
-use Rattle.hex.specs.Hex.{IsBytes}
 use Rattle.hgs_bytes.specs.Text.{Lacks, ascends}
 use Rattle.hgs_index.specs.MarkName.{is_mark_name}
 use Rattle.hgs_index.specs.Node.{IsNode}

@@ -1,11 +1,9 @@
 //! The working parents and the tracked paths (Mercurial's file `dirstate`, its first version).
-ghost use Rattle.std.specs.Prelude.{◌≡◌, ◌<◌, ◌≤◌, ◌+◌, ◌^◌, ◌++◌, ◌||◌, ◌==◌, ℕ, [], ◌∷◌, length, take, drop, Some, IfOk, IfSome, OnOk, OnErr, if◌then◌else◌};
+ghost use Rattle.std.specs.Prelude.{◌≡◌, ◌<◌, ◌≤◌, ◌+◌, ◌^◌, ◌++◌, ◌||◌, ◌==◌, [], ◌∷◌, length, take, drop, Some, IfOk, OnOk, OnErr};
 ghost use Rattle.std.specs.List.{All};
-ghost use Rattle.std.specs.Option.{option_map};
 ghost use Rattle.hgs_bytes.specs.Answer.{Gives};
-ghost use Rattle.hgs_bytes.specs.Bytes.{IsPrefixOf};
 ghost use Rattle.hgs_marks.specs.Bookmarks.{is_memory};
-ghost use Rattle.hgs_marks.specs.Dirstate.{Dirstate, is_state, name_len, has_entry, first_entry, next_entry, entry_path, tracked, read_paths, read_dirstate};
+ghost use Rattle.hgs_marks.specs.Dirstate.{Dirstate, is_state, has_entry, next_entry, entry_path, tracked, read_paths, read_dirstate};
 ghost use Rattle.std.specs.Int.{w32, from_be_bytes};
 ghost use Rattle.std.specs.Result.{result_map_both};
 ghost use Rattle.hgs_marks.specs.Held.{view_dirstate, view_entry};

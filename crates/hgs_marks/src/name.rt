@@ -1,5 +1,5 @@
 // Which names a bookmark can have.
-ghost use Rattle.std.specs.Prelude.{◌≡◌, ◌<◌, not, length, codes, ◌∷◌, []};
+ghost use Rattle.std.specs.Prelude.{◌≡◌, ◌<◌, length};
 ghost use Rattle.std.specs.List.{list_any, list_all};
 ghost use Rattle.std.specs.Str.{is_utf8};
 ghost use Rattle.hgs_bytes.specs.Bytes.{among};

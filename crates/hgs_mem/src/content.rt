@@ -1,5 +1,5 @@
 //! The contents of files, in pieces that several states of the files have together.
-ghost use Rattle.std.specs.Prelude.{◌≡◌, [], ◌++◌, ◌≤◌, length, take, drop, IfOk, OnErr};
+ghost use Rattle.std.specs.Prelude.{◌≡◌, [], ◌++◌, length, take, drop, IfOk, OnErr};
 ghost use Rattle.hgs_mem.specs.Content.{joined};
 
 use crate::shared::SharedBytes;

@@ -1,5 +1,5 @@
 //! Files in memory.
-ghost use Rattle.std.specs.Prelude.{◌≡◌, ◌==◌, ◌≤◌, ◌<◌, ℕ, min, List, [], ◌∷◌, ◌++◌, take, drop, length, IfOk, IfErr, OnOk, OnErr, Some, None, true, refl, if◌then◌else◌, IfSome};
+ghost use Rattle.std.specs.Prelude.{◌≡◌, ◌==◌, ◌<◌, ℕ, List, [], ◌∷◌, ◌++◌, take, IfOk, IfErr, OnOk, OnErr, Some, None, true, refl, if◌then◌else◌};
 ghost use Rattle.hgs_files.specs.declared.op.Op.{Op};
 ghost use Rattle.hgs_files.specs.Tree.{after_all};
 ghost use Rattle.hgs_files.specs.Log.{append_of_rest};

@@ -1,5 +1,5 @@
 //! Appends in pieces.
-ghost use Rattle.std.specs.Prelude.{◌≡◌, ◌<◌, List, [], ◌∷◌, IfOk};
+ghost use Rattle.std.specs.Prelude.{◌<◌, [], ◌∷◌, IfOk};
 ghost use Rattle.hgs_files.specs.declared.op.Op.{Op};
 ghost use Rattle.hgs_files.specs.Log.{IsDone};
 ghost use Rattle.hgs_mem.specs.Pieces.{AreSmall};

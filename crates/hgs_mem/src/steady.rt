@@ -1,5 +1,5 @@
 //! Files in memory that never fail.
-ghost use Rattle.std.specs.Prelude.{◌≡◌, ℕ, List, [], ◌∷◌, ◌++◌, IfOk, OnOk, None, Some, true, refl};
+ghost use Rattle.std.specs.Prelude.{◌≡◌, ℕ, List, [], None, Some, true, refl};
 ghost use Rattle.hgs_files.specs.declared.op.Op.{Op};
 ghost use Rattle.hgs_files.specs.Files.{CreatesNew, GoesOn, LeavesPieces, LeavesWhole};
 ghost use Rattle.hgs_files.specs.Ties.{untied};

@@ -1,5 +1,4 @@
 // What each call does, and where it is made to fail or to stop after none, one and all of its bytes.
-ghost use Rattle.std.specs.Prelude.{◌≡◌};
 ghost use Rattle.hgs_files.specs.declared.op.Op.{Op};
 ghost use Rattle.hgs_files.specs.Files.{MayDo};
 

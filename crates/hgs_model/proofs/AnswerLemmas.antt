@@ -1,15 +1,15 @@
 -- What an accepted command answers.
-use Rattle.std.proofs.Common.{◌≡◌, ℕ, zero, suc, ◌+◌, ◌<◌, List, [], ◌∷◌, ◌++◌, Bool, true, false, cond, ◌&&◌, not, length, refl, sym, ◌∙◌, ap, subst, arith}
+use Rattle.std.proofs.Common.{◌≡◌, ℕ, zero, suc, ◌<◌, List, [], ◌∷◌, ◌++◌, Bool, true, false, ◌&&◌, not, length, refl, sym, ◌∙◌, ap, arith}
 use Rattle.std.specs.Prelude.{Option, Some, None, Result, Ok, Err, slice_get, slice_index, slice_index_or, nat_lt, ◌==◌}
 use Rattle.hgs_index.specs.Node.{null_node}
-use Rattle.hgs_index.specs.Revision.{Revision, nodes, node_after, standing, with_revision_at}
+use Rattle.hgs_index.specs.Revision.{nodes, node_after, standing, with_revision_at}
 use Rattle.hgs_index.specs.Theorems.RevisionLemmas.{nodes_from-append}
 use Rattle.hgs_model.specs.Repo.{Repo, Changeset}
-use Rattle.hgs_model.specs.History.{History, history, changeset_nodes, changeset_revision, first_of, with_changeset}
+use Rattle.hgs_model.specs.History.{History, history, changeset_nodes, changeset_revision, first_of}
 use Rattle.hgs_model.specs.IsRepo.{IsRepo}
 use Rattle.hgs_model.specs.Names.{named, bookmark_named}
 use Rattle.hgs_model.specs.Phase.{phase_number}
-use Rattle.hgs_model.specs.Step.{Next, Answer, or_unknown, guard, done_at, answer_at, with_mark, without_mark, points_at, moved_phases, step, step_move, step_mark, step_unmark, step_commit, named_all, as_parents, new_changeset, nothing_changed, unchanged_from, refused_where, with_new, ◌>>=◌}
+use Rattle.hgs_model.specs.Step.{Next, Answer, or_unknown, guard, done_at, with_mark, without_mark, points_at, moved_phases, step, step_move, step_mark, step_unmark, step_commit, named_all, as_parents, new_changeset, nothing_changed, unchanged_from, refused_where, with_new, ◌>>=◌}
 use Rattle.hgs_model.specs.declared.command.Command.{Command}
 use Rattle.hgs_model.specs.declared.command.Command.TheVariants.{Commit, Move, Mark, Unmark}
 use Rattle.hgs_model.specs.declared.command.NewChange.{NewChange}

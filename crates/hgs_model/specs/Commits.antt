@@ -9,8 +9,8 @@ use Rattle.hgs_model.specs.declared.command.Command.TheVariants.{Commit}
 use Rattle.hgs_model.specs.declared.command.Refusal.{Refusal}
 use Rattle.hgs_model.specs.declared.phase.Phase.TheVariants.{Draft}
 use Rattle.hgs_model.specs.Repo.{Repo, empty_repo}
-use Rattle.hgs_model.specs.Samples.{one_line, commit_on, done, two_changesets}
-use Rattle.hgs_model.specs.Step.{Next, step}
+use Rattle.hgs_model.specs.Samples.{one_line, commit_on, done}
+use Rattle.hgs_model.specs.Step.{Next}
 
 -- the number and the node in hex that a command answers, where it is accepted
 abbrev pub told : Result Next Refusal → Option (ℕ × List ℕ)

@@ -1,7 +1,7 @@
 -- Which commands are valid.
-use Rattle.std.specs.Prelude.{◌≡◌, ◌≢◌, ℕ, ◌-◌, ◌≤◌, List, [], ◌∷◌, ◌++◌, Bool, true, false, ◌&&◌, ◌||◌, ◌==◌, nat_le, length, map, slice_index, IfSome, codes, unsigned_abs, IsUtf8}
+use Rattle.std.specs.Prelude.{◌≡◌, ℕ, ◌≤◌, List, ◌++◌, Bool, true, false, ◌||◌, ◌==◌, length, map, IfSome, codes, unsigned_abs, IsUtf8}
 use Rattle.std.specs.List.{AllByRecursion, list_any, list_all}
-use Rattle.hgs_bytes.specs.Bytes.{among, begins_with}
+use Rattle.hgs_bytes.specs.Bytes.{begins_with}
 use Rattle.hgs_bytes.specs.Text.{Lacks, ascends}
 use Rattle.hgs_index.specs.ChangeText.{most_seconds, most_offset}
 use Rattle.hgs_index.specs.MarkName.{is_mark_name}

@@ -1,5 +1,5 @@
 //! The laws tried on a first commit. Each function is one example; none does anything.
-ghost use Rattle.std.specs.Prelude.{◌≡◌, [], ℕ, List, Ok};
+ghost use Rattle.std.specs.Prelude.{◌≡◌, ℕ, List, Ok};
 ghost use Rattle.hgs_files.specs.Tree.{after_all};
 ghost use Rattle.hgs_model.specs.Repo.{empty_repo};
 ghost use Rattle.hgs_model.specs.Step.{answer_at, step};

@@ -1,7 +1,7 @@
 -- Which texts are read as lists of names.
 use Rattle.std.proofs.Common.{◌≡◌, ℕ, ◌+◌, Bool, true, false, cond, ◌&&◌, List, [], ◌∷◌, ◌++◌, Result, Ok, Err, refl, sym, ◌∙◌, ap, subst, append_assoc}
 use Rattle.std.specs.List.{AllByRecursion}
-use Rattle.hgs_bytes.specs.Text.{Line as TextLine, Lacks, lines, lines_of}
+use Rattle.hgs_bytes.specs.Text.{Line as TextLine, lines, lines_of}
 use Rattle.hgs_bytes.specs.Theorems.TextLemmas.{lines_split, split_over, unlines, unlines-lines_of, LinesLack, lines_lack}
 use Rattle.hgs_path.specs.declared.fncache.FncacheFault.{FncacheFault}
 use Rattle.hgs_path.specs.declared.fncache.FncacheFault.TheVariants.{Line}

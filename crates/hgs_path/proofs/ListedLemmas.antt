@@ -4,7 +4,6 @@ use Rattle.std.specs.Prelude.{codes}
 use Rattle.std.proofs.lemmas.List.{length-take}
 use Rattle.std.specs.Cmp.Lexicographic.{bytes_decides}
 use Rattle.hgs_bytes.specs.Bytes.{begins_with}
-use Rattle.hgs_bytes.specs.Text.{lines_of}
 use Rattle.hgs_path.specs.declared.fncache.FncacheFault.{FncacheFault}
 use Rattle.hgs_path.specs.declared.fncache.FncacheFault.TheVariants.{Line}
 use Rattle.hgs_path.specs.ListedNames.{is_listed, names_from, with_name}

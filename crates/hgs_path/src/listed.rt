@@ -1,5 +1,5 @@
 //! The names that `fncache` lists, and their files.
-ghost use Rattle.std.specs.Prelude.{◌≡◌, List, ℕ, true, IfOk, codes, if◌then◌else◌};
+ghost use Rattle.std.specs.Prelude.{◌≡◌, true, IfOk, codes, if◌then◌else◌};
 ghost use Rattle.hgs_bytes.specs.Answer.{Gives};
 ghost use Rattle.hgs_path.specs.declared.name.Ext.{Ext as NameExt};
 ghost use Rattle.hgs_path.specs.Fncache.{is_memory};

@@ -1,5 +1,5 @@
 //! The paths that have a name, where several can have one.
-ghost use Rattle.std.specs.Prelude.{◌≡◌, List, ℕ, Bool, false, OnOk, option_map};
+ghost use Rattle.std.specs.Prelude.{List, ℕ, Bool, false, OnOk, option_map};
 ghost use Rattle.hgs_path.specs.Owners.{Keeps, with_owner, IsOther};
 
 use hgs_bytes::bytes::Bytes;

@@ -1,5 +1,5 @@
 //! The last part of a path.
-ghost use Rattle.std.specs.Prelude.{◌≡◌, length};
+ghost use Rattle.std.specs.Prelude.{◌≡◌};
 ghost use Rattle.hgs_bytes.specs.Path.{components};
 ghost use Rattle.hgs_path.specs.StoreName.{last_part, ends_in};
 

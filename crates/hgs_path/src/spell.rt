@@ -1,7 +1,7 @@
 //! The spelling of characters and components, which makes a name safe on every file system.
 ghost use Rattle.std.specs.Prelude.{◌≡◌, ◌++◌, ◌<◌, OnOk, IfOk, IfSome, flat_map, length};
 ghost use Rattle.hgs_index.specs.TrackedPath.{lower};
-ghost use Rattle.hgs_path.specs.StoreName.{spelled, escaped, is_escaped, is_upper, is_dot_or_space, is_port, is_device, before_dot, front_place, end_place, escaped_at, spelled_component, spelled_name};
+ghost use Rattle.hgs_path.specs.StoreName.{spelled, escaped, is_escaped, is_dot_or_space, is_port, is_device, before_dot, front_place, end_place, escaped_at, spelled_component, spelled_name};
 ghost use Rattle.hgs_bytes.specs.Text.{split};
 
 use hex::encode_to_slice;

@@ -1,6 +1,5 @@
 -- What holds of a changelog, and of the phases of its changesets.
 use Rattle.std.specs.Prelude.{◌≡◌, ◌≤◌, ℕ, List, length, Some, slice_get, slice_index_or}
-use Rattle.hex.specs.Hex.{IsBytes}
 use Rattle.hgs_index.specs.Revision.{ParentsBefore}
 use Rattle.hgs_index.specs.declared.entry.Entry.{Entry}
 pub use Rattle.hgs_revlog.specs.Loaded.{HaveNodes, HaveOwnNodes}

@@ -1,5 +1,5 @@
 //! The phase of each changeset.
-ghost use Rattle.std.specs.Prelude.{◌≡◌, ◌<◌, ◌++◌, ◌∷◌, [], ℕ, List, length, map, slice_get, slice_index_or, Some, IfOk, OnOk, OnErr};
+ghost use Rattle.std.specs.Prelude.{◌≡◌, ◌<◌, ◌++◌, ◌∷◌, [], List, length, slice_get, slice_index_or, Some, IfOk, OnOk, OnErr};
 ghost use Rattle.hgs_phases.specs.Phases.{parent_phase, phases_by, raised, raised_root, AreOwn};
 ghost use Rattle.hgs_model.specs.declared.phase.Phase.TheVariants.{Public};
 ghost use Rattle.hgs_model.specs.Phase.{greater};

@@ -1,5 +1,5 @@
 //! Phase roots (Mercurial's file `store/phaseroots`).
-ghost use Rattle.std.specs.Prelude.{◌≡◌, ◌<◌, ◌++◌, ◌∷◌, [], ℕ, length, Some, OnOk, OnErr};
+ghost use Rattle.std.specs.Prelude.{◌≡◌, ◌<◌, length, Some};
 ghost use Rattle.hgs_bytes.specs.Answer.{Gives};
 ghost use Rattle.hgs_phases.specs.Roots.{phase_from, root_of, read_roots, is_memory};
 

@@ -1,5 +1,5 @@
 //! Small pieces of printed lines.
-ghost use Rattle.std.specs.Prelude.{◌≡◌, ◌++◌, ◌∷◌, [], decimal, OnOk, OnErr};
+ghost use Rattle.std.specs.Prelude.{◌≡◌, ◌++◌, decimal, OnOk, OnErr};
 ghost use Rattle.hgs_plan.specs.Damage.{damage_text};
 
 use crate::damage::Damage;

@@ -1,5 +1,5 @@
 -- What a session told, and what came of a load before it.
-use Rattle.std.proofs.Common.{◌≡◌, ℕ, ◌+◌, ◌^◌, ◌-◌, ◌≤◌, ◌<◌, suc, min, length, List, [], ◌++◌, Option, Some, None, Result, Ok, Err, refl, sym, ◌∙◌, ap, subst, arith, inl, inr, ◌⊎◌, Bool, true, false}
+use Rattle.std.proofs.Common.{◌≡◌, ℕ, ◌+◌, ◌-◌, ◌≤◌, ◌<◌, suc, length, List, [], Option, Some, None, Result, Ok, Err, refl, sym, ◌∙◌, ap, subst, arith, inl, inr, false}
 use Rattle.std.specs.Prelude.{⊤}
 use Rattle.std.specs.Bool.{MatchBool}
 use Rattle.hgs_files.specs.Reads.{Grows, Rose}
@@ -16,9 +16,9 @@ use Rattle.hgs_reader.specs.Line.{line_asks}
 use Rattle.hgs_script.specs.declared.job.Question.{Question}
 use Rattle.hgs_script.specs.declared.job.Question.TheVariants.{Log}
 use Rattle.hgs_script.specs.declared.result.Answered.{Answered}
-use Rattle.hgs_questions.specs.Asked.{Asked, LoadsTo, Tells, TellsAtOnce, whole, cut, untold, loaded, unloaded, broken, forgone}
+use Rattle.hgs_questions.specs.Asked.{Asked, Tells, TellsAtOnce, whole, cut, untold, loaded, unloaded, broken, forgone}
 use Rattle.hgs_questions.specs.Questions.{front_asks, load_asks, log_asks, named_asks, question_asks, text_asks}
-use Rattle.hgs_questions.specs.Said.{behind, lost, refused, Refuses, said, Says, unknown}
+use Rattle.hgs_questions.specs.Said.{behind, refused, Refuses, said, Says, unknown}
 use Rattle.hgs_questions.proofs.AnswerLemmas.{log-on, log-refused, told-later, text-refused, text-told, told-at-once, told-given}
 
 -- ---- what a session told

@@ -1,5 +1,5 @@
 -- How one question of a session was answered over files that others may change meanwhile.
-use Rattle.std.specs.Prelude.{◌≡◌, ℕ, List, Option, Some, Result, Ok, Err, Bool, false}
+use Rattle.std.specs.Prelude.{◌≡◌, ℕ, List, Option, Some, Ok, Err, false}
 use Rattle.hgs_files.specs.Reads.{Grows, Rose}
 use Rattle.hgs_files.specs.Tree.{Tree}
 use Rattle.hgs_files.specs.declared.op.Op.{Op}

@@ -7,7 +7,7 @@ use Rattle.hgs_index.specs.Entry.{number_at, is_negative}
 use Rattle.hgs_index.specs.Inline.{is_cut, whole_item}
 use Rattle.hgs_reader.specs.Find.{has_item, item_or}
 
-abbrev item : Bool → List ℕ → Option (List ℕ × List ℕ)
+abbrev pub item : Bool → List ℕ → Option (List ℕ × List ℕ)
 item b bytes = cond b None (Some (take 64 bytes, drop (64 + number_at 8 bytes) bytes))
 
 -- more steps than bytes are as good as others
@@ -27,13 +27,13 @@ enough node (suc n) (suc m) (x ∷ xs) few less =
     by true h = refl
     by false h = ap (λ b. same (take 20 (drop 32 (take 64 (x ∷ xs)))) node || b) h
 
-some_is : (x y : List ℕ × List ℕ) → Some x ≡ Some y → x ≡ y
+pub some_is : (x y : List ℕ × List ℕ) → Some x ≡ Some y → x ≡ y
 some_is x y h = cc
 
-reached : (n len : ℕ) → nat_lt len n ≡ false → n ≤ len
+pub reached : (n len : ℕ) → nat_lt len n ≡ false → n ≤ len
 reached n len h = grind arith
 
-first-false : (a b : Bool) → (a || b) ≡ false → a ≡ false
+pub first-false : (a b : Bool) → (a || b) ≡ false → a ≡ false
 first-false true b h = cc
 first-false false b h = refl
 

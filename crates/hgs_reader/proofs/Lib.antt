@@ -5,6 +5,7 @@ pub mod HeadLemmas
 pub mod InlineHeldLemmas
 pub mod ItemLemmas
 pub mod NumberLemmas
+pub mod PassedLemmas
 pub mod TreeLemmas
 pub mod UntilLemmas
 pub mod ViewLemmas

@@ -4,5 +4,6 @@ pub mod Heads
 pub mod Held
 pub mod Line
 pub mod Names
+pub mod Passed
 pub mod Shown
 pub mod Theorems

@@ -13,6 +13,7 @@ ghost use Rattle.hgs_load.specs.Beyond.{IsShown};
 ghost use Rattle.hgs_load.specs.Given.{Takes};
 ghost use Rattle.hgs_reader.specs.Find.{has_node, has_item, is_far, more_pieces, bytes_behind, text_answer, text_at_asks, placed_text, inline_text, inline_behind, separate_behind, text_asks};
 ghost use Rattle.hgs_load.specs.View.{log_answer};
+ghost use Rattle.hgs_reader.specs.Passed.{IsPassed, HasCome};
 
 use hgs_bytes::bytes::Bytes;
 use hgs_bytes::parts::{equal, front, past};
@@ -79,31 +80,49 @@ fn has_node(piece: &[u8], node: &Node) -> bool
     false
 }
 
-// Whether a whole entry of an inline index has this node.
-fn has_item(bytes: &[u8], node: &Node) -> bool
-    ensures { result ≡ has_item node.now.0 (length bytes.now) bytes.now }
+/// What the search for a node has come to in an index that is read in pieces.
+#[derive(Drop)]
+enum Search {
+    /// No further piece is read.
+    Ended,
+    /// The node may stand further on. Of an inline index the first so many bytes are whole entries and chunks without it.
+    Passed(usize),
+}
+
+// Searches the whole entries of an inline index, of which the first so many bytes were passed before.
+fn pass_items(bytes: &[u8], passed: usize, node: &Node) -> Search
+    requires { IsPassed node.now.0 bytes.now passed }
+    ensures { HasCome (has_item node.now.0 (length bytes.now) bytes.now) node.now.0 bytes.now result }
 {
-    let mut rest = bytes;
+    let mut rest = past(bytes, passed);
     while let Some((entry, behind)) = whole_item(rest) {
         if equal(&entry[32..52], &node.0) {
-            return true;
+            return Search::Ended;
+        }
+        // An entry whose stored length has its sign set may reach into a later piece, so the last one is not passed yet.
+        if behind.is_empty() {
+            break;
         }
         rest = behind;
     }
-    false
+    Search::Passed(bytes.len() - rest.len())
 }
 
-// Whether no piece is read behind these bytes, of which the last piece is this.
-fn is_far(inline: bool, bytes: &[u8], piece: &[u8], node: &Node) -> bool
-    ensures { result ≡ is_far inline node.now.0 bytes.now piece.now }
+// Searches the bytes of an index, of which the last piece is this, and the first so many were passed before.
+fn search_piece(inline: bool, bytes: &[u8], passed: usize, piece: &[u8], node: &Node) -> Search
+    requires { IsPassed node.now.0 bytes.now passed }
+    ensures { HasCome (is_far inline node.now.0 bytes.now piece.now) node.now.0 bytes.now result }
 {
     if (piece.len() as u64) < PIECE {
-        return true;
+        return Search::Ended;
     }
     if inline {
-        has_item(bytes, node)
+        return pass_items(bytes, passed, node);
+    }
+    if has_node(piece, node) {
+        Search::Ended
     } else {
-        has_node(piece, node)
+        Search::Passed(passed)
     }
 }
 
@@ -137,16 +156,18 @@ fn read_behind<R: Reads>(
     ensures cause { HasFaultCause (R.faults files.old) (R.faults files.new) (R.denied files.old) (R.denied files.new) result }
 {
     let mut bytes = Vec::from_slice(alloc, first)?;
-    if is_far(inline, first, first, node) {
-        return Ok(bytes);
-    }
+    let mut passed = match search_piece(inline, first, 0, first, node) {
+        Search::Ended => return Ok(bytes),
+        Search::Passed(passed) => passed,
+    };
     let mut left = more_pieces(inline);
     while left > 0 {
         let part = read_part(alloc, files, index, bytes.len() as u64, PIECE)?;
         let piece = bytes_of(&part);
         bytes.extend_from_slice(piece)?;
-        if is_far(inline, &bytes, piece, node) {
-            return Ok(bytes);
+        match search_piece(inline, &bytes, passed, piece, node) {
+            Search::Ended => return Ok(bytes),
+            Search::Passed(more) => passed = more,
         }
         left -= 1;
     }

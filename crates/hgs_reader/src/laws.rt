@@ -1,5 +1,5 @@
 //! What the definitions of this crate imply. Each function is one law; none does anything.
-ghost use Rattle.std.specs.Prelude.{◌≡◌, ◌+◌, ◌*◌, ◌≤◌, ◌/◌, ℕ, suc, Bool, List, Result, Ok, Err, Some, None, true, false, length, take, drop, slice_get};
+ghost use Rattle.std.specs.Prelude.{◌≡◌, ◌+◌, ◌*◌, ◌≤◌, ℕ, suc, Bool, List, Result, Ok, Err, Some, None, true, false, length, take, drop, slice_get};
 ghost use Rattle.hgs_bytes.specs.Bytes.{same};
 ghost use Rattle.hgs_bytes.specs.Bytes.{IsPrefixOf};
 ghost use Rattle.hgs_files.specs.declared.op.Op.{Op};
@@ -14,15 +14,12 @@ ghost use Rattle.hgs_index.specs.Manifest.{Row, AreRows, manifest_text};
 ghost use Rattle.hgs_index.specs.Node.{null_node};
 ghost use Rattle.hgs_index.specs.Revision.{Revision};
 ghost use Rattle.hgs_manifest.specs.Held.{found_in};
-ghost use Rattle.hgs_marks.specs.Bookmarks.{Mark};
 ghost use Rattle.hgs_path.specs.Check.{checked};
 ghost use Rattle.hgs_path.specs.StoreName.{store_name};
 ghost use Rattle.hgs_path.specs.declared.name.Ext.TheVariants.{I, D};
-ghost use Rattle.hgs_phases.specs.Phases.{phases_by};
-ghost use Rattle.hgs_phases.specs.declared.roots.Root.{Root};
 ghost use Rattle.hgs_revlog.specs.Held.{chunk_in, read_all};
 ghost use Rattle.hgs_revlog.specs.declared.fault.Tail.TheVariants.{Until};
-ghost use Rattle.hgs_revlog.specs.Load.{loaded, most_revisions};
+ghost use Rattle.hgs_revlog.specs.Load.{loaded};
 ghost use Rattle.hgs_revlog.specs.Log.{Log};
 ghost use Rattle.hgs_revlog.specs.Text.{span_in, text_of};
 ghost use Rattle.hgs_load.specs.declared.answer.ReadAnswer.{ReadAnswer};
@@ -32,10 +29,6 @@ ghost use Rattle.hgs_reader.specs.Contents.{manifest_index, manifest_data, most_
 ghost use Rattle.hgs_reader.specs.Find.{has_node, separate_asks, text_asks};
 ghost use Rattle.hgs_reader.specs.Held.{EndsInline, HasSeparateText, HasText};
 ghost use Rattle.hgs_reader.specs.Line.{change_asks};
-ghost use Rattle.hgs_load.specs.Marks.{Nodes, Working, bookmarks_answer, bookmarks_path, dirstate_answer, dirstate_path, roots_answer, roots_path, working_answer};
-ghost use Rattle.hgs_load.specs.Open.{bookmarks_asks, dirstate_asks, log_asks, log_of, most_bookmarks_text, most_dirstate, most_requires, most_roots, open_asks, requires_asks, requires_path, roots_asks};
-ghost use Rattle.hgs_load.specs.Refresh.{first_changed, refresh_asks};
-ghost use Rattle.hgs_load.specs.Requirements.{requires_answer};
 ghost use Rattle.hgs_load.specs.View.{View, changelog_data, changelog_index};
 
 use hgs_index::laws::inline_taken_apart;

@@ -1,7 +1,6 @@
 //! The line that `log` writes of a changeset.
-ghost use Rattle.std.specs.Prelude.{◌≡◌, ◌++◌, ◌∷◌, [], ℤ, decimal, OnOk, IfOk};
+ghost use Rattle.std.specs.Prelude.{◌≡◌, ◌++◌, OnOk, IfOk};
 ghost use Rattle.std.specs.Fmt.{signed_decimal};
-ghost use Rattle.hgs_index.specs.Hex.{hex};
 ghost use Rattle.hgs_changelog.specs.View.{view_change};
 ghost use Rattle.hgs_reader.specs.Line.{field, parent_text, first_line, revision_fields, change_fields, line_text};
 

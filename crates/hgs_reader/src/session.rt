@@ -50,7 +50,6 @@ impl Session {
     ghost use Rattle.hgs_reader.specs.Heads.{heads_text};
     ghost use Rattle.hgs_reader.specs.Line.{change_at, change_asks, chunks_path, line_at, line_asks};
     ghost use Rattle.hgs_load.specs.Load.{Refreshes};
-    ghost use Rattle.hgs_load.specs.Marks.{working_of};
     ghost use Rattle.hgs_load.specs.Refresh.{refresh_asks, GivenFew};
     ghost use Rattle.hgs_reader.specs.Names.{named};
     ghost use Rattle.hgs_load.specs.Open.{open_asks};

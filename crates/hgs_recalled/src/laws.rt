@@ -3,7 +3,6 @@
 ghost use Rattle.std.specs.Prelude.{◌≡◌, ℕ, List, [], Result, Some, slice_get};
 ghost use Rattle.hgs_bytes.specs.Bytes.{IsPrefixOf};
 ghost use Rattle.hgs_files.specs.declared.op.Op.{Op};
-ghost use Rattle.hgs_files.specs.Tree.{Tree};
 ghost use Rattle.hgs_model.specs.Repo.{Changeset};
 ghost use Rattle.hgs_legal.specs.Numbers.{repo_at};
 ghost use Rattle.hgs_headline.specs.WritersLog.{WritersLog, course_of};

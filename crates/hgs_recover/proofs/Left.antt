@@ -18,7 +18,7 @@ use Rattle.hgs_load.specs.declared.answer.ReadAnswer.TheVariants.{Damaged, Fault
 use Rattle.hgs_recover.specs.Answer.{outcome_of_read}
 use Rattle.hgs_recover.specs.Recovering.{RecoversBy}
 use Rattle.hgs_recover.specs.declared.answer.RecoverAnswer.{RecoverAnswer}
-use Rattle.hgs_recover.specs.Clearing.{Clears, ClearsEach, IsLeft, leftover_paths}
+use Rattle.hgs_recover.specs.Clearing.{ClearsEach, IsLeft, leftover_paths}
 use Rattle.hgs_recover.proofs.Basics.{after_all-append, with_file-same}
 use Rattle.hgs_recover.proofs.Clears.{clears-both, clears-left, removed-by, then}
 

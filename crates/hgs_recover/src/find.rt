@@ -7,7 +7,7 @@ ghost use Rattle.hgs_journal.specs.Names.{backups_path, journal_path};
 ghost use Rattle.hgs_journal.specs.Texts.{HasPath, IsBackupLine};
 ghost use Rattle.hgs_loading.specs.Found.{Finds};
 ghost use Rattle.hgs_load.specs.Answer.{HasFaultCause, IsRefusal, NeverFaults, is_fault, is_of_outside};
-ghost use Rattle.hgs_recover.specs.Found.{absent_refusal, all_kept_in, backups_in, backups_said, found_in, journal_said, kept_in, length_in, lengths_in, short_refusal, standing_in, text_refusal, undo_in};
+ghost use Rattle.hgs_recover.specs.Found.{all_kept_in, backups_in, backups_said, found_in, journal_said, kept_in, length_in, lengths_in, standing_in, text_refusal, undo_in};
 ghost use Rattle.hgs_recover.specs.Undoing.{IsUndoList};
 
 use hgs_bytes::bytes::Bytes;

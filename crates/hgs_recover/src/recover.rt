@@ -5,7 +5,7 @@ ghost use Rattle.hgs_files.specs.Files.{GoesOn};
 ghost use Rattle.hgs_files.specs.Reads.{Rose};
 ghost use Rattle.hgs_files.specs.Tree.{after_all};
 ghost use Rattle.hgs_machine.specs.Carry.{tree_now};
-ghost use Rattle.hgs_machine.specs.Locks.{CausesLeft, NeverFall};
+ghost use Rattle.hgs_machine.specs.Locks.{NeverFall};
 ghost use Rattle.hgs_recover.specs.Clearing.{IsLeft};
 ghost use Rattle.hgs_recover.specs.declared.answer.RecoverAnswer.TheVariants.{Fault, Unfinished};
 ghost use Rattle.hgs_recover.specs.Found.{answer_in};

@@ -29,7 +29,6 @@ use Rattle.hgs_judge.specs.Found as judge
 use Rattle.hgs_judge.specs.Words.{lacks_file, lacks_row, lacks_found}
 use Rattle.hgs_report.specs.Adds.{Adds}
 use Rattle.hgs_report.specs.Names as names
-use Rattle.hgs_report.specs.Names.{unused_in}
 use Rattle.hgs_report.specs.Parts.{AreParts, IsOfAny, of_calls, of_store, of_roots, of_bookmarks, of_dirstate, of_names, of_unused, of_paths, of_lists}
 use Rattle.hgs_report.specs.Parts as parts
 use Rattle.hgs_report.specs.Store as store

@@ -11,7 +11,7 @@ use Rattle.hgs_phases.specs.declared.roots.Root.{Root}
 use Rattle.hgs_phases.specs.Roots.{read_roots}
 use Rattle.hgs_stands.specs.Places.{bookmarks_path, dirstate_path, roots_path}
 use Rattle.hgs_findings.specs.Findings as findings
-use Rattle.hgs_findings.specs.Findings.{Finding, IsFinding, is_finding, roots_in, mark_lines_in, dirstate_in, known, is_unknown_parent, paths_at_node, tracks_others}
+use Rattle.hgs_findings.specs.Findings.{Finding, IsFinding, is_finding, dirstate_in, is_unknown_parent, paths_at_node, tracks_others}
 use Rattle.hgs_findings.specs.Reading.{sight_of}
 use Rattle.hgs_findings.specs.Sight.{value, place}
 use Rattle.hgs_judge.specs.Report.{one_if}

@@ -1,6 +1,6 @@
 //! What the definitions of this crate imply. Each function is one law; none does anything but name the laws below that
 //! its proof takes.
-ghost use Rattle.std.specs.Prelude.{◌≡◌, ◌==◌, ◌++◌, ℕ, List, [], Option, true, not, length, codes, flat_map, is_some};
+ghost use Rattle.std.specs.Prelude.{◌≡◌, ◌==◌, ◌++◌, ℕ, List, Option, true, not, length, codes, flat_map, is_some};
 ghost use Rattle.std.specs.List.{list_any};
 ghost use Rattle.hgs_files.specs.Tree.{Tree, bytes_at};
 ghost use Rattle.hgs_journal.specs.Names.{journal_path};

@@ -1,5 +1,5 @@
 //! What is found of the changelog and of the manifest.
-ghost use Rattle.std.specs.Prelude.{◌≡◌, ◌<◌, ◌^◌, ◌++◌, List, length, map, IfOk, OnOk};
+ghost use Rattle.std.specs.Prelude.{◌≡◌, ◌<◌, ◌^◌, ◌++◌, length, map, IfOk, OnOk};
 ghost use Rattle.hgs_findings.specs.Sight.{Sight, seen};
 ghost use Rattle.hgs_findings.specs.Sight as sight;
 ghost use Rattle.hgs_revlog.specs.Loaded.{parents_in};

@@ -1,31 +1,28 @@
 -- The laws of loading an index of either form.
-use Rattle.std.proofs.Common.{◌≡◌, ◌⊎◌, ℕ, zero, suc, ◌+◌, ◌-◌, ◌*◌, ◌/◌, ◌%◌, ◌<◌, ◌≤◌, Bool, true, false, cond, ◌&&◌, ◌||◌, not, List, [], ◌∷◌, ◌++◌, length, take, drop, Option, Some, None, Result, Ok, Err, inl, inr, refl, sym, ◌∙◌, ap, subst, arith, append_assoc, append-nil, length-append}
-use Rattle.std.specs.Prelude.{◌==◌, nat_le, nat_lt, slice_get}
-use Rattle.std.specs.Int.{w16, w32, from_be_bytes}
+use Rattle.std.proofs.Common.{◌≡◌, ℕ, zero, suc, ◌+◌, ◌*◌, ◌/◌, ◌≤◌, Bool, true, false, cond, ◌&&◌, ◌||◌, not, List, [], ◌∷◌, ◌++◌, length, take, drop, Some, Result, Ok, Err, refl, sym, ◌∙◌, ap, subst, arith, append-nil, length-append}
+use Rattle.std.specs.Prelude.{nat_lt, slice_get}
+use Rattle.std.specs.Int.{w32, from_be_bytes}
 use Rattle.std.proofs.lemmas.List.{length-take, length-drop, length_push, take-take, drop-take, drop-drop, take_at, drop_at}
 use Rattle.hex.specs.Hex.{IsBytes}
 use Rattle.hgs_index.specs.declared.entry.Entry as index_entry
 use Rattle.hgs_index.specs.declared.entry.EntryFault.TheVariants.{Version, HeaderFlags, Negative, Padding}
-use Rattle.hgs_index.specs.declared.entry.Header.{Header}
-use Rattle.hgs_index.specs.declared.node.Node.{Node}
-use Rattle.hgs_index.specs.Entry.{part, number_at, is_negative, has_bad_header, has_negative, header_of, header_at, fields_of}
-use Rattle.hgs_index.specs.Inline.{says_inline, is_inline, is_cut, entries_in, chunks_in, without_inline, index_apart, chunks_apart}
+use Rattle.hgs_index.specs.Entry.{part, number_at, is_negative, has_negative}
+use Rattle.hgs_index.specs.Inline.{is_inline, is_cut, entries_in, chunks_in, without_inline, index_apart, chunks_apart}
 use Rattle.hgs_index.specs.Revision.{Revision}
-use Rattle.hgs_index.specs.Revlog.{Holds, HoldsRevisions, BeginsWithRevisions}
+use Rattle.hgs_index.specs.Revlog.{Holds, HoldsRevisions}
 use Rattle.hgs_revlog.specs.declared.fault.RevFault.{RevFault}
-use Rattle.hgs_revlog.specs.declared.fault.RevFault.TheVariants.{Missing, Tail}
-use Rattle.hgs_revlog.specs.declared.fault.Tail.TheVariants.{Ignore, Refuse, Until}
+use Rattle.hgs_revlog.specs.declared.fault.Tail.TheVariants.{Refuse}
 use Rattle.hgs_revlog.specs.declared.fault.Tail as tails
-use Rattle.hgs_revlog.specs.Held.{Agrees, AreWithinLimits, EndsFirstAt, chunk_in, read_all}
-use Rattle.hgs_revlog.specs.Load.{entry_behind, ends_at, at_end, after, load_from, loaded_either, loaded, in_form}
+use Rattle.hgs_revlog.specs.Held.{Agrees, AreWithinLimits, chunk_in, read_all}
+use Rattle.hgs_revlog.specs.Load.{entry_behind, ends_at, after, load_from, loaded_either, loaded, in_form}
 use Rattle.hgs_revlog.specs.Loaded.{AreEntries, HaveNodes}
-use Rattle.hgs_revlog.specs.Log.{Log, with_entry, place_of, stored_sum}
+use Rattle.hgs_revlog.specs.Log.{Log, with_entry, stored_sum}
 use Rattle.hgs_revlog.proofs.FormLemmas.{loads-apart, marked-first, marked-length, marked-number, marked-rest}
 use Rattle.hgs_revlog.specs.Theorems.ApartBytes.{apart-bytes}
 use Rattle.hgs_revlog.specs.Theorems.LoadLemmas.{taken_entry, faultless}
 use Rattle.hgs_revlog.proofs.LoadedLemmas.{end_is, entry-read, get-kept, load_holds, loaded-entries, loaded-nodes}
 use Rattle.hgs_revlog.specs.Theorems.LogLemmas.{sum_push}
-use Rattle.hgs_revlog.specs.Theorems.ReadLemmas.{bytes_drop, bytes_take, loaded-front, read_entry, slice_get_seam}
+use Rattle.hgs_revlog.specs.Theorems.ReadLemmas.{loaded-front, read_entry, slice_get_seam}
 use Rattle.hgs_revlog.specs.Theorems.StandingLemmas.{held-loaded}
 
 -- ---- for either form

@@ -1,12 +1,12 @@
 -- The parents in entries, and bytes that are loaded whole.
-use Rattle.std.proofs.Common.{◌≡◌, ℕ, ◌+◌, ◌*◌, ◌/◌, List, [], ◌∷◌, ◌++◌, length, take, map, Ok, refl, sym, ◌∙◌, ap, arith}
+use Rattle.std.proofs.Common.{◌≡◌, ℕ, ◌+◌, ◌*◌, ◌/◌, List, [], ◌∷◌, ◌++◌, length, take, map, Ok, refl, ◌∙◌, ap, arith}
 use Rattle.std.proofs.lemmas.List.{take_all}
 use Rattle.hgs_index.specs.declared.entry.Entry.{Entry}
 use Rattle.hgs_index.specs.Revision.{Parents, Revision, node_after}
 use Rattle.hgs_index.specs.Revlog.{HoldsRevisions, Stored, items_from}
 use Rattle.hgs_index.specs.Theorems.RevlogLemmas.{length-held}
 use Rattle.hgs_revlog.specs.declared.fault.Tail.TheVariants.{Ignore, Refuse}
-use Rattle.hgs_revlog.specs.Held.{Agrees, AreWithinLimits, read_all}
+use Rattle.hgs_revlog.specs.Held.{Agrees, AreWithinLimits}
 use Rattle.hgs_revlog.specs.Load.{loaded}
 use Rattle.hgs_revlog.specs.Log.{Log}
 use Rattle.hgs_revlog.specs.Theorems.StandingLemmas.{held-loaded}

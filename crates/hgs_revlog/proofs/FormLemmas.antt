@@ -1,19 +1,16 @@
 -- Inline and separate indexes: what each loads as.
-use Rattle.std.proofs.Common.{◌≡◌, ℕ, zero, suc, ◌+◌, ◌-◌, ◌*◌, ◌/◌, ◌<◌, ◌≤◌, Bool, true, false, cond, ◌&&◌, ◌||◌, not, List, [], ◌∷◌, ◌++◌, length, take, drop, Option, Some, None, Result, Ok, Err, refl, sym, ◌∙◌, ap, subst, arith, length-append}
-use Rattle.std.specs.Prelude.{◌==◌, nat_le, nat_lt}
-use Rattle.std.specs.Int.{w16, from_be_bytes}
+use Rattle.std.proofs.Common.{◌≡◌, ℕ, zero, suc, ◌+◌, ◌/◌, ◌<◌, ◌≤◌, Bool, true, false, cond, ◌&&◌, ◌||◌, not, List, [], ◌∷◌, ◌++◌, length, take, drop, Option, Some, None, Result, Ok, Err, refl, sym, ◌∙◌, ap, arith, length-append}
+use Rattle.std.specs.Prelude.{◌==◌, nat_lt}
 use Rattle.std.proofs.lemmas.List.{length-take, length-drop, length_push, take_at, drop_at}
 use Rattle.hgs_index.specs.declared.entry.Entry as index_entry
-use Rattle.hgs_index.specs.declared.entry.EntryFault.TheVariants.{Version, HeaderFlags, Negative, Padding}
-use Rattle.hgs_index.specs.declared.entry.Header.{Header}
-use Rattle.hgs_index.specs.Entry.{part, number_at, is_negative, has_bad_header, has_negative, has_padding, header_of, header_at, entry_at, fields_of}
-use Rattle.hgs_index.specs.Inline.{says_inline, is_inline, is_cut, whole_item, entries_in, without_inline, index_apart}
+use Rattle.hgs_index.specs.Entry.{number_at, is_negative}
+use Rattle.hgs_index.specs.Inline.{is_inline, is_cut, whole_item, entries_in, without_inline, index_apart}
 use Rattle.hgs_revlog.specs.declared.fault.RevFault.{RevFault}
-use Rattle.hgs_revlog.specs.declared.fault.RevFault.TheVariants.{Missing, Tail}
+use Rattle.hgs_revlog.specs.declared.fault.RevFault.TheVariants.{Tail}
 use Rattle.hgs_revlog.specs.declared.fault.Tail.TheVariants.{Ignore, Refuse, Until}
 use Rattle.hgs_revlog.specs.declared.fault.Tail as tails
-use Rattle.hgs_revlog.specs.Log.{Log, with_entry}
-use Rattle.hgs_revlog.specs.Load.{entry_behind, checked, ends_at, at_end, after, load_from, cell_of, loaded_either, loaded, in_form}
+use Rattle.hgs_revlog.specs.Log.{Log}
+use Rattle.hgs_revlog.specs.Load.{entry_behind, ends_at, at_end, after, load_from, cell_of, loaded_either, loaded, in_form}
 use Rattle.hgs_revlog.specs.Theorems.LoadLemmas.{load_rest}
 
 -- ---- the form of what is loaded_either

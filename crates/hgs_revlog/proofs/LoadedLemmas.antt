@@ -1,5 +1,5 @@
 -- What is true of the entries of an index that loads.
-use Rattle.std.proofs.Common.{not, ◌&&◌, ◌||◌, ◌⊎◌, ◌<◌, ◌≤◌, ◌-◌, ◌*◌, Option, Some, None, sym, ap, ◌∙◌, inl, inr, ◌≡◌, ℕ, zero, suc, ◌+◌, ◌/◌, Bool, true, false, cond, List, [], ◌∷◌, ◌++◌, length, take, drop, map, Result, Ok, Err, refl, subst, arith}
+use Rattle.std.proofs.Common.{not, ◌&&◌, ◌||◌, ◌⊎◌, ◌<◌, ◌≤◌, ◌-◌, ◌*◌, Some, None, sym, ap, ◌∙◌, inl, inr, ◌≡◌, ℕ, zero, suc, ◌+◌, ◌/◌, Bool, true, false, cond, List, [], ◌∷◌, ◌++◌, length, take, drop, Result, Ok, Err, refl, subst, arith}
 use Rattle.std.specs.Prelude.{◌==◌, IfSome, slice_get}
 use Rattle.std.specs.List.{AllByRecursion}
 use Rattle.std.proofs.lemmas.List.{drop-drop, length-take, length-drop, length_push, take-append-le, take_all}
@@ -20,7 +20,7 @@ use Rattle.hgs_revlog.specs.Log.{Log, with_entry, place_of, stored_sum, nodes_of
 use Rattle.hgs_revlog.specs.Load.{most_revisions, most_text, most_data, entry_behind, ends_at, at_end, after, load_from, loaded, pushed}
 use Rattle.hgs_revlog.specs.Loaded.{parents_in, HaveNodes, HaveOwnNodes, HaveOffsets, HaveSmallTexts, AreEntries}
 use Rattle.hgs_revlog.specs.Theorems.LoadLemmas.{IsFaultless, faultless, taken_entry, neither}
-use Rattle.hgs_revlog.specs.Theorems.HeldLemmas.{below, not_among}
+use Rattle.hgs_revlog.specs.Theorems.HeldLemmas.{below}
 use Rattle.hgs_revlog.specs.Theorems.LogLemmas.{position_push_none, position_push_some, same_itself, sum_push}
 use Rattle.hgs_revlog.specs.Theorems.ReadLemmas.{bytes_take, bytes_drop, read_entry}
 

@@ -1,5 +1,5 @@
 -- The entries of an index, or its first fault.
-use Rattle.std.specs.Prelude.{ℕ, zero, suc, ◌+◌, ◌-◌, ◌/◌, ◌^◌, Bool, true, false, ◌&&◌, ◌||◌, ◌==◌, not, nat_le, nat_lt, is_some, List, [], length, take, drop, Option, Some, None, Result, Ok, Err, if◌then◌else◌}
+use Rattle.std.specs.Prelude.{ℕ, zero, suc, ◌+◌, ◌-◌, ◌/◌, ◌^◌, Bool, false, ◌&&◌, ◌||◌, ◌==◌, not, nat_le, nat_lt, is_some, List, [], length, take, drop, Option, Some, None, Result, Ok, Err, if◌then◌else◌}
 use Rattle.hgs_bytes.specs.Bytes.{same}
 use Rattle.hgs_index.specs.declared.entry.Entry as index_entry
 use Rattle.hgs_index.specs.declared.entry.EntryFault.{EntryFault}

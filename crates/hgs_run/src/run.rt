@@ -7,7 +7,7 @@ ghost use Rattle.hgs_machine.specs.Refusals.{WereRefused};
 ghost use Rattle.hgs_run.specs.Session.{GaveScript, KeepsStart, KeepsYard, RunsSession, Stays};
 ghost use Rattle.hgs_script.specs.Script.{CanBeRun};
 ghost use Rattle.hgs_script.specs.declared.script.Script.{Script};
-ghost use Rattle.hgs_session.specs.Session.{AreCounted, AreOfOneStart, IfParts, IsWhole, LeftAs, MayRun, RestsOn};
+ghost use Rattle.hgs_session.specs.Session.{AreCounted, AreOfOneStart, IfParts, IsAt, IsWhole, LeftAs, MayRun, RestsOn};
 ghost use Rattle.hgs_top.specs.Given.{ReadsAsked};
 ghost use Rattle.hgs_top.specs.Histories.{MakesHistory};
 ghost use Rattle.hgs_top.specs.Orders.{IsRead, KeepsInput, Obeys};
@@ -61,7 +61,7 @@ where
     ensures input { KeepsInput (request_of_words (map string_bytes words.now)) (S.left input.old) (S.left input.new) (S.faults input.old) (S.faults input.new) }
     ensures read { IsRead (request_of_words (map string_bytes words.now)) result.status (S.left input.new) }
     ensures plays { PlaysAsked (request_of_words (map string_bytes words.now)) (S.left input.old) result.status (K.written out.old) (K.written out.new) }
-    ensures session { request_of_words (map string_bytes words.now) ≡ Ok to_session → RunsSession (S.left input.old) (Y.A.log (Y.files yard)) (Y.A.start (Y.files yard)) (Y.A.faults (Y.files yard)) (Y.A.denied (Y.files yard)) result.status (K.written out.old) (K.written out.new) (LeftAs result.left (λ y. Stays (Y.A.log (Y.files yard)) (Y.A.start (Y.files yard)) (Y.A.log (Y.files y)) (Y.A.start (Y.files y))) (λ w. ⊥)) (λ last. LeftAs result.left (λ y. RestsOn (Y.A.log (Y.files yard)) (Y.A.start (Y.files yard)) last.log (Y.A.log (Y.files y)) (Y.A.start (Y.files y))) (λ w. Y.W.log w ≡ last.log)) (λ last states. LeftAs result.left (λ y. AreCounted last states (Y.A.faults (Y.files y)) (Y.A.denied (Y.files y))) (λ w. ⊤)) (IsWhole result.left) }
+    ensures session { request_of_words (map string_bytes words.now) ≡ Ok to_session → RunsSession (S.left input.old) (Y.A.log (Y.files yard)) (Y.A.start (Y.files yard)) (Y.A.faults (Y.files yard)) (Y.A.denied (Y.files yard)) result.status (K.written out.old) (K.written out.new) (LeftAs result.left (λ y. Stays (Y.A.log (Y.files yard)) (Y.A.start (Y.files yard)) (Y.A.log (Y.files y)) (Y.A.start (Y.files y))) (λ w. ⊥)) (λ last. LeftAs result.left (λ y. RestsOn (Y.A.log (Y.files yard)) (Y.A.start (Y.files yard)) last.log (Y.A.log (Y.files y)) (Y.A.start (Y.files y))) (λ w. IsAt last (Y.W.log w) (Y.W.faults w) (Y.W.denied w))) (λ last states. LeftAs result.left (λ y. AreCounted last states (Y.A.faults (Y.files y)) (Y.A.denied (Y.files y))) (λ w. ⊤)) (IsWhole result.left) }
     ensures parts { IfParts result.left (λ w rs. AreOfOneStart (Y.A.log (Y.files yard)) (Y.A.start (Y.files yard)) (Y.W.ties w) (λ r. Y.R.ties r) rs) }
     ensures whole { KeepsYard (request_of_words (map string_bytes words.now)) result.status (IsWhole result.left) }
 {

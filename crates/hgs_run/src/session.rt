@@ -9,7 +9,7 @@ ghost use Rattle.hgs_loading.specs.Found.{required_in};
 ghost use Rattle.hgs_run.specs.Session.{GaveScript, RunsScript, RunsSession, Stays, TellsSession};
 ghost use Rattle.hgs_script.specs.Script.{CanBeRun};
 ghost use Rattle.hgs_script.specs.declared.script.Script.{Script};
-ghost use Rattle.hgs_session.specs.Session.{AreCounted, AreOfOneStart, IfParts, IsWhole, LeftAs, MayRun, RestsOn};
+ghost use Rattle.hgs_session.specs.Session.{AreCounted, AreOfOneStart, IfParts, IsAt, IsWhole, LeftAs, MayRun, RestsOn};
 ghost use Rattle.hgs_top.specs.Orders.{IsAtEnd};
 ghost use Rattle.hgs_top.specs.Run.{IsOneOf, OfTree};
 
@@ -51,9 +51,8 @@ fn tell<K: Sink>(alloc: Global, told: &Result<SessionResult, NoResult>, out: &mu
     let Ok(told) = told else {
         return end_with(out, OUT_OF_MEMORY, 30);
     };
-    let mut text = Vec::new(alloc);
-    match told.print(alloc, &mut text) {
-        Ok(()) => end_with(out, &text, 0),
+    match told.text(alloc) {
+        Ok(text) => end_with(out, &text, 0),
         Err(_) => end_with(out, OUT_OF_MEMORY, 30),
     }
 }
@@ -85,7 +84,7 @@ where
     Y::R: Drop + Send,
     requires can { CanBeRun script.now }
     requires allows { MayRun script.now.workers (Y.A.log (Y.files yard)) (Y.A.start (Y.files yard)) Y.W.allows }
-    ensures runs { ∥ RunsScript script.now.workers (Y.A.log (Y.files yard)) (Y.A.start (Y.files yard)) (Y.A.faults (Y.files yard)) (Y.A.denied (Y.files yard)) result.status (K.written out.old) (K.written out.new) (λ last. LeftAs result.left (λ y. RestsOn (Y.A.log (Y.files yard)) (Y.A.start (Y.files yard)) last.log (Y.A.log (Y.files y)) (Y.A.start (Y.files y))) (λ w. Y.W.log w ≡ last.log)) (λ last states. LeftAs result.left (λ y. AreCounted last states (Y.A.faults (Y.files y)) (Y.A.denied (Y.files y))) (λ w. ⊤)) (IsWhole result.left) ∥₁ }
+    ensures runs { ∥ RunsScript script.now.workers (Y.A.log (Y.files yard)) (Y.A.start (Y.files yard)) (Y.A.faults (Y.files yard)) (Y.A.denied (Y.files yard)) result.status (K.written out.old) (K.written out.new) (λ last. LeftAs result.left (λ y. RestsOn (Y.A.log (Y.files yard)) (Y.A.start (Y.files yard)) last.log (Y.A.log (Y.files y)) (Y.A.start (Y.files y))) (λ w. IsAt last (Y.W.log w) (Y.W.faults w) (Y.W.denied w))) (λ last states. LeftAs result.left (λ y. AreCounted last states (Y.A.faults (Y.files y)) (Y.A.denied (Y.files y))) (λ w. ⊤)) (IsWhole result.left) ∥₁ }
     ensures parts { IfParts result.left (λ w rs. AreOfOneStart (Y.A.log (Y.files yard)) (Y.A.start (Y.files yard)) (Y.W.ties w) (λ r. Y.R.ties r) rs) }
     ensures sink { result.status ≡ 19 → Rose (K.faults out.old) (K.faults out.new) }
     ensures statuses { IsOneOf (0 ∷ 19 ∷ 30 ∷ []) result.status }
@@ -110,7 +109,7 @@ where
     Y::W: Send,
     Y::R: Drop + Send,
     requires allows { (script : Script) → CanBeRun script → GaveScript (S.left input.old) (Ok script) → MayRun script.workers (Y.A.log (Y.files yard)) (Y.A.start (Y.files yard)) Y.W.allows }
-    ensures session { RunsSession (S.left input.old) (Y.A.log (Y.files yard)) (Y.A.start (Y.files yard)) (Y.A.faults (Y.files yard)) (Y.A.denied (Y.files yard)) result.status (K.written out.old) (K.written out.new) (LeftAs result.left (λ y. Stays (Y.A.log (Y.files yard)) (Y.A.start (Y.files yard)) (Y.A.log (Y.files y)) (Y.A.start (Y.files y))) (λ w. ⊥)) (λ last. LeftAs result.left (λ y. RestsOn (Y.A.log (Y.files yard)) (Y.A.start (Y.files yard)) last.log (Y.A.log (Y.files y)) (Y.A.start (Y.files y))) (λ w. Y.W.log w ≡ last.log)) (λ last states. LeftAs result.left (λ y. AreCounted last states (Y.A.faults (Y.files y)) (Y.A.denied (Y.files y))) (λ w. ⊤)) (IsWhole result.left) }
+    ensures session { RunsSession (S.left input.old) (Y.A.log (Y.files yard)) (Y.A.start (Y.files yard)) (Y.A.faults (Y.files yard)) (Y.A.denied (Y.files yard)) result.status (K.written out.old) (K.written out.new) (LeftAs result.left (λ y. Stays (Y.A.log (Y.files yard)) (Y.A.start (Y.files yard)) (Y.A.log (Y.files y)) (Y.A.start (Y.files y))) (λ w. ⊥)) (λ last. LeftAs result.left (λ y. RestsOn (Y.A.log (Y.files yard)) (Y.A.start (Y.files yard)) last.log (Y.A.log (Y.files y)) (Y.A.start (Y.files y))) (λ w. IsAt last (Y.W.log w) (Y.W.faults w) (Y.W.denied w))) (λ last states. LeftAs result.left (λ y. AreCounted last states (Y.A.faults (Y.files y)) (Y.A.denied (Y.files y))) (λ w. ⊤)) (IsWhole result.left) }
     ensures parts { IfParts result.left (λ w rs. AreOfOneStart (Y.A.log (Y.files yard)) (Y.A.start (Y.files yard)) (Y.W.ties w) (λ r. Y.R.ties r) rs) }
     ensures fault { result.status ≡ 16 → IfWhole result.left (λ y. Rose (Y.A.faults (Y.files yard)) (Y.A.faults (Y.files y))) }
     ensures failed { result.status ≡ 18 → Rose (S.faults input.old) (S.faults input.new) }

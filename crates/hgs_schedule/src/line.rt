@@ -1,6 +1,5 @@
 //! What the lines of a schedule say, each without its LF.
 ghost use Rattle.std.specs.Prelude.{◌≡◌, ◌==◌, IfOk};
-ghost use Rattle.std.specs.List.{list_any};
 ghost use Rattle.hgs_schedule.specs.Read.{readers_of, word_event, count_behind, written_of, bytes_event, reader_behind, reader_event, cat_of, phase_question_of, target_of, move_of, mark_of, unmark_of, has_space, begin_of, asked_of, event_of};
 
 use crate::event::Event;

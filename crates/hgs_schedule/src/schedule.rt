@@ -1,7 +1,7 @@
 //! The schedule of an input.
-ghost use Rattle.std.specs.Prelude.{◌≡◌, [], length};
+ghost use Rattle.std.specs.Prelude.{[], length};
 ghost use Rattle.hgs_bytes.specs.Answer.{Gives};
-ghost use Rattle.hgs_input.specs.Read.{required, is_memory, record_from};
+ghost use Rattle.hgs_input.specs.Read.{required, is_memory};
 ghost use Rattle.hgs_input.specs.View.{Reads};
 ghost use Rattle.hgs_schedule.specs.Read.{readers_of, next_event, events_from, schedule_from, read_schedule};
 

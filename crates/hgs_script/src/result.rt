@@ -1,6 +1,5 @@
 //! What came of a session, and its text.
-ghost use Rattle.std.specs.Prelude.{◌≡◌, ◌≤◌, ◌++◌, ◌∷◌, ◌^◌, ◌<◌, [], length, codes, decimal, flat_map, OnOk, OnErr, IfOk};
-ghost use Rattle.hgs_bytes.specs.Text.{line};
+ghost use Rattle.std.specs.Prelude.{◌≡◌, ◌++◌, ◌<◌, length, decimal, flat_map, OnOk, IfOk};
 ghost use Rattle.hgs_script.specs.Result.{published_line, unsure_text, answer_text, answers_text, replies_text, result_text};
 
 use hgs_bytes::bytes::Bytes;
@@ -203,7 +202,9 @@ fn push_replies(into: &mut Vec<u8>, replies: &[Answers]) -> Result<(), AllocErro
 }
 
 impl SessionResult {
-    fn text(&self, alloc: Global) -> Result<Vec<u8>, AllocError>
+    /// The text of the result: a line for each job that published, one for the job of which that is not known, and then for each
+    /// job, worker after worker, a line with its status and the length of its text, and that text with an LF behind it.
+    pub fn text(&self, alloc: Global) -> Result<Vec<u8>, AllocError>
         ensures { IfOk result (λ text. text.items ≡ result_text self.now) }
     {
         let mut text = Vec::new(alloc);
@@ -211,17 +212,5 @@ impl SessionResult {
         push_unsure(&mut text, &self.unsure)?;
         push_replies(&mut text, self.replies.as_slice())?;
         Ok(text)
-    }
-
-    /// Adds the text of the result. Where there is no memory, nothing is added.
-    ///
-    /// It has a line for each job that published, one for the job of which that is not known, and then for each job, worker
-    /// after worker, a line with its status and the length of its text, and that text with an LF behind it.
-    pub fn print(&self, alloc: Global, into: &mut Vec<u8>) -> Result<(), AllocError>
-        ensures ok { OnOk result (into.new.items ≡ into.old.items ++ result_text self.now) }
-        ensures err { OnErr result (into.new.items ≡ into.old.items) }
-    {
-        let text = self.text(alloc)?;
-        into.extend_from_slice(&text)
     }
 }

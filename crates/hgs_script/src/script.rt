@@ -1,7 +1,7 @@
 //! The script of an input.
-ghost use Rattle.std.specs.Prelude.{◌≡◌, [], length, replicate};
+ghost use Rattle.std.specs.Prelude.{[], length, replicate};
 ghost use Rattle.hgs_bytes.specs.Answer.{Gives};
-ghost use Rattle.hgs_input.specs.Read.{required, is_memory, record_from};
+ghost use Rattle.hgs_input.specs.Read.{required, is_memory};
 ghost use Rattle.hgs_input.specs.View.{Reads};
 ghost use Rattle.hgs_script.specs.Read.{workers_of, job_at, next_task, jobs_from, script_from, read_script};
 

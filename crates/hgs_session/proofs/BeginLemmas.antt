@@ -27,7 +27,7 @@ rests_begun (Some old) start log first ties b wrote new new_start h =
     subst Q b.3 (subst P b.2 h)
 
 pub comes_under : (x : Beginning) (IsLeft IsLeft' : Stage → Type 0) (IsCounted : Stage → List EndState → Type 0) (result : Result SessionResult NoResult) → ((last : Stage) → IsLeft last → IsLeft' last) → Comes x IsLeft IsCounted result → Comes x IsLeft' IsCounted result
-comes_under x IsLeft IsLeft' IsCounted result f c = record { last = c.last; calls = c.calls; makes = c.makes; left = f c.last c.left; told = c.told }
+comes_under x IsLeft IsLeft' IsCounted result f c = record { last = c.last; calls = c.calls; makes = c.makes; order = c.order; left = f c.last c.left; told = c.told }
 
 -- the reading ends of a start are new
 pub new_ones : {R : Type 0} (seen : R → Option (List Op)) (starts : R → Tree) (ties : R → Ties) (faults denied : R → ℕ) (log : Option (List Op)) (first : Tree) (lead : Ties) (rs : List R)

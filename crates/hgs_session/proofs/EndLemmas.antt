@@ -21,7 +21,7 @@ use Rattle.hgs_session.specs.declared.session.NoResult.{NoResult}
 use Rattle.hgs_session.specs.Calls.{Beginning, Call, Stage}
 use Rattle.hgs_session.specs.Desk.{HasMade}
 use Rattle.hgs_session.specs.Jobs.{HasDone, Progress}
-use Rattle.hgs_session.specs.Session.{AreCounted, AreOfOneStart, AreOfStart, Comes, EndState, EndedFrom, HasEnded, IsWithin, LeftAs, RestsOn, Tells, changes_in, count_of, state_of}
+use Rattle.hgs_session.specs.Session.{AreCounted, AreOfOneStart, AreOfStart, Comes, EndState, EndedFrom, HasEnded, IsWithin, LeftAs, RestsOn, changes_in, count_of, state_of}
 use Rattle.hgs_session.proofs.JobLemmas.{done_on}
 
 pub ended_more : (x : Beginning) (worker : ℕ) (calls : List Call) (states : List EndState) (replies : List (List Answered)) (m : EndState) (a : List Answered)
@@ -87,6 +87,7 @@ comes_of state x now history published unsure broken rs IsLeft IsCounted (Ok r) 
       last = now;
       calls = m.calls;
       makes = m.makes;
+      order = m.order;
       left = left;
       told = record {
         states = map state rs;
@@ -101,7 +102,7 @@ comes_of state x now history published unsure broken rs IsLeft IsCounted (Ok r) 
         counts = counts refl;
       };
     }))
-comes_of state x now history published unsure broken rs IsLeft IsCounted (Err e) made left h counts = ∥∥₁_map made (λ m. record { last = now; calls = m.calls; makes = m.makes; left = left; told = tt })
+comes_of state x now history published unsure broken rs IsLeft IsCounted (Err e) made left h counts = ∥∥₁_map made (λ m. record { last = now; calls = m.calls; makes = m.makes; order = m.order; left = left; told = tt })
 
 -- what is left, by what holds of it
 pub left_as : {Y A Rest Front W R : Type 0} {OfYard OfYard' : Y → Type 0} {OfEnd OfEnd' : W → Type 0} → (left : Left Y A Rest Front W R) → ((y : Y) → OfYard y → OfYard' y) → ((w : W) → OfEnd w → OfEnd' w) → LeftAs left OfYard OfEnd → LeftAs left OfYard' OfEnd'

@@ -1,6 +1,6 @@
 -- The calls that the writing jobs of a session make, one after another.
-use Rattle.std.specs.Prelude.{◌≡◌, ◌≤◌, ℕ, Bool, true, false, List, [], ◌∷◌, ◌++◌, Option, Some, None, codes, decimal, flat_map, slice_get, fold, is_some, if◌then◌else◌}
-use Rattle.std.specs.List.{FoldsTo}
+use Rattle.std.specs.Prelude.{◌≡◌, ◌≤◌, ◌<◌, ℕ, Bool, true, false, List, [], ◌∷◌, ◌++◌, Option, Some, None, codes, decimal, flat_map, slice_get, fold, is_some, if◌then◌else◌}
+use Rattle.std.specs.List.{AllByRecursion, FoldsTo}
 use Rattle.hgs_answers.specs.declared.answer.Answer.{Answer}
 use Rattle.hgs_answers.specs.declared.outcome.Outcome.{Outcome}
 use Rattle.hgs_answers.specs.declared.outcome.Outcome.TheVariants.{Done, Fault, Unfinished}
@@ -16,7 +16,7 @@ use Rattle.hgs_model.specs.declared.command.Command.{Command}
 use Rattle.hgs_script.specs.declared.job.Job.{Job}
 use Rattle.hgs_script.specs.declared.job.Job.TheVariants.{Change, Ask}
 use Rattle.hgs_script.specs.declared.result.PublishedJob.{PublishedJob}
-use Rattle.hgs_writer.specs.Refusals.{refusals_of}
+use Rattle.hgs_writer.specs.Refusals.{refusals_of, refusals_with}
 use Rattle.hgs_writer.specs.Written.{IsWrittenFor}
 
 -- ---- jobs
@@ -57,7 +57,7 @@ pub record Call : Type 0 where
   pub log : Option (List Op)
 
 -- A writing job of the script was done: its name stood in the locks, and the log went on by what its answer says. As many calls of the
--- writing end were refused as that answer tells of.
+-- writing end were refused as that answer tells of, and as it left files behind.
 pub record IsCall (x : Beginning) (old : Stage) (c : Call) (new : Stage) : Type 0 where
   pub command : Command
   pub job : job_in x.jobs c.worker c.job ≡ Some (Change command)
@@ -65,6 +65,7 @@ pub record IsCall (x : Beginning) (old : Stage) (c : Call) (new : Stage) : Type 
   pub behind : c.log ≡ new.log
   pub fault : c.answer.outcome ≡ Fault → Rose old.faults new.faults
   pub refused : WereRefused (refusals_of (is_some old.log) c.answer) old.faults new.faults old.denied new.denied
+  pub left : GoesOn old.log new.log (λ done. WereRefused (refusals_with (is_some old.log) c.answer.outcome c.changeset (tree_now old.log x.start) done) old.faults new.faults old.denied new.denied)
   pub faults : old.faults ≤ new.faults
   pub denied : old.denied ≤ new.denied
 
@@ -72,11 +73,21 @@ pub record IsCall (x : Beginning) (old : Stage) (c : Call) (new : Stage) : Type 
 abbrev pub Makes : Beginning → List Call → Stage → Type 0
 Makes x calls last = FoldsTo (IsCall x) x.first calls last
 
+-- of the calls behind this one those of its worker are later jobs
+abbrev pub IsBefore : Call → List Call → Type 0
+IsBefore c calls = AllByRecursion (λ d. d.worker ≡ c.worker → c.job < d.job) calls
+
+-- the jobs of each worker come in their order, and none twice
+abbrev pub AreInOrder : List Call → Type 0
+AreInOrder [] = Unit {0}
+AreInOrder (c ∷ calls) = IsBefore c calls × AreInOrder calls
+
 -- These calls lead to this log, where it is told.
 pub record IsLedTo (x : Beginning) (log : List Op) : Type 0 where
   pub calls : List Call
   pub last : Stage
   pub makes : Makes x calls last
+  pub order : AreInOrder calls
   pub told : last.log ≡ Some log
 
 -- the files take each log to which such calls lead, whichever they are

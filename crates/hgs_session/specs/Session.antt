@@ -12,7 +12,7 @@ use Rattle.hgs_script.specs.declared.job.Job.{Job}
 use Rattle.hgs_script.specs.declared.result.Answered.{Answered}
 use Rattle.hgs_script.specs.declared.result.SessionResult.{SessionResult}
 use Rattle.hgs_session.specs.declared.session.NoResult.{NoResult}
-use Rattle.hgs_session.specs.Calls.{Beginning, Call, Makes, MayMake, Stage, one_if_change, published_of, unsure_of}
+use Rattle.hgs_session.specs.Calls.{AreInOrder, Beginning, Call, Makes, MayMake, Stage, one_if_change, published_of, unsure_of}
 use Rattle.hgs_session.specs.Jobs.{HasDone, Progress}
 
 -- how many of these jobs write
@@ -85,6 +85,10 @@ pub record BeginsOver (x : Beginning) (jobs : List (List Job)) (log : Option (Li
 abbrev pub MayRun : List (List Job) → Option (List Op) → Tree → (Tree → List Op → Type 0) → Type 0
 MayRun jobs log start allows = (x : Beginning) → x.jobs ≡ jobs → BeginsAt x log start → MayMake x allows
 
+-- a writing end has come to this stage
+abbrev pub IsAt : Stage → Option (List Op) → ℕ → ℕ → Type 0
+IsAt stage log faults denied = (log ≡ stage.log) × (faults ≡ stage.faults) × (denied ≡ stage.denied)
+
 -- the log at rest is the earlier one and then that of the writing end
 abbrev pub RestsOn : Option (List Op) → Tree → Option (List Op) → Option (List Op) → Tree → Type 0
 RestsOn None start wrote new new_start = Unit {0}
@@ -123,11 +127,12 @@ pub record Tells (x : Beginning) (calls : List Call) (last : Stage) (IsCounted :
   pub is : IsSession x calls last states result
   pub counts : IsCounted last states
 
--- What a session leaves: writing jobs of the script were done one after another, which led to this log of what is left; and its
--- result says so, where there is one.
+-- What a session leaves: writing jobs of the script were done one after another, those of each worker in their order and none twice,
+-- which led to this log of what is left; and its result says so, where there is one.
 pub record Comes (x : Beginning) (IsLeft : Stage → Type 0) (IsCounted : Stage → List EndState → Type 0) (result : Result SessionResult NoResult) : Type 0 where
   pub last : Stage
   pub calls : List Call
   pub makes : Makes x calls last
+  pub order : AreInOrder calls
   pub left : IsLeft last
   pub told : IfOk result (λ r. Tells x calls last IsCounted r)

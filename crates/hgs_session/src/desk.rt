@@ -4,7 +4,7 @@ ghost use Rattle.hgs_answers.specs.Answer.{answer_text, status_of};
 ghost use Rattle.hgs_model.specs.Valid.{IsValid};
 ghost use Rattle.hgs_script.specs.declared.job.Job.TheVariants.{Change};
 ghost use Rattle.hgs_session.specs.Calls.{MayMake, is_published, is_unsure, job_in, name_of, published_by, unsure_with};
-ghost use Rattle.hgs_session.specs.Desk.{HasMade, IsDone};
+ghost use Rattle.hgs_session.specs.Desk.{HasMade, IsDone, IsOpen, StandsAt};
 ghost use Rattle.hgs_session.specs.Noted.{call_of};
 
 use crate::history::{Front, Head};
@@ -30,7 +30,7 @@ pub struct Done<N: Naming, F: Told> {
 }
 
 /// The writing end, the history of its calls, what these published, and the job of which that is not known. It is broken once a call
-/// could not be noted.
+/// could not be noted. `next` has of each worker the number of the first job that may still be done.
 #[derive(Drop)]
 pub struct Desk<N: Naming, W: Leads> {
     leader: Leader<N, W>,
@@ -39,8 +39,9 @@ pub struct Desk<N: Naming, W: Leads> {
     published: Vec<PublishedJob>,
     unsure: Option<(u32, u32)>,
     broken: bool,
+    next: Vec<u64>,
     ghost start: { W.start leader.end ≡ N.begins.start },
-    ghost made: { ∥ HasMade N.begins (record { log = W.log leader.end; faults = W.faults leader.end; denied = W.denied leader.end }) history published.items unsure broken ∥₁ },
+    ghost made: { ∥ StandsAt N.begins (record { log = W.log leader.end; faults = W.faults leader.end; denied = W.denied leader.end }) history published.items unsure broken next.items ∥₁ },
 }
 
 /// The most bytes that a lock may hold.
@@ -131,12 +132,14 @@ fn said(alloc: Global, command: &Command, answer: &Answer) -> Result<Answered, A
 }
 
 impl<N: Naming, W: Leads> Desk<N, W> {
-    /// The desk of a writing end that has done nothing yet. `room` takes the entries of what is published.
+    /// The desk of a writing end that has done nothing yet. `room` takes the entries of what is published, and `next` has a number for
+    /// each worker.
     pub(crate) fn new(
         leader: Leader<N, W>,
         head: Head<N, W::Front>,
         history: Front<N, W::Front>,
         room: Vec<PublishedJob>,
+        next: Vec<u64>,
     ) -> Desk<N, W>
         requires start { W.start leader.end ≡ N.begins.start }
         requires log { W.log leader.end ≡ N.begins.first.log }
@@ -152,6 +155,17 @@ impl<N: Naming, W: Leads> Desk<N, W> {
             published: room,
             unsure: None,
             broken: false,
+            next,
+        }
+    }
+
+    // Whether a worker has done neither the job of this number nor a later one. In each run it has not.
+    fn is_open(&self, worker: u32, job: u32) -> bool
+        ensures { result ≡ true → IsOpen self.now.next.items worker job }
+    {
+        match self.next.get(worker as usize) {
+            Some(next) => *next <= job as u64,
+            None => false,
         }
     }
 
@@ -165,6 +179,7 @@ impl<N: Naming, W: Leads> Desk<N, W> {
         name: &[u8],
     ) -> Noted<W::Front>
         requires sound { self.old.broken ≡ false }
+        requires may { IsOpen self.old.next.items worker job }
         requires job { job_in N.begins.jobs worker job ≡ Some (Change command.now) }
         requires name { name.now ≡ name_of worker job }
         requires valid { IsValid command.now }
@@ -175,9 +190,10 @@ impl<N: Naming, W: Leads> Desk<N, W> {
         ensures worker { result.worker ≡ worker }
         ensures job { result.job ≡ job }
         ensures home { W.Front.home result.front ≡ N.home }
-        ensures made { ∥ HasMade N.begins (record { log = W.log self.new.leader.end; faults = W.faults self.new.leader.end; denied = W.denied self.new.leader.end }) (self.new.history ++ call_of W.Front.log result ∷ []) (self.new.published.items ++ published_by (call_of W.Front.log result)) (unsure_with self.new.unsure (call_of W.Front.log result)) false ∥₁ }
+        ensures made { ∥ StandsAt N.begins (record { log = W.log self.new.leader.end; faults = W.faults self.new.leader.end; denied = W.denied self.new.leader.end }) (self.new.history ++ call_of W.Front.log result ∷ []) (self.new.published.items ++ published_by (call_of W.Front.log result)) (unsure_with self.new.unsure (call_of W.Front.log result)) false self.new.next.items ∥₁ }
     {
         self.broken = true;
+        self.next[worker as usize] = job as u64 + 1;
         let Written { answer, changeset } = write_told(alloc, &mut self.leader, command, name);
         Noted {
             worker,
@@ -191,7 +207,7 @@ impl<N: Naming, W: Leads> Desk<N, W> {
     // Notes a job that was done, and gives the history with it; or nothing where there is no memory.
     fn note(&mut self, noted: &Noted<W::Front>) -> Option<Front<N, W::Front>>
         requires broken { self.old.broken ≡ true }
-        requires made { ∥ HasMade N.begins (record { log = W.log self.old.leader.end; faults = W.faults self.old.leader.end; denied = W.denied self.old.leader.end }) (self.old.history ++ call_of W.Front.log noted.now ∷ []) (self.old.published.items ++ published_by (call_of W.Front.log noted.now)) (unsure_with self.old.unsure (call_of W.Front.log noted.now)) false ∥₁ }
+        requires made { ∥ StandsAt N.begins (record { log = W.log self.old.leader.end; faults = W.faults self.old.leader.end; denied = W.denied self.old.leader.end }) (self.old.history ++ call_of W.Front.log noted.now ∷ []) (self.old.published.items ++ published_by (call_of W.Front.log noted.now)) (unsure_with self.old.unsure (call_of W.Front.log noted.now)) false self.old.next.items ∥₁ }
         ensures leader { self.new.leader ≡ self.old.leader }
         ensures history { IfSome result (λ front. front ≡ self.old.history ++ call_of W.Front.log noted.now ∷ []) }
     {
@@ -218,7 +234,7 @@ impl<N: Naming, W: Leads> Desk<N, W> {
         ensures home { IfSome result (λ done. W.Front.home done.front ≡ N.home) }
         ensures done { IfSome result (λ done. ∥ IsDone worker job command.now (W.Front.log done.front) done.history done.answered ∥₁) }
     {
-        if self.broken {
+        if self.broken || !self.is_open(worker, job) {
             return None;
         }
         let name = name_of(alloc, worker, job).ok()?;
@@ -244,6 +260,7 @@ impl<N: Naming, W: Leads> Desk<N, W> {
             published,
             unsure,
             broken,
+            next: _,
         } = self;
         Listed {
             end: leader.into_end(),

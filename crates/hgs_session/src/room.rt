@@ -8,13 +8,14 @@ use hgs_script::result::{Answered, Answers, PublishedJob};
 use std::alloc::{AllocError, Global};
 
 /// Room for an entry of each job that writes, for the answers to each worker's jobs, the last worker's first, for the reading ends, and
-/// for the answers of all workers.
+/// for the answers of all workers; and of each worker the number of its next job, which is 0.
 #[derive(Drop)]
 pub(crate) struct Room<R> {
     pub(crate) published: Vec<PublishedJob>,
     pub(crate) answers: Vec<Vec<Answered>>,
     pub(crate) ends: Vec<R>,
     pub(crate) replies: Vec<Answers>,
+    pub(crate) next: Vec<u64>,
 }
 
 fn one_if_change(job: &Job) -> u64
@@ -56,14 +57,17 @@ impl<R: Drop> Room<R> {
         ensures replies { IfOk result (λ room. room.replies.items ≡ []) }
     {
         let mut answers = Vec::with_capacity(alloc, workers.len())?;
+        let mut next = Vec::with_capacity(alloc, workers.len())?;
         for jobs in workers.iter().rev() {
             answers.push(Vec::with_capacity(alloc, jobs.len())?)?;
+            next.push(0u64)?;
         }
         Ok(Room {
             published: Vec::with_capacity(alloc, changes_in(workers).unwrap_or(0) as usize)?,
             answers,
             ends: Vec::with_capacity(alloc, workers.len())?,
             replies: Vec::with_capacity(alloc, workers.len())?,
+            next,
         })
     }
 }

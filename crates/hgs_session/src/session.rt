@@ -1,10 +1,10 @@
 //! A session: its workers do their jobs at the same time, over shared files.
-ghost use Rattle.std.specs.Prelude.{◌≡◌, ◌≤◌, ⊤, [], false, List, All, IfOk, IsOk, Ok, length, map, true};
+ghost use Rattle.std.specs.Prelude.{◌≡◌, ⊤, [], false, All, IfOk, IsOk, Ok, length, map, true};
 ghost use Rattle.hgs_files.specs.Ends.{EndsWithin, Follow, total_of};
 ghost use Rattle.hgs_files.specs.Reads.{counted};
 ghost use Rattle.hgs_script.specs.Script.{CanBeRun};
 ghost use Rattle.hgs_session.specs.Calls.{Beginning, MayMake};
-ghost use Rattle.hgs_session.specs.Session.{AreCounted, AreOfOneStart, AreOfStart, BeginsOver, Comes, EndedFrom, IfParts, IsNew, IsWhole, LeftAs, MayRun, RestsOn, changes_in};
+ghost use Rattle.hgs_session.specs.Session.{AreCounted, AreOfOneStart, AreOfStart, BeginsOver, Comes, EndedFrom, IfParts, IsAt, IsNew, IsWhole, LeftAs, MayRun, RestsOn, changes_in};
 
 use crate::close::{Gathered, gather};
 use crate::desk::{Desk, Listed};
@@ -120,7 +120,7 @@ fn put_together<Y: Yard>(
 where
     Y::R: Drop,
     requires { All (λ r. (Y.R.ties r).home ≡ (Y.W.ties w).home) rs.items }
-    ensures left { LeftAs result.left (λ y. Follow (Y.W.ties w) (Y.W.log w) (Y.A.log (Y.files y)) (Y.A.start (Y.files y))) (λ end. Y.W.log end ≡ Y.W.log w) }
+    ensures left { LeftAs result.left (λ y. Follow (Y.W.ties w) (Y.W.log w) (Y.A.log (Y.files y)) (Y.A.start (Y.files y))) (λ end. IsAt (record { log = Y.W.log w; faults = Y.W.faults w; denied = Y.W.denied w }) (Y.W.log end) (Y.W.faults end) (Y.W.denied end)) }
     ensures told { IfOk result.result (λ r. told ≡ Ok r) }
     ensures within { IfOk result.result (λ r. All (λ r. EndsWithin (Y.W.log w) (Y.R.seen r) (Y.R.ties r).told) rs.items) }
     ensures counts { IsOk result.result → LeftAs result.left (λ y. (Y.A.faults (Y.files y) ≡ counted (Y.W.faults w) (total_of Y.R.faults rs.items)) × (Y.A.denied (Y.files y) ≡ counted (Y.W.denied w) (total_of Y.R.denied rs.items))) (λ end. ⊤) }
@@ -180,7 +180,7 @@ where
     requires home { All (λ r. (Y.R.ties r).home ≡ N.home) gathered.ends.items }
     requires whole { gathered.whole ≡ true → ∥ EndedFrom N.begins 0 listed.history (map (λ r. record { told = (Y.R.ties r).told; seen = Y.R.seen r; faults = Y.R.faults r; denied = Y.R.denied r }) gathered.ends.items) gathered.replies.items ∥₁ }
     requires count { gathered.whole ≡ true → length gathered.replies.items ≡ length script.now.workers }
-    ensures comes { ∥ Comes N.begins (λ last. LeftAs result.left (λ y. RestsOn N.earlier N.earlier_start last.log (Y.A.log (Y.files y)) (Y.A.start (Y.files y))) (λ w. Y.W.log w ≡ last.log)) (λ last states. LeftAs result.left (λ y. AreCounted last states (Y.A.faults (Y.files y)) (Y.A.denied (Y.files y))) (λ w. ⊤)) result.result ∥₁ }
+    ensures comes { ∥ Comes N.begins (λ last. LeftAs result.left (λ y. RestsOn N.earlier N.earlier_start last.log (Y.A.log (Y.files y)) (Y.A.start (Y.files y))) (λ w. IsAt last (Y.W.log w) (Y.W.faults w) (Y.W.denied w))) (λ last states. LeftAs result.left (λ y. AreCounted last states (Y.A.faults (Y.files y)) (Y.A.denied (Y.files y))) (λ w. ⊤)) result.result ∥₁ }
     ensures parts { IfParts result.left (λ w rs. AreOfStart N.earlier N.earlier_start (Y.W.ties w) (λ r. Y.R.ties r) rs) }
     ensures whole { IsOk result.result → IsWhole result.left }
 {
@@ -227,7 +227,7 @@ where
     requires homes { All (λ r. (Y.R.ties r).home ≡ N.home) rs.items }
     requires new { All (λ r. IsNew N.begins.first.log N.begins.start (Y.R.seen r) (Y.R.start r) (Y.R.ties r).told (Y.R.faults r) (Y.R.denied r)) rs.items }
     requires room { (room.published.items ≡ []) × (room.ends.items ≡ []) × (room.replies.items ≡ []) }
-    ensures comes { ∥ Comes N.begins (λ last. LeftAs result.left (λ y. RestsOn N.earlier N.earlier_start last.log (Y.A.log (Y.files y)) (Y.A.start (Y.files y))) (λ w. Y.W.log w ≡ last.log)) (λ last states. LeftAs result.left (λ y. AreCounted last states (Y.A.faults (Y.files y)) (Y.A.denied (Y.files y))) (λ w. ⊤)) result.result ∥₁ }
+    ensures comes { ∥ Comes N.begins (λ last. LeftAs result.left (λ y. RestsOn N.earlier N.earlier_start last.log (Y.A.log (Y.files y)) (Y.A.start (Y.files y))) (λ w. IsAt last (Y.W.log w) (Y.W.faults w) (Y.W.denied w))) (λ last states. LeftAs result.left (λ y. AreCounted last states (Y.A.faults (Y.files y)) (Y.A.denied (Y.files y))) (λ w. ⊤)) result.result ∥₁ }
     ensures parts { IfParts result.left (λ w rs. AreOfStart N.earlier N.earlier_start (Y.W.ties w) (λ r. Y.R.ties r) rs) }
     ensures whole { IsOk result.result → IsWhole result.left }
 {
@@ -237,9 +237,10 @@ where
         answers,
         ends,
         replies,
+        next,
     } = room;
     let mut workers = workers_of::<N, Y::R>(alloc, rs, &history, answers);
-    let desk = Mutex::new(Desk::new(Leader::new(w), head, history, published));
+    let desk = Mutex::new(Desk::new(Leader::new(w), head, history, published, next));
     work_all(rt, alloc, &desk, &mut workers, script, gate);
     let listed = desk.into_inner().into_parts();
     let gathered = gather(
@@ -274,7 +275,7 @@ where
     Y::R: Drop + Send,
     requires can { CanBeRun script.now }
     requires allows { MayRun script.now.workers (Y.A.log (Y.files yard)) (Y.A.start (Y.files yard)) Y.W.allows }
-    ensures comes { ∥ ((x : Beginning) × BeginsOver x script.now.workers (Y.A.log (Y.files yard)) (Y.A.start (Y.files yard)) (Y.A.faults (Y.files yard)) (Y.A.denied (Y.files yard)) × Comes x (λ last. LeftAs result.left (λ y. RestsOn (Y.A.log (Y.files yard)) (Y.A.start (Y.files yard)) last.log (Y.A.log (Y.files y)) (Y.A.start (Y.files y))) (λ w. Y.W.log w ≡ last.log)) (λ last states. LeftAs result.left (λ y. AreCounted last states (Y.A.faults (Y.files y)) (Y.A.denied (Y.files y))) (λ w. ⊤)) result.result) ∥₁ }
+    ensures comes { ∥ ((x : Beginning) × BeginsOver x script.now.workers (Y.A.log (Y.files yard)) (Y.A.start (Y.files yard)) (Y.A.faults (Y.files yard)) (Y.A.denied (Y.files yard)) × Comes x (λ last. LeftAs result.left (λ y. RestsOn (Y.A.log (Y.files yard)) (Y.A.start (Y.files yard)) last.log (Y.A.log (Y.files y)) (Y.A.start (Y.files y))) (λ w. IsAt last (Y.W.log w) (Y.W.faults w) (Y.W.denied w))) (λ last states. LeftAs result.left (λ y. AreCounted last states (Y.A.faults (Y.files y)) (Y.A.denied (Y.files y))) (λ w. ⊤)) result.result) ∥₁ }
     ensures parts { IfParts result.left (λ w rs. AreOfOneStart (Y.A.log (Y.files yard)) (Y.A.start (Y.files yard)) (Y.W.ties w) (λ r. Y.R.ties r) rs) }
     ensures whole { IsOk result.result → IsWhole result.left }
 {

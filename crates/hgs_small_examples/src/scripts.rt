@@ -219,11 +219,10 @@ fn results_are_printed(rt: HostRuntime) -> Result<(), Fail> {
         unsure: Some((2, 10)),
         replies: Replies::from_vec(replies),
     };
-    let mut text = Vec::from_slice(alloc, b"> ")?;
-    result.print(alloc, &mut text)?;
+    let text = result.text(alloc)?;
     assert_eq!(rt;
         text.as_slice(),
-        b"> published 0 1 0:cb9a9f314b8b07ba71012fcdbc544b5a4d82ff5b\nunsure 2 10\nworker 0 job 0 status 0 length 6\ndraft\n\nworker 0 job 1 status 0 length 7\nmain 0\n\nworker 2 job 0 status 12 length 24\nabort: unknown revision\n\nworker 2 job 1 status 30 length 0\n\n".as_slice()
+        b"published 0 1 0:cb9a9f314b8b07ba71012fcdbc544b5a4d82ff5b\nunsure 2 10\nworker 0 job 0 status 0 length 6\ndraft\n\nworker 0 job 1 status 0 length 7\nmain 0\n\nworker 2 job 0 status 12 length 24\nabort: unknown revision\n\nworker 2 job 1 status 30 length 0\n\n".as_slice()
     );
     Ok(())
 }

@@ -1,6 +1,6 @@
 //! The definitions tried on a small repository that Mercurial wrote. Each function is one example; none does anything
 //! but to call laws that it rests on.
-ghost use Rattle.std.specs.Prelude.{◌∷◌, ◌++◌, List, [], codes, map, zero};
+ghost use Rattle.std.specs.Prelude.{◌∷◌, [], codes, zero};
 ghost use Rattle.hgs_bytes.specs.Text.{lines};
 ghost use Rattle.hgs_journal.specs.Covers.{own_strays};
 ghost use Rattle.hgs_journal.specs.Names.{journal_path};

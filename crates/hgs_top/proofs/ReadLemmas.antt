@@ -1,10 +1,10 @@
 -- Inputs that were read to their end.
-use Rattle.std.proofs.Common.{◌≡◌, ◌≢◌, ◌⊎◌, inl, inr, ℕ, List, [], ◌∷◌, Option, Result, Ok, Err, sym, ◌∙◌, subst, arith}
+use Rattle.std.proofs.Common.{◌≡◌, ◌≢◌, inl, inr, ℕ, List, [], ◌∷◌, Option, sym, ◌∙◌, arith}
 use Rattle.hgs_input.specs.declared.fault.InputFault.{InputFault}
 use Rattle.hgs_input.specs.declared.fault.InputFault.TheVariants as inputs
-use Rattle.hgs_top.specs.Orders.{IsAtEnd, IsRead, IsReadBy, record_fault_status}
+use Rattle.hgs_top.specs.Orders.{IsReadBy, record_fault_status}
 use Rattle.hgs_top.specs.Run.{IsOneOf}
-use Rattle.hgs_top.specs.Words.{Job, Request, do_commit, do_init, do_mark, do_move, do_recover, do_unmark, to_answer, to_do, to_generate, to_play, to_session, to_verify}
+use Rattle.hgs_top.specs.Words.{Job, do_commit, do_init, do_mark, do_move, do_recover, do_unmark}
 
 pub refused_otherwise : (fault : InputFault) → record_fault_status fault ≢ 0
 refused_otherwise (inputs.BadInput place) e = omega (arith, e)

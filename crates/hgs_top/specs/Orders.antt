@@ -16,6 +16,7 @@ use Rattle.hgs_files.specs.declared.op.Op.TheVariants.{Create, Rename}
 use Rattle.hgs_files.specs.Tree.{Tree, after_all}
 use Rattle.hgs_index.specs.MarkName.{is_mark_name}
 use Rattle.hgs_index.specs.Limit.{limit_number}
+use Rattle.hgs_index.specs.declared.node.Node.{Node}
 use Rattle.hgs_input.specs.Read.{is_memory, read_record}
 use Rattle.hgs_input.specs.declared.fault.InputFault.{InputFault}
 use Rattle.hgs_input.specs.declared.fault.InputFault.TheVariants.{BadInput, Limit, Memory}
@@ -28,14 +29,15 @@ use Rattle.hgs_load.specs.Open.{requires_path}
 use Rattle.hgs_load.specs.declared.answer.ReadAnswer.{ReadAnswer}
 use Rattle.hgs_load.specs.declared.answer.ReadAnswer.TheVariants.{Fault}
 use Rattle.hgs_machine.specs.Carry.{tree_now}
-use Rattle.hgs_machine.specs.Refusals.{refusals_of_left}
+use Rattle.hgs_machine.specs.Refusals.{how_many_stand, refusals_of_left}
 use Rattle.hgs_recover.specs.Answer.{recovered_text, status_of as recover_status}
 use Rattle.hgs_recover.specs.Found.{answer_in}
-use Rattle.hgs_recover.specs.Recovering.{Answers, RecoversBy}
+use Rattle.hgs_recover.specs.Clearing.{leftover_paths}
+use Rattle.hgs_recover.specs.Recovering.{Answers, RecoversBy, WhereSwept}
 use Rattle.hgs_recover.specs.declared.answer.RecoverAnswer.{RecoverAnswer}
 use Rattle.hgs_recover.specs.declared.answer.RecoverAnswer.TheVariants as recoveries
-use Rattle.hgs_writer.specs.Refusals.{refusals_of}
-use Rattle.hgs_writer.specs.Written.{IsWritten}
+use Rattle.hgs_writer.specs.Refusals.{refusals_of, refusals_with}
+use Rattle.hgs_writer.specs.Written.{IsWritten, IsWrittenFor}
 use Rattle.hgs_top.specs.declared.ended.Ended.{Ended}
 use Rattle.hgs_top.specs.declared.ended.Ended.TheVariants.{Made, Exists, NotMade, NoInput, NoRecord, Refused, Answered, Recovered}
 use Rattle.hgs_top.specs.declared.words.Asked.{Asked}
@@ -196,16 +198,27 @@ refusals_of_recovered recoveries.NothingToDo swept = refusals_of_left swept
 refusals_of_recovered (recoveries.Damaged damage) swept = refusals_of_left swept
 refusals_of_recovered recoveries.Memory swept = refusals_of_left swept
 
--- As many calls on the files were refused as a writer's answer tells of, or as what recovering came to.
-abbrev pub LeftHasCause : (ℕ → Type 0) → Bool → Ended → Type 0
-LeftHasCause AreRefused told (Answered command answer) = AreRefused (refusals_of told answer)
-LeftHasCause AreRefused told (Recovered r) = AreRefused (refusals_of_recovered r.outcome r.swept)
-LeftHasCause AreRefused told ended = ⊤
+-- What a writer did is what its answer says, and as many calls were refused as its outcome tells of, and one more for each file that it
+-- leaves behind.
+abbrev pub LeavesEach : (ℕ → Type 0) → Option (List Op) → Option (List Op) → Tree → Command → Answer → Type 0
+LeavesEach AreRefused old new start command answer =
+    GoesOn old new (λ done. (changeset : Option (ℕ × Node)) × IsWrittenFor lock_text command (tree_now old start) answer changeset done × AreRefused (refusals_with (is_some old) answer.outcome changeset (tree_now old start) done))
+
+-- where recovering removes what is left over, as many calls were refused as locks and strays stand behind it
+abbrev pub RecoveredLeavesEach : (ℕ → Type 0) → Option (List Op) → Option (List Op) → Tree → RecoverAnswer → Type 0
+RecoveredLeavesEach AreRefused old new start outcome = WhereSwept outcome (GoesOn old new (λ done. AreRefused (how_many_stand leftover_paths (after_all done (tree_now old start)))))
+
+-- As many calls on the files were refused as a writer's answer tells of, or as what recovering came to; and one for each file that is
+-- left behind.
+abbrev pub LeftHasCause : (ℕ → Type 0) → Option (List Op) → Option (List Op) → Tree → Ended → Type 0
+LeftHasCause AreRefused old new start (Answered command answer) = AreRefused (refusals_of (is_some old) answer) × LeavesEach AreRefused old new start command answer
+LeftHasCause AreRefused old new start (Recovered r) = AreRefused (refusals_of_recovered r.outcome r.swept) × RecoveredLeavesEach AreRefused old new start r.outcome
+LeftHasCause AreRefused old new start ended = ⊤
 
 -- a run that does a job says what it came to
 abbrev pub Does : (ℕ → Type 0) → Job → Option (List ℕ) → Option (List Op) → Option (List Op) → Tree → ℕ → Option (List ℕ) → Option (List ℕ) → Type 0
 Does AreRefused job left old new start status written_old written_new =
-    (ended : Ended) × ComesTo job left old new start ended × LeftHasCause AreRefused (is_some old) ended × EndsLine (ended_text ended) (ended_status ended) status written_old written_new
+    (ended : Ended) × ComesTo job left old new start ended × LeftHasCause AreRefused old new start ended × EndsLine (ended_text ended) (ended_status ended) status written_old written_new
 
 -- ---- a generated repository
 

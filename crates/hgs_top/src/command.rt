@@ -1,8 +1,7 @@
 //! A command over files at rest, and the line of its refusal.
-ghost use Rattle.std.specs.Prelude.{◌≡◌, ◌≤◌, Err, Ok, true, OnOk, IfOk, ℕ, List, [], ◌∷◌, ◌++◌, ◌⊎◌, ◌≢◌, ◌^◌, ◌<◌};
+ghost use Rattle.std.specs.Prelude.{◌≡◌, ◌≤◌, Err, Ok, true, IfOk, [], ◌∷◌, ◌≢◌, ◌<◌};
 ghost use Rattle.std.specs.Result.{result_map_both};
 ghost use Rattle.hgs_files.specs.Reads.{Rose};
-ghost use Rattle.hgs_files.specs.Streams.{IsWritten};
 ghost use Rattle.hgs_files.specs.declared.streams.IoFault.TheVariants.{Failed};
 ghost use Rattle.hgs_load.specs.declared.answer.ReadAnswer.TheVariants.{Fault};
 ghost use Rattle.hgs_load.specs.Answer.{refusal_line, status_of};

@@ -1,5 +1,5 @@
 //! What a command came to that changes files, and what is said of it.
-ghost use Rattle.std.specs.Prelude.{◌≡◌, ◌++◌, OnOk, IfOk};
+ghost use Rattle.std.specs.Prelude.{◌≡◌, ◌++◌, OnOk};
 ghost use Rattle.hgs_top.specs.Orders.{abort_line, ended_status, ended_text, record_fault_status, record_fault_text};
 
 use hgs_answers::answer::Answer;

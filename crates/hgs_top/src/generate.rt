@@ -1,9 +1,8 @@
 //! A repository that a number gives: it is made, it grows commit by commit, and it is verified.
-ghost use Rattle.std.specs.Prelude.{◌≡◌, ◌≤◌, ◌⊎◌, ◌++◌, ◌∷◌, [], ℕ, List, None, OnOk, IfOk, length};
+ghost use Rattle.std.specs.Prelude.{◌≡◌, ◌≤◌, ◌⊎◌, ◌++◌, ◌∷◌, [], ℕ, List, OnOk, IfOk};
 ghost use Rattle.hgs_answers.specs.Answer.{leftover_text};
 ghost use Rattle.hgs_files.specs.Reads.{Rose};
 ghost use Rattle.hgs_files.specs.declared.op.Op.{Op};
-ghost use Rattle.hgs_index.specs.Hex.{hex};
 ghost use Rattle.hgs_judge.specs.Report.{findings_in};
 ghost use Rattle.hgs_load.specs.Answer.{refusal_line, status_of};
 ghost use Rattle.hgs_machine.specs.Refusals.{WereRefused};

@@ -1,5 +1,5 @@
 //! A new repository.
-ghost use Rattle.std.specs.Prelude.{◌≡◌, ℕ, List, Option, IfOk, IsErrOf, false};
+ghost use Rattle.std.specs.Prelude.{◌≡◌, ℕ, List, Option, IfOk, IsErrOf};
 ghost use Rattle.hgs_files.specs.Files.{GoesOn};
 ghost use Rattle.hgs_files.specs.Reads.{Rose};
 ghost use Rattle.hgs_files.specs.declared.files.FileFault.TheVariants.{Failed};
@@ -48,7 +48,7 @@ pub fn init<F: Files>(alloc: Global, files: &mut F) -> Ended
     requires { (log : List Op) → F.allows (F.start files.old) log }
     ensures comes { (left : Option (List ℕ)) → ComesTo do_init left (F.log files.old) (F.log files.new) (F.start files.old) result }
     ensures counts { NeverFall (F.faults files.old) (F.faults files.new) (F.denied files.old) (F.denied files.new) }
-    ensures left { LeftHasCause (λ n. ⊥) false result }
+    ensures left { LeftHasCause (λ n. ⊥) (F.log files.old) (F.log files.new) (F.start files.old) result }
     ensures cause { (denied_old denied_new input_old input_new : ℕ) → HasCause (F.faults files.old) (F.faults files.new) denied_old denied_new input_old input_new result }
     ensures same_start { F.start files.new ≡ F.start files.old }
 {

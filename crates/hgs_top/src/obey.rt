@@ -1,5 +1,5 @@
 //! Doing what a command asks for that changes files.
-ghost use Rattle.std.specs.Prelude.{◌≡◌, ◌≢◌, ◌≤◌, ◌⊎◌, ℕ, List, Option, IfOk, IfErr, is_some, false, true};
+ghost use Rattle.std.specs.Prelude.{◌≡◌, ◌≢◌, ◌≤◌, ◌⊎◌, ℕ, List, Option, IfOk, IfErr, is_some, true};
 ghost use Rattle.hgs_answers.specs.declared.outcome.Outcome.TheVariants.{Fault, Unfinished};
 ghost use Rattle.hgs_answers.specs.declared.outcome.Published.{Published};
 ghost use Rattle.hgs_files.specs.Files.{GoesOn};
@@ -11,7 +11,7 @@ ghost use Rattle.hgs_machine.specs.Carry.{tree_now};
 ghost use Rattle.hgs_machine.specs.Refusals.{WereRefused};
 ghost use Rattle.hgs_model.specs.Valid.{IsValid};
 ghost use Rattle.hgs_model.specs.declared.command.Command.{Command as ModelCommand};
-ghost use Rattle.hgs_top.specs.Orders.{AllowedHasCause, ComesTo, HasCause, IsAllowed, IsAtEnd, IsCommandOf, IsFit, IsReadBy, LeavesInput, LeftHasCause, ended_status, lock_text};
+ghost use Rattle.hgs_top.specs.Orders.{AllowedHasCause, ComesTo, HasCause, IsAllowed, IsAtEnd, IsCommandOf, IsFit, IsReadBy, LeavesEach, LeavesInput, LeftHasCause, ended_status, lock_text};
 ghost use Rattle.hgs_writer.specs.Refusals.{refusals_of};
 ghost use Rattle.hgs_writer.specs.Written.{IsWritten};
 ghost use Rattle.hgs_top.specs.Words.{Job, do_commit, do_mark, do_move, do_unmark, job_of};
@@ -45,7 +45,7 @@ fn commit_from<S: Source>(alloc: Global, input: &mut S) -> Result<Command, Ended
     ensures refused { IfErr result (λ ended. (log : Option (List Op)) (start : Tree) → ComesTo do_commit (S.left input.old) log log start ended) }
     ensures whole { IfOk result (λ command. IsAtEnd (S.left input.new)) }
     ensures other { IfErr result (λ ended. ended_status ended ≢ 0) }
-    ensures left { IfErr result (λ ended. LeftHasCause (λ n. ⊥) false ended) }
+    ensures left { IfErr result (λ ended. (log : Option (List Op)) (start : Tree) → LeftHasCause (λ n. ⊥) log log start ended) }
     ensures cause { IfErr result (λ ended. (faults_old faults_new denied_old denied_new : ℕ) → HasCause faults_old faults_new denied_old denied_new (S.faults input.old) (S.faults input.new) ended) }
 {
     let bytes = match read_input(alloc, input) {
@@ -100,6 +100,7 @@ fn written<F: Files>(alloc: Global, files: &mut F, command: &Command) -> Answer
     ensures fault { result.outcome ≡ Fault → Rose (F.faults files.old) (F.faults files.new) }
     ensures unfinished { (published : Published) → result.outcome ≡ Unfinished published → Rose (F.faults files.old) (F.faults files.new) ⊎ Rose (F.denied files.old) (F.denied files.new) }
     ensures calls { WereRefused (refusals_of (is_some (F.log files.old)) result) (F.faults files.old) (F.faults files.new) (F.denied files.old) (F.denied files.new) }
+    ensures left { LeavesEach (λ n. WereRefused n (F.faults files.old) (F.faults files.new) (F.denied files.old) (F.denied files.new)) (F.log files.old) (F.log files.new) (F.start files.old) command.now result }
     ensures later { F.faults files.old ≤ F.faults files.new }
     ensures denied { F.denied files.old ≤ F.denied files.new }
     ensures same_start { F.start files.new ≡ F.start files.old }
@@ -117,6 +118,7 @@ fn answer_to<F: Files>(
     requires allows { (log : List Op) → F.allows (F.start files.old) log }
     ensures comes { IsAllowed command.now (F.log files.old) (F.log files.new) (F.start files.old) result }
     ensures calls { IfOk result (λ answer. WereRefused (refusals_of (is_some (F.log files.old)) answer) (F.faults files.old) (F.faults files.new) (F.denied files.old) (F.denied files.new)) }
+    ensures left { IfOk result (λ answer. LeavesEach (λ n. WereRefused n (F.faults files.old) (F.faults files.new) (F.denied files.old) (F.denied files.new)) (F.log files.old) (F.log files.new) (F.start files.old) command.now answer) }
     ensures cause { AllowedHasCause (F.faults files.old) (F.faults files.new) (F.denied files.old) (F.denied files.new) result }
     ensures same_start { F.start files.new ≡ F.start files.old }
 {
@@ -131,7 +133,7 @@ fn obey<F: Files>(alloc: Global, files: &mut F, command: Command) -> Ended
     requires valid { IsValid command }
     requires allows { (log : List Op) → F.allows (F.start files.old) log }
     ensures comes { (job : Job) (left : Option (List ℕ)) → IsCommandOf job left command → ComesTo job left (F.log files.old) (F.log files.new) (F.start files.old) result }
-    ensures left { LeftHasCause (λ n. WereRefused n (F.faults files.old) (F.faults files.new) (F.denied files.old) (F.denied files.new)) (is_some (F.log files.old)) result }
+    ensures left { LeftHasCause (λ n. WereRefused n (F.faults files.old) (F.faults files.new) (F.denied files.old) (F.denied files.new)) (F.log files.old) (F.log files.new) (F.start files.old) result }
     ensures cause { (input_old input_new : ℕ) → HasCause (F.faults files.old) (F.faults files.new) (F.denied files.old) (F.denied files.new) input_old input_new result }
     ensures same_start { F.start files.new ≡ F.start files.old }
 {
@@ -146,7 +148,7 @@ fn obey_named<F: Files>(alloc: Global, files: &mut F, command: Result<Command, A
     requires valid { IfOk command (λ command. IsValid command) }
     requires allows { (log : List Op) → F.allows (F.start files.old) log }
     ensures comes { (job : Job) → ((left : Option (List ℕ)) → (c : ModelCommand) × IsCommandOf job left c) → IfOk command (λ command. (left : Option (List ℕ)) → IsCommandOf job left command) → (left : Option (List ℕ)) → ComesTo job left (F.log files.old) (F.log files.new) (F.start files.old) result }
-    ensures left { LeftHasCause (λ n. WereRefused n (F.faults files.old) (F.faults files.new) (F.denied files.old) (F.denied files.new)) (is_some (F.log files.old)) result }
+    ensures left { LeftHasCause (λ n. WereRefused n (F.faults files.old) (F.faults files.new) (F.denied files.old) (F.denied files.new)) (F.log files.old) (F.log files.new) (F.start files.old) result }
     ensures cause { (input_old input_new : ℕ) → HasCause (F.faults files.old) (F.faults files.new) (F.denied files.old) (F.denied files.new) input_old input_new result }
     ensures same_start { F.start files.new ≡ F.start files.old }
 {
@@ -161,7 +163,7 @@ fn commit<F: Files, S: Source>(alloc: Global, files: &mut F, input: &mut S) -> E
     requires { (log : List Op) → F.allows (F.start files.old) log }
     ensures comes { ComesTo do_commit (S.left input.old) (F.log files.old) (F.log files.new) (F.start files.old) result }
     ensures whole { ended_status result ≡ 0 → IsAtEnd (S.left input.new) }
-    ensures left { LeftHasCause (λ n. WereRefused n (F.faults files.old) (F.faults files.new) (F.denied files.old) (F.denied files.new)) (is_some (F.log files.old)) result }
+    ensures left { LeftHasCause (λ n. WereRefused n (F.faults files.old) (F.faults files.new) (F.denied files.old) (F.denied files.new)) (F.log files.old) (F.log files.new) (F.start files.old) result }
     ensures cause { HasCause (F.faults files.old) (F.faults files.new) (F.denied files.old) (F.denied files.new) (S.faults input.old) (S.faults input.new) result }
     ensures same_start { F.start files.new ≡ F.start files.old }
 {
@@ -181,7 +183,7 @@ pub fn do_order<F: Files, S: Source>(
     requires fit { IsFit order }
     requires allows { (log : List Op) → F.allows (F.start files.old) log }
     ensures comes { ComesTo (job_of order.entry) (S.left input.old) (F.log files.old) (F.log files.new) (F.start files.old) result }
-    ensures left { LeftHasCause (λ n. WereRefused n (F.faults files.old) (F.faults files.new) (F.denied files.old) (F.denied files.new)) (is_some (F.log files.old)) result }
+    ensures left { LeftHasCause (λ n. WereRefused n (F.faults files.old) (F.faults files.new) (F.denied files.old) (F.denied files.new)) (F.log files.old) (F.log files.new) (F.start files.old) result }
     ensures cause { HasCause (F.faults files.old) (F.faults files.new) (F.denied files.old) (F.denied files.new) (S.faults input.old) (S.faults input.new) result }
     ensures whole { IsReadBy (job_of order.entry) (ended_status result) (S.left input.new) }
     ensures input { LeavesInput (job_of order.entry) (S.left input.old) (S.left input.new) (S.faults input.old) (S.faults input.new) }

@@ -1,5 +1,5 @@
 //! A schedule that is played in memory.
-ghost use Rattle.std.specs.Prelude.{◌≡◌, ◌∷◌, [], List};
+ghost use Rattle.std.specs.Prelude.{◌≡◌, ◌∷◌, []};
 ghost use Rattle.hgs_files.specs.Reads.{Rose};
 ghost use Rattle.std.specs.List.{AllByRecursion};
 ghost use Rattle.hgs_schedule.specs.Schedule.{CanCome};

@@ -3,7 +3,7 @@ ghost use Rattle.std.specs.Prelude.{◌≡◌, ◌⊎◌, ◌∷◌, [], List};
 ghost use Rattle.hgs_files.specs.Reads.{Rose};
 ghost use Rattle.hgs_files.specs.declared.op.Op.{Op};
 ghost use Rattle.hgs_machine.specs.Refusals.{WereRefused};
-ghost use Rattle.hgs_top.specs.Orders.{Does, HasCause, IsFit, IsReadBy, LeavesInput, ended_status, ended_text};
+ghost use Rattle.hgs_top.specs.Orders.{Does, IsFit, IsReadBy, LeavesInput, ended_status, ended_text};
 ghost use Rattle.hgs_top.specs.Run.{EndsLine, IsOneOf};
 ghost use Rattle.hgs_top.specs.Words.{job_of};
 

@@ -1,5 +1,5 @@
 //! The report of a repository, and how it is written.
-ghost use Rattle.std.specs.Prelude.{◌≡◌, ◌≤◌, ◌++◌, ◌∷◌, [], IfOk, List, OnOk, length};
+ghost use Rattle.std.specs.Prelude.{◌≡◌, ◌≤◌, ◌++◌, ◌∷◌, [], IfOk, OnOk, length};
 ghost use Rattle.hgs_files.specs.Reads.{Rose};
 ghost use Rattle.hgs_judge.specs.Report.{finding_in, findings_in};
 ghost use Rattle.hgs_top.specs.Run.{EndsLine, IsOneOf, Verifies};

@@ -4,7 +4,7 @@ ghost use Rattle.hgs_top.specs.Orders.{IsFitting};
 ghost use Rattle.std.specs.Option.{option_map};
 ghost use Rattle.std.specs.Result.{result_map_both};
 ghost use Rattle.std.specs.String.{string_bytes};
-ghost use Rattle.hgs_top.specs.Words.{operands_in, operand, operands, asked_with, ask_files, ask_cat, ask_phase, moved_with, phase_with, bookmark_with, behind_word, to_answer, to_do, do_mark, do_unmark, to_generate, seed_of, count_of, verify_by, verify_with, request_of, request_named, alone_named, about_named, is_session, page_named, request_of_words};
+ghost use Rattle.hgs_top.specs.Words.{operands_in, operand, asked_with, ask_files, ask_cat, moved_with, phase_with, bookmark_with, behind_word, to_answer, to_do, do_mark, do_unmark, to_generate, seed_of, count_of, verify_by, verify_with, request_of, request_named, alone_named, about_named, is_session, page_named, request_of_words};
 ghost use Rattle.hgs_top.specs.declared.operands.Operand.TheVariants as operand_kinds;
 
 use crate::operands::{

@@ -3,7 +3,6 @@ ghost use Rattle.std.specs.Prelude.{◌≡◌, IfErr, IfOk, OnOk, true};
 ghost use Rattle.hgs_findings.specs.Regular.{used_paths};
 ghost use Rattle.hgs_findings.specs.Reading.{sight_of};
 ghost use Rattle.hgs_files.specs.Reads.{Grows};
-ghost use Rattle.hgs_files.specs.Tree.{Tree};
 ghost use Rattle.hgs_judge.specs.Report.{findings_in};
 ghost use Rattle.hgs_load.specs.Answer.{HasFaultCause, is_of_outside};
 ghost use Rattle.hgs_report.specs.Store.{IsStoreOf};

@@ -1,6 +1,6 @@
 -- Each event keeps what the commands say of the files.
-use Rattle.std.proofs.Common.{◌≡◌, ◌⊎◌, ℕ, ◌≤◌, List, [], ◌∷◌, ◌++◌, length, Bool, true, false, refl, sym, ◌∙◌, ap, subst, inl, inr}
-use Rattle.std.specs.Prelude.{Option, Some, None, Result, Ok, Err, codes, unwrap_or}
+use Rattle.std.proofs.Common.{◌≡◌, ◌⊎◌, ℕ, List, [], ◌∷◌, ◌++◌, length, true, refl, sym, ◌∙◌, ap, subst, inl, inr}
+use Rattle.std.specs.Prelude.{Option, Some, None, codes, unwrap_or}
 use Rattle.std.specs.List.{AllByRecursion}
 use Rattle.hgs_answers.specs.declared.answer.Answer.{Answer}
 use Rattle.hgs_files.specs.declared.op.Op.{Op}
@@ -8,15 +8,10 @@ use Rattle.hgs_files.specs.Tree.{Tree, after_all, bytes_at}
 use Rattle.hgs_journal.specs.Names.{journal_path}
 use Rattle.hgs_legal.specs.Pieces.{Piece}
 use Rattle.hgs_machine.specs.Asked.{Doing, Ending, Question, Sizing, asked}
-use Rattle.hgs_machine.specs.Course.{CarriedOut, lock_removals}
-use Rattle.hgs_machine.specs.Fed.{is_acknowledged, is_published, new_machine}
-use Rattle.hgs_machine.specs.Locks.{AreLocked, AreRemoved, IsTurnedAway}
+use Rattle.hgs_machine.specs.Fed.{is_acknowledged, is_published}
+use Rattle.hgs_machine.specs.Locks.{AreLocked, IsTurnedAway}
 use Rattle.hgs_machine.specs.Planned.{IsPlanned}
-use Rattle.hgs_machine.specs.SoFar.{IsInPart, SoFar, stopped_as}
-use Rattle.hgs_machine.specs.declared.locks.LockRefusal.{LockRefusal}
-use Rattle.hgs_machine.specs.declared.machine.Machine.{Machine}
 use Rattle.hgs_model.specs.Repo.{Repo, empty_repo}
-use Rattle.hgs_model.specs.Step.{step}
 use Rattle.hgs_model.specs.Valid.{IsValid}
 use Rattle.hgs_model.specs.declared.command.Command.{Command}
 use Rattle.hgs_ops.specs.Operations.{strays}
@@ -28,14 +23,9 @@ use Rattle.hgs_schedule.specs.Schedule.{CanCome}
 use Rattle.hgs_schedule.specs.declared.event.Event.{Event}
 use Rattle.hgs_schedule.specs.declared.event.Event.TheVariants.{Begin, Write, Fail, UntilPublish, UntilClean, Finish, Open, Read, Load, Log, Cat, Phase, Bookmarks, Stop, Recover}
 use Rattle.hgs_stands.specs.Open.{IsOpen}
-use Rattle.hgs_stands.specs.Places.{store_files}
-use Rattle.hgs_stands.specs.Requires.{IsInProfile}
-use Rattle.hgs_stands.specs.Stands.{IsClean, Stands}
-use Rattle.hgs_transaction.specs.declared.assemble.Plan.{Plan}
-use Rattle.hgs_writer.specs.Alone.{HasWhatItNeeds, IsAnswered}
+use Rattle.hgs_stands.specs.Stands.{Stands}
+use Rattle.hgs_writer.specs.Alone.{HasWhatItNeeds}
 use Rattle.hgs_writer.specs.Begun.{Begins, IsRefused, has_no_locks, has_no_plan}
-use Rattle.hgs_writer.specs.Outcomes.{outcome_of_ended}
-use Rattle.hgs_writer.specs.Written.{IsWritten}
 use Rattle.hgs_writer.specs.declared.plan.Planned.{Planned}
 use Rattle.hgs_writer.specs.declared.begin.Begun.{Begun}
 use Rattle.hgs_writer.specs.declared.begin.Begun.TheVariants.{Ready, Refused}

@@ -5,7 +5,6 @@ use Rattle.std.specs.Prelude.{Option, Some, None, codes}
 use Rattle.hgs_files.specs.declared.op.Op.{Op}
 use Rattle.hgs_machine.specs.Asked.{Doing, Ending, Question, Sizing, asked}
 use Rattle.hgs_machine.specs.Fed.{is_acknowledged, is_published}
-use Rattle.hgs_machine.specs.declared.machine.Machine.{Machine}
 use Rattle.hgs_model.specs.declared.command.Command.{Command}
 use Rattle.hgs_recover.specs.declared.answer.RecoverAnswer.{RecoverAnswer}
 use Rattle.hgs_recover.specs.declared.answer.RecoverAnswer.TheVariants as recoveries

@@ -1,6 +1,6 @@
 -- A writer at any moment of its work.
-use Rattle.std.proofs.Common.{◌≡◌, ℕ, zero, suc, ◌+◌, ◌-◌, ◌≤◌, List, [], ◌∷◌, ◌++◌, length, refl, sym, ◌∙◌, ap, subst, append-nil, append_assoc, Bool, true, false, inl, inr, if◌then◌else◌}
-use Rattle.std.specs.Prelude.{◌⊎◌, Ok, Option, Some, None, nat_lt, slice_get, unwrap_or}
+use Rattle.std.proofs.Common.{◌≡◌, ℕ, zero, suc, ◌+◌, ◌-◌, ◌≤◌, List, [], ◌++◌, length, refl, sym, ◌∙◌, ap, subst, append-nil, append_assoc, Bool, true, false, inl, inr, if◌then◌else◌}
+use Rattle.std.specs.Prelude.{Ok, Option, Some, None, nat_lt, slice_get, unwrap_or}
 use Rattle.hgs_answers.specs.declared.answer.Answer.{Answer}
 use Rattle.hgs_files.specs.declared.op.Op.{Op}
 use Rattle.hgs_files.specs.declared.op.Op.TheVariants.{Append, Cut, Rename, Remove, Create, Sync, Settle}

@@ -1,5 +1,5 @@
 //! An operation that is done in parts.
-ghost use Rattle.std.specs.Prelude.{◌≡◌, List, [], OnOk, Some};
+ghost use Rattle.std.specs.Prelude.{◌≡◌, [], OnOk, Some};
 ghost use Rattle.hgs_files.specs.declared.op.Op.{Op};
 ghost use Rattle.hgs_files.specs.Files.{GoesOn};
 ghost use Rattle.hgs_files.specs.Log.{IsDone, append_of_rest};

@@ -1,5 +1,5 @@
 //! The lines that events write.
-ghost use Rattle.std.specs.Prelude.{◌≡◌, ◌++◌, ◌∷◌, [], IfOk, OnOk, codes};
+ghost use Rattle.std.specs.Prelude.{◌≡◌, ◌++◌, IfOk, OnOk};
 ghost use Rattle.hgs_world.specs.Texts.{answer_line, begun_line, changeset_text, loaded_line, number_line, recovered_line, word_line};
 
 use crate::seen::NoMemory;

@@ -1,9 +1,9 @@
 //! A repository in memory with one writer and some readers.
-ghost use Rattle.std.specs.Prelude.{◌≡◌, ◌<◌, ℕ, List, [], IfOk, IfSome, OnOk, None, Some, false, codes, length, map, replicate, true};
+ghost use Rattle.std.specs.Prelude.{◌≡◌, ◌<◌, ℕ, List, [], IfOk, OnOk, None, Some, false, codes, length, map, replicate, true};
 ghost use Rattle.hgs_files.specs.Tree.{Tree};
 ghost use Rattle.hgs_machine.specs.Asked.{asked};
 ghost use Rattle.hgs_machine.specs.Planned.{IsPlanned};
-ghost use Rattle.hgs_mem.specs.Steady.{steady_log, steady_start, steady_tree};
+ghost use Rattle.hgs_mem.specs.Steady.{steady_log, steady_start};
 ghost use Rattle.hgs_model.specs.Valid.{IsValid};
 ghost use Rattle.hgs_schedule.specs.declared.event.Event.TheVariants.{Begin, Load, Log, Open, Read};
 ghost use Rattle.hgs_schedule.specs.Schedule.{CanCome};

@@ -1,6 +1,7 @@
 -- What a call did, one part after another.
 use Rattle.std.proofs.Common.{◌≡◌, List, ◌++◌, ◌∙◌, ap, refl, subst, append_assoc}
 use Rattle.std.specs.Prelude.{Option, Some, None, IfSome}
+use Rattle.std.proofs.lemmas.List.{append_cancel_left}
 use Rattle.hgs_files.specs.declared.op.Op.{Op}
 use Rattle.hgs_files.specs.Files.{GoesOn}
 use Rattle.hgs_files.specs.Tree.{Tree, after_all}
@@ -10,6 +11,14 @@ use Rattle.hgs_machine.specs.Carry.{tree_now}
 pub as_well : (before after : Option (List Op)) (P Q : List Op → Type 0) → ((more : List Op) → P more → Q more) → GoesOn before after P → GoesOn before after Q
 as_well None after P Q f h = h
 as_well (Some old) after P Q f h = (h.0, h.1, f h.0 h.2)
+
+same-done : (old a b : List Op) (after : Option (List Op)) → after ≡ Some (old ++ a) → after ≡ Some (old ++ b) → a ≡ b
+same-done old a b after p q = let whole : old ++ a ≡ old ++ b = cc (p, q) in append_cancel_left old a b whole
+
+-- what is said twice of what was done
+pub together : (before after : Option (List Op)) (P Q : List Op → Type 0) → GoesOn before after P → GoesOn before after Q → GoesOn before after (λ done. P done × Q done)
+together None after P Q p q = p
+together (Some old) after P Q p q = (p.0, p.1, (p.2, subst Q (same-done old q.0 p.0 after q.1 p.1) q.2))
 
 abbrev Told : (Tree → Type 0) → Option (List Op) → Tree → Type 0
 Told P log start = IfSome log (λ l. P (after_all l start))

@@ -1,5 +1,5 @@
 //! The beginning of a command that writes: up to its plan.
-ghost use Rattle.std.specs.Prelude.{◌≡◌, ◌≤◌, length, is_some};
+ghost use Rattle.std.specs.Prelude.{◌≡◌, ◌≤◌, ◌+◌, length, is_some};
 ghost use Rattle.std.specs.Option.{ForSome};
 ghost use Rattle.hgs_answers.specs.declared.outcome.Outcome.TheVariants.{Fault, Unfinished};
 ghost use Rattle.hgs_answers.specs.declared.outcome.Published.{Published};
@@ -8,10 +8,10 @@ ghost use Rattle.hgs_files.specs.Reads.{Rose};
 ghost use Rattle.hgs_files.specs.Tree.{after_all};
 ghost use Rattle.hgs_machine.specs.Carry.{tree_now};
 ghost use Rattle.hgs_machine.specs.Planned.{IsPlanned};
-ghost use Rattle.hgs_machine.specs.Refusals.{WereRefused};
+ghost use Rattle.hgs_machine.specs.Refusals.{WereRefused, how_many_made, lock_paths};
 ghost use Rattle.hgs_model.specs.Valid.{IsValid};
 ghost use Rattle.hgs_writer.specs.Begun.{Begins, IfReady, IfRefused};
-ghost use Rattle.hgs_writer.specs.Refusals.{refusals_of};
+ghost use Rattle.hgs_writer.specs.Refusals.{refusals_of, refusals_of_outcome};
 ghost use Rattle.hgs_writer.specs.Written.{MayWrite};
 
 use crate::answers::{of_commit, of_locks};
@@ -43,6 +43,7 @@ pub fn begin<F: Files>(alloc: Global, files: &mut F, command: &Command, who: &[u
     ensures fault { IfRefused result (λ answer. answer.outcome ≡ Fault → Rose (F.faults files.old) (F.faults files.new)) }
     ensures finished { IfRefused result (λ answer. (published : Published) → answer.outcome ≡ Unfinished published → ⊥) }
     ensures calls { IfRefused result (λ answer. WereRefused (refusals_of (is_some (F.log files.old)) answer) (F.faults files.old) (F.faults files.new) (F.denied files.old) (F.denied files.new)) }
+    ensures left { IfRefused result (λ answer. GoesOn (F.log files.old) (F.log files.new) (λ done. WereRefused (refusals_of_outcome (is_some (F.log files.old)) answer.outcome + how_many_made lock_paths (tree_now (F.log files.old) (F.start files.old)) (after_all done (tree_now (F.log files.old) (F.start files.old)))) (F.faults files.old) (F.faults files.new) (F.denied files.old) (F.denied files.new))) }
     ensures later { F.faults files.old ≤ F.faults files.new }
     ensures refused { F.denied files.old ≤ F.denied files.new }
     ensures same_start { F.start files.new ≡ F.start files.old }

@@ -1,15 +1,16 @@
 //! A command that writes.
-ghost use Rattle.std.specs.Prelude.{◌≡◌, ◌≤◌, ◌⊎◌, Bool, length, is_some};
+ghost use Rattle.std.specs.Prelude.{◌≡◌, ◌≤◌, ◌⊎◌, ◌+◌, ℕ, Bool, Option, length, is_some};
 ghost use Rattle.hgs_answers.specs.declared.outcome.Outcome.TheVariants.{Fault, Unfinished};
 ghost use Rattle.hgs_answers.specs.declared.outcome.Published.{Published};
 ghost use Rattle.hgs_files.specs.Reads.{Rose};
 ghost use Rattle.std.specs.Option.{ForSome};
 ghost use Rattle.hgs_files.specs.Tree.{after_all};
 ghost use Rattle.hgs_machine.specs.Planned.{IsPlanned};
-ghost use Rattle.hgs_machine.specs.Refusals.{WereRefused};
+ghost use Rattle.hgs_machine.specs.Refusals.{WereRefused, how_many_stand};
 ghost use Rattle.hgs_machine.specs.Carry.{MayCarry, tree_now};
 ghost use Rattle.hgs_files.specs.Files.{GoesOn};
-ghost use Rattle.hgs_writer.specs.Refusals.{refusals_of};
+ghost use Rattle.hgs_index.specs.declared.node.Node.{Node};
+ghost use Rattle.hgs_writer.specs.Refusals.{paths_behind, refusals_of, refusals_of_outcome, refusals_with};
 ghost use Rattle.hgs_writer.specs.Written.{IsCarriedOut, IsWritten, IsWrittenFor, MayWrite};
 ghost use Rattle.hgs_model.specs.Valid.{IsValid};
 
@@ -31,6 +32,7 @@ fn carried<F: Files>(files: &mut F, planned: Planned) -> Answer
     ensures fault { result.outcome ≡ Fault → Rose (F.faults files.old) (F.faults files.new) }
     ensures unfinished { (published : Published) → result.outcome ≡ Unfinished published → Rose (F.faults files.old) (F.faults files.new) ⊎ Rose (F.denied files.old) (F.denied files.new) }
     ensures calls { (told : Bool) → WereRefused (refusals_of told result) (F.faults files.old) (F.faults files.new) (F.denied files.old) (F.denied files.new) }
+    ensures left { (told : Bool) → GoesOn (F.log files.old) (F.log files.new) (λ done. WereRefused (refusals_of_outcome told result.outcome + how_many_stand (paths_behind result.outcome) (after_all done (tree_now (F.log files.old) (F.start files.old)))) (F.faults files.old) (F.faults files.new) (F.denied files.old) (F.denied files.new)) }
     ensures later { F.faults files.old ≤ F.faults files.new }
     ensures denied { F.denied files.old ≤ F.denied files.new }
     ensures same_start { F.start files.new ≡ F.start files.old }
@@ -62,6 +64,7 @@ pub fn write_told<F: Files>(alloc: Global, files: &mut F, command: &Command, who
     ensures fault { result.answer.outcome ≡ Fault → Rose (F.faults files.old) (F.faults files.new) }
     ensures unfinished { (published : Published) → result.answer.outcome ≡ Unfinished published → Rose (F.faults files.old) (F.faults files.new) ⊎ Rose (F.denied files.old) (F.denied files.new) }
     ensures calls { WereRefused (refusals_of (is_some (F.log files.old)) result.answer) (F.faults files.old) (F.faults files.new) (F.denied files.old) (F.denied files.new) }
+    ensures left { GoesOn (F.log files.old) (F.log files.new) (λ done. WereRefused (refusals_with (is_some (F.log files.old)) result.answer.outcome result.changeset (tree_now (F.log files.old) (F.start files.old)) done) (F.faults files.old) (F.faults files.new) (F.denied files.old) (F.denied files.new)) }
     ensures later { F.faults files.old ≤ F.faults files.new }
     ensures denied { F.denied files.old ≤ F.denied files.new }
     ensures same_start { F.start files.new ≡ F.start files.old }
@@ -91,6 +94,7 @@ pub fn write<F: Files>(alloc: Global, files: &mut F, command: &Command, who: &[u
     ensures fault { result.outcome ≡ Fault → Rose (F.faults files.old) (F.faults files.new) }
     ensures unfinished { (published : Published) → result.outcome ≡ Unfinished published → Rose (F.faults files.old) (F.faults files.new) ⊎ Rose (F.denied files.old) (F.denied files.new) }
     ensures calls { WereRefused (refusals_of (is_some (F.log files.old)) result) (F.faults files.old) (F.faults files.new) (F.denied files.old) (F.denied files.new) }
+    ensures left { GoesOn (F.log files.old) (F.log files.new) (λ done. (changeset : Option (ℕ × Node)) × IsWrittenFor who.now command.now (tree_now (F.log files.old) (F.start files.old)) result changeset done × WereRefused (refusals_with (is_some (F.log files.old)) result.outcome changeset (tree_now (F.log files.old) (F.start files.old)) done) (F.faults files.old) (F.faults files.new) (F.denied files.old) (F.denied files.new)) }
     ensures later { F.faults files.old ≤ F.faults files.new }
     ensures denied { F.denied files.old ≤ F.denied files.new }
     ensures same_start { F.start files.new ≡ F.start files.old }

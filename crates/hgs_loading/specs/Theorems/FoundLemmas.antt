@@ -1,5 +1,5 @@
 -- What calls found, one after another.
-use Rattle.std.proofs.Common.{◌≡◌, ℕ, List, [], ◌++◌, ◌∙◌, append_assoc, append-nil, Bool, true, false, Option, Some, None, Result, Ok, sym, ap, subst}
+use Rattle.std.proofs.Common.{◌≡◌, ℕ, List, ◌++◌, ◌∙◌, append_assoc, Bool, true, false, Option, Some, None, Result, Ok, sym, ap, subst}
 use Rattle.std.specs.Prelude.{IfSome, ⊤}
 use Rattle.std.specs.Bool.{MatchBool}
 use Rattle.hgs_bytes.specs.Answer.{Gives}

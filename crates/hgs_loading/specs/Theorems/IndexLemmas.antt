@@ -1,5 +1,5 @@
 -- What is read of an index in its form.
-use Rattle.std.proofs.Common.{◌≡◌, ◌≤◌, ◌<◌, ℕ, ◌-◌, List, Bool, true, false, cond, ◌&&◌, length, take, drop, refl, sym, ◌∙◌, ap, arith}
+use Rattle.std.proofs.Common.{◌≡◌, ◌≤◌, ◌<◌, ℕ, List, Bool, true, false, cond, ◌&&◌, length, drop, refl, sym, ◌∙◌, ap, arith}
 use Rattle.std.specs.Prelude.{nat_le}
 use Rattle.std.proofs.lemmas.Bool.Decides.{nat_tests}
 use Rattle.std.proofs.lemmas.List.{length-take, take-append-drop, take_all}
@@ -8,7 +8,7 @@ use Rattle.hgs_index.specs.Entry.{header_at}
 use Rattle.hgs_index.specs.Inline.{is_inline, says_inline}
 use Rattle.hgs_index.specs.Theorems.EitherLemmas.{form-more}
 use Rattle.hgs_index.specs.Theorems.InlineLemmas.{fronts-separate}
-use Rattle.hgs_loading.specs.Logs.{either_index_in, has_more, index_in, most_index}
+use Rattle.hgs_loading.specs.Logs.{either_index_in, index_in, most_index}
 
 never : {A : Type 0} → true ≡ false → A
 never e = absurd (no e)

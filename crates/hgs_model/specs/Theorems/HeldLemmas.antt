@@ -1,5 +1,5 @@
 -- What the revisions of a repository say of each changeset.
-use Rattle.std.proofs.Common.{◌≡◌, ℕ, zero, suc, ◌+◌, ◌<◌, List, [], ◌∷◌, length, take, refl, sym, ◌∙◌, ap, subst, arith, length-append}
+use Rattle.std.proofs.Common.{◌≡◌, ℕ, zero, suc, ◌+◌, List, [], ◌∷◌, length, take, refl, sym, ◌∙◌, ap, subst, arith, length-append}
 use Rattle.std.specs.Prelude.{Some, None, slice_get}
 use Rattle.hgs_model.specs.Held.{IsHeld}
 use Rattle.hgs_model.specs.Repo.{Changeset}

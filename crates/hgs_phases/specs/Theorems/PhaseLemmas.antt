@@ -1,7 +1,7 @@
 -- The phases that roots give, from parents to children.
 use Rattle.std.proofs.Common.{append_assoc, append-nil, length-append, take, ◌++◌, ◌≡◌, ◌⊎◌, ◌<◌, ◌≤◌, ℕ, zero, suc, ◌+◌, Bool, true, false, ◌||◌, List, [], ◌∷◌, length, map, drop, Option, Some, None, refl, sym, ◌∙◌, ap, subst, inl, inr, arith}
 use Rattle.std.specs.Prelude.{◌==◌, IfSome, slice_get, slice_index_or, if◌then◌else◌, nat_lt}
-use Rattle.std.specs.List.{range_with_len, list_any}
+use Rattle.std.specs.List.{range_with_len}
 use Rattle.std.proofs.lemmas.Bool.Decides.{nat_tests}
 use Rattle.std.proofs.lemmas.List.{get_or-set_same, get_or-set_other, length-set}
 use Rattle.hgs_index.specs.Ancestor.{is_ancestor, ancestors_at, ancestors_from}

@@ -1,5 +1,5 @@
 -- What an index of bytes is taken apart into are bytes.
-use Rattle.std.proofs.Common.{ℕ, zero, suc, ◌+◌, ◌<◌, Bool, true, false, cond, List, [], ◌∷◌, ◌++◌, length, take, drop, arith}
+use Rattle.std.proofs.Common.{ℕ, zero, suc, ◌+◌, Bool, true, false, cond, List, [], ◌∷◌, ◌++◌, length, take, drop, arith}
 use Rattle.hex.specs.Hex.{IsBytes}
 use Rattle.hgs_index.specs.Entry.{number_at}
 use Rattle.hgs_index.specs.Inline.{entries_in, index_apart, is_cut, is_inline, without_inline}

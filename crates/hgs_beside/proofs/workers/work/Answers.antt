@@ -1,4 +1,4 @@
-use Rattle.std.proofs.Common.{Some, sym, subst}
+use Rattle.std.proofs.Common.{sym, subst}
 use Rattle.hgs_session.specs.Session.{MayRun}
 use Rattle.hgs_beside.proofs.workers.work.Goals as goal
 

@@ -3,7 +3,7 @@ use Rattle.hgs_files.specs.Reads.{greatest}
 use Rattle.hgs_session.specs.Session.{EndState}
 use Rattle.hgs_history.specs.Once.{one_if_failed, one_if_faulted}
 use Rattle.hgs_history.proofs.Counted.{calls-fail, calls-fault, question-weighs}
-use Rattle.hgs_history.proofs.Keyed.{not_stopped, total-from}
+use Rattle.hgs_history.proofs.Keyed.{total-from}
 use Rattle.hgs_history.proofs.Once.{session-weighs}
 use Rattle.hgs_history.proofs.laws.failures_are_counted.Goals as goal
 

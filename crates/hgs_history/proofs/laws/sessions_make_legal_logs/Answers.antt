@@ -2,11 +2,8 @@ use Rattle.std.proofs.Common.{◌≡◌, List, Some, sym, ◌∙◌, subst}
 use Rattle.std.proofs.Math.Logic.{∥∥₁_map}
 use Rattle.std.specs.List.{AllByRecursion}
 use Rattle.hgs_files.specs.declared.op.Op.{Op}
-use Rattle.hgs_files.specs.Tree.{Tree}
-use Rattle.hgs_legal.specs.LegalLog.{IsLegal, IsRun}
-use Rattle.hgs_model.specs.Repo.{Repo}
+use Rattle.hgs_legal.specs.LegalLog.{IsRun}
 use Rattle.hgs_script.specs.Script.{IsShare}
-use Rattle.hgs_session.specs.Calls.{Call, Stage, Makes}
 use Rattle.hgs_history.proofs.laws.sessions_make_legal_logs.Goals as goal
 
 same-log : {a b : List Op} → Some a ≡ Some b → a ≡ b
@@ -24,7 +21,7 @@ returns-clause-legal c = λ x calls last log makes first shares needs told. λ r
 pub returns-clause-taken : goal.returns-clause-taken
 returns-clause-taken c = λ jobs old start shares needs. λ x same begins log led.
     ∥∥₁_map led (λ l. λ r clean.
-    let found = c.sessions_publish_what_they_list.ensures x r l.calls l.last l.makes clean.stands begins.0 (subst (λ j. AllByRecursion IsShare j) (sym same) shares) (needs x l.calls l.last l.makes same begins.1 begins.0) in
+    let found = c.sessions_publish_what_they_list.ensures x r l.calls l.last l.makes clean.stands begins.0 (subst (λ j. AllByRecursion IsShare j) (sym same) shares) (needs x l.calls l.last l.makes l.order same begins.1 begins.0) in
     let h = found.0 in
     let is = same-log (sym found.3 ∙ l.told) in (
       h.last,

@@ -1,4 +1,4 @@
-use Rattle.std.proofs.Common.{◌≡◌, ◌-◌, ℕ, List, length, ◌++◌, take, drop, [], sym, ◌∙◌, ap, append_assoc, append-nil}
+use Rattle.std.proofs.Common.{◌≡◌, ◌-◌, length, ◌++◌, take, drop, sym, ◌∙◌, ap, append_assoc, append-nil}
 use Rattle.hgs_index.specs.Inline.{chunks_in, entries_in}
 use Rattle.hgs_judge.proofs.ApartLemmas.{left, taken}
 use Rattle.hgs_judge.proofs.apart.entries_and_chunks.Goals as goal

@@ -1,14 +1,13 @@
-use Rattle.std.proofs.Common.{◌≡◌, List, ℕ, Ok, Err, sym, ◌∙◌, ap, subst}
+use Rattle.std.proofs.Common.{◌≡◌, List, ℕ, Ok, Err, subst}
 use Rattle.std.specs.Prelude.{⊤, Result}
 use Rattle.std.specs.Bool.{MatchBool}
-use Rattle.hgs_bytes.specs.Answer.{Gives}
 use Rattle.hgs_load.specs.Answer.{is_of_outside}
 use Rattle.hgs_load.specs.View.{log_answer}
 use Rattle.hgs_load.specs.declared.answer.ReadAnswer.{ReadAnswer}
 use Rattle.hgs_revlog.specs.declared.fault.Tail.TheVariants.{Refuse}
 use Rattle.hgs_revlog.specs.Load.{loaded_either}
 use Rattle.hgs_revlog.specs.Log.{Log}
-use Rattle.hgs_loading.specs.Logs.{either_index_in, either_log_in}
+use Rattle.hgs_loading.specs.Logs.{either_index_in}
 use Rattle.hgs_loading.specs.Theorems.FoundLemmas.{alone-one}
 use Rattle.hgs_loading.proofs.EitherLemmas.{given-by, log-refused}
 use Rattle.hgs_loading.proofs.logs.load_either_log.Goals as goal

@@ -1,4 +1,4 @@
-use Rattle.std.proofs.Common.{◌≡◌, ◌*◌, ◌^◌, ◌<◌, List, ℕ, length, take, Ok, ◌∙◌, arith}
+use Rattle.std.proofs.Common.{◌≡◌, ◌*◌, ◌^◌, ◌<◌, List, ℕ, length, take, Ok, arith}
 use Rattle.std.specs.Prelude.{Result}
 use Rattle.hgs_files.specs.Tree.{bytes_at}
 use Rattle.hgs_load.specs.View.{piece_length}

@@ -1,4 +1,4 @@
-use Rattle.std.proofs.Common.{◌≡◌, List, ℕ, Ok, Err, true, false, sym, ◌∙◌, ap, not}
+use Rattle.std.proofs.Common.{◌≡◌, List, ℕ, Ok, Err, true, false, sym, ◌∙◌, ap}
 use Rattle.std.specs.Prelude.{⊤, Result}
 use Rattle.std.specs.Bool.{MatchBool}
 use Rattle.hgs_files.specs.Tree.{bytes_at}

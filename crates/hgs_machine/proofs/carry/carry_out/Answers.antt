@@ -2,6 +2,7 @@ use Rattle.std.proofs.Common.{◌∙◌, refl}
 use Rattle.hgs_machine.specs.Carry.{tree_now}
 use Rattle.hgs_machine.specs.Fed.{new_machine}
 use Rattle.hgs_machine.proofs.Allowed.{may-ask}
+use Rattle.hgs_machine.proofs.Behind.{left-behind}
 use Rattle.hgs_machine.proofs.Counting.{carried-refused}
 use Rattle.hgs_machine.proofs.Carrying.{ends-carried, goes-on-step, is-under-way}
 use Rattle.hgs_machine.proofs.Running.{begins, runs-on, runs-out}
@@ -60,3 +61,9 @@ returns-clause-ran g c =
     c.ended.ensures (c.step.ensures.ended c.loop-test.false)
     (runs-on (g.F.Files.log c.args.files.now) (g.F.Files.log c.loop.files) (g.F.Files.log c.step.new.files) (g.F.Reads.start c.args.files.now) (g.F.Reads.start c.loop.files) (new_machine c.args.plan) c.loop.machine c.step.new.machine
     (g.F.Reads.faults c.args.files.now) (g.F.Reads.faults c.loop.files) (g.F.Reads.faults c.step.new.files) (g.F.Reads.denied c.args.files.now) (g.F.Reads.denied c.loop.files) (g.F.Reads.denied c.step.new.files) i.same_start i.ran c.step.ensures.ran)
+
+pub returns-clause-left : goal.returns-clause-left
+returns-clause-left g c =
+    let old = c.args.files.now in
+    let new = c.step.new.files in
+    left-behind (g.F.Files.log old) (g.F.Files.log new) (g.F.Reads.start old) c.args.plan c.ended.result (g.F.Reads.faults old) (g.F.Reads.faults new) (g.F.Reads.denied old) (g.F.Reads.denied new) c.requires.planned (returns-clause-ran g c)

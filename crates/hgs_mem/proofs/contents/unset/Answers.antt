@@ -1,4 +1,4 @@
-use Rattle.std.proofs.Common.{rules, ◌≡◌, ◌+◌, ◌<◌, ◌≤◌, ℕ, length, get_or, set, List, Option, None, ap, ◌∙◌, arith}
+use Rattle.std.proofs.Common.{rules, ◌≡◌, ◌+◌, ◌≤◌, ℕ, length, get_or, set, List, Option, None, ap, ◌∙◌, arith}
 use Rattle.hgs_files.specs.Tree.{with_file}
 use Rattle.hgs_mem.specs.declared.shard.Shard.{Shard}
 use Rattle.hgs_mem.specs.Mem.{tree_of}

@@ -1,7 +1,7 @@
 use Rattle.std.proofs.Common.{◌≡◌, ◌+◌, ◌∷◌, ◌++◌, [], ◌∙◌, ap, sym, true, arith, rules}
 use Rattle.hgs_bytes.specs.Text.{lines_of}
 use Rattle.hgs_path.specs.ListedNames.{is_listed, names_from}
-use Rattle.hgs_path.proofs.ListedLemmas.{first_names, names_onto, one_name}
+use Rattle.hgs_path.proofs.ListedLemmas.{names_onto, one_name}
 use Rattle.hgs_path.proofs.listed.listed_names.Goals as goal
 
 pub loop-rest-preserved : goal.loop-rest-preserved

@@ -1,4 +1,4 @@
-use Rattle.std.proofs.Common.{◌∙◌, refl, ap, sym, Some, Err}
+use Rattle.std.proofs.Common.{ap, Some, Err}
 use Rattle.hgs_load.specs.Theorems.AskLemmas.{grows-trans}
 use Rattle.hgs_questions.proofs.TellLemmas.{asked-loaded, asked-refused}
 use Rattle.hgs_questions.proofs.ask.ask_again.Goals as goal

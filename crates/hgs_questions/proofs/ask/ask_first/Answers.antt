@@ -1,4 +1,4 @@
-use Rattle.std.proofs.Common.{◌∙◌, refl, ap, sym, subst, Option, Some, None, Ok, Err}
+use Rattle.std.proofs.Common.{refl, ap, sym, subst, Option, Some, Ok, Err}
 use Rattle.std.specs.Prelude.{⊤}
 use Rattle.std.specs.Bool.{MatchBool}
 use Rattle.hgs_load.specs.Answer.{is_of_outside}

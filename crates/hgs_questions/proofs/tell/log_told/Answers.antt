@@ -1,8 +1,8 @@
-use Rattle.std.proofs.Common.{◌-◌, ◌∙◌, [], arith, refl, ap, suc}
+use Rattle.std.proofs.Common.{◌∙◌, [], arith, refl, ap, suc}
 use Rattle.hgs_load.specs.Theorems.AskLemmas.{grows-refl, grows-trans}
 use Rattle.hgs_questions.specs.Said.{said}
 use Rattle.hgs_questions.proofs.AnswerLemmas.{told-at-once}
-use Rattle.hgs_questions.proofs.TellLemmas.{log-cut, log-more, log-whole}
+use Rattle.hgs_questions.proofs.TellLemmas.{log-cut, log-more}
 use Rattle.hgs_questions.proofs.tell.log_told.Goals as goal
 
 pub loop-left-init : goal.loop-left-init

@@ -1,4 +1,4 @@
-use Rattle.std.proofs.Common.{◌∙◌, Some, slice_get, refl, ap, sym, inl}
+use Rattle.std.proofs.Common.{◌∙◌, slice_get, refl, ap, sym, inl}
 use Rattle.hgs_reader.specs.Names.{named}
 use Rattle.hgs_script.specs.declared.job.Question.TheVariants.{Phase}
 use Rattle.hgs_load.specs.Asks.{answer}

@@ -4,10 +4,12 @@ use Rattle.hgs_load.specs.Asks.{Continues}
 use Rattle.hgs_load.specs.Beyond.{IsShown}
 use Rattle.hgs_load.specs.Given.{Gave}
 use Rattle.hgs_reader.specs.Find.{bytes_behind, pieces_until}
+use Rattle.hgs_reader.specs.Passed.{IsPassed}
 use Rattle.hgs_reader.proofs.find.read_behind.Given as goal
 
 abbrev pub invariant-loop-left : goal.invariant-loop-left
 invariant-loop-left g l = record {
+  passed : IsPassed l.node.0 l.bytes.items l.passed;
   asked : Continues (g.R.Reads.seen l.fn.files) (g.R.Reads.start l.fn.files) (g.R.Reads.seen l.files) (bytes_behind l.inline l.index l.node.0 l.first) (pieces_until l.inline l.index l.node.0 l.left l.bytes.items);
   gave : Gave (g.R.Reads.given l.fn.files) (g.R.Reads.given l.files) (g.R.Reads.seen l.fn.files) (g.R.Reads.start l.fn.files) (g.R.Reads.seen l.files) (bytes_behind l.inline l.index l.node.0 l.first) (pieces_until l.inline l.index l.node.0 l.left l.bytes.items);
   grown : Grows (g.R.Reads.seen l.fn.files) (g.R.Reads.seen l.files);

@@ -1,4 +1,4 @@
-use Rattle.std.proofs.Common.{◌≡◌, ◌∷◌, ◌++◌, ◌||◌, sym, ◌∙◌, ap, subst}
+use Rattle.std.proofs.Common.{◌≡◌, ◌∷◌, ◌||◌, sym, ◌∙◌, ap, subst}
 use Rattle.hgs_bytes.specs.Bytes.{same}
 use Rattle.hgs_path.specs.StoreName.{listed_name}
 use Rattle.hgs_judge.specs.Report.{findings_in}

@@ -1,4 +1,4 @@
-use Rattle.std.proofs.Common.{◌≡◌, not, sym, ◌∙◌, ap}
+use Rattle.std.proofs.Common.{not, sym, ◌∙◌, ap}
 use Rattle.hgs_report.specs.Lines.{has_key}
 use Rattle.hgs_report.specs.Names.{has_name}
 use Rattle.hgs_report.proofs.names.has_name.Goals as goal

@@ -1,4 +1,4 @@
-use Rattle.std.proofs.Common.{◌≡◌, ℕ, suc, ◌+◌, List, take, true, false, sym, ◌∙◌, ap, arith}
+use Rattle.std.proofs.Common.{◌≡◌, suc, ◌+◌, take, sym, ◌∙◌, ap, arith}
 use Rattle.std.specs.Prelude.{is_ok, ◌||◌}
 use Rattle.hgs_bytes.specs.Bytes.{among, same}
 use Rattle.hgs_findings.specs.Sight.{row_paths, tracked_rows}

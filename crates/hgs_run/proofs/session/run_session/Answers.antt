@@ -1,10 +1,10 @@
-use Rattle.std.proofs.Common.{◌≡◌, Result, refl, subst, sym}
+use Rattle.std.proofs.Common.{Result, refl, subst, sym}
 use Rattle.std.specs.Prelude.{⊤}
 use Rattle.hgs_bytes.specs.Answer.{Gives}
 use Rattle.hgs_load.specs.Answer.{is_of_outside}
 use Rattle.hgs_load.specs.declared.answer.ReadAnswer.{ReadAnswer}
 use Rattle.hgs_loading.specs.Found.{required_in}
-use Rattle.hgs_session.specs.Session.{AreCounted, AreOfOneStart, IsWhole, LeftAs, MayRun, RestsOn}
+use Rattle.hgs_session.specs.Session.{AreCounted, AreOfOneStart, IsAt, IsWhole, LeftAs, MayRun, RestsOn}
 use Rattle.hgs_top.specs.Run.{OfTree}
 use Rattle.hgs_run.specs.Session.{no_profile, no_script, ran}
 use Rattle.hgs_run.proofs.Given.{ran_over}
@@ -33,7 +33,7 @@ returns-in-Ok-tested-clause-session g c =
     let denied = g.Y.A.Reads.denied (g.Y.Yard.files yard) in
     ran c.in-Ok.script faults denied c.in-Ok.ensures.script (subst P c.in-Ok-tested.is t.ensures.found) t.ensures.faults t.ensures.denied
     (ran_over
-    (λ l s last. LeftAs c.run_script.result.left (λ y. RestsOn l s last.log (g.Y.A.Files.log (g.Y.Yard.files y)) (g.Y.A.Reads.start (g.Y.Yard.files y))) (λ w. g.Y.W.Files.log w ≡ last.log))
+    (λ l s last. LeftAs c.run_script.result.left (λ y. RestsOn l s last.log (g.Y.A.Files.log (g.Y.Yard.files y)) (g.Y.A.Reads.start (g.Y.Yard.files y))) (λ w. IsAt last (g.Y.W.Files.log w) (g.Y.W.Reads.faults w) (g.Y.W.Reads.denied w)))
     (λ last states. LeftAs c.run_script.result.left (λ y. AreCounted last states (g.Y.A.Reads.faults (g.Y.Yard.files y)) (g.Y.A.Reads.denied (g.Y.Yard.files y))) (λ w. ⊤)) (IsWhole c.run_script.result.left)
     c.in-Ok.script.workers log (g.Y.A.Files.log (g.Y.Yard.files yard)) start (g.Y.A.Reads.start (g.Y.Yard.files yard)) faults denied c.run_script.result.status (g.K.Sink.written c.args.out.now) (g.K.Sink.written c.run_script.new.out)
     t.ensures.stays.0 t.ensures.stays.1 c.run_script.ensures.runs)

@@ -1,6 +1,5 @@
 use Rattle.std.proofs.Common.{refl}
 use Rattle.hgs_session.specs.Calls.{Stage}
-use Rattle.hgs_session.specs.Session.{EndState}
 use Rattle.hgs_session.proofs.EndLemmas.{comes_of, counts_of, left_as, listed_of, of_start, rests_on}
 use Rattle.hgs_session.proofs.session.close.Goals as goal
 use Rattle.hgs_session.specs.Theorems.PartsLemmas.{if_parts}

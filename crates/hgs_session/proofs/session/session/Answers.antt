@@ -17,6 +17,7 @@ returns-in_default-clause-comes g c =
         last = x.first;
         calls = [];
         makes = refl;
+        order = tt;
         left = rests_same (λ y. g.Y.A.Files.log (g.Y.Yard.files y)) (λ y. g.Y.A.Reads.start (g.Y.Yard.files y)) c.args.yard c.args.yard refl;
         told = tt;
       },
@@ -69,6 +70,7 @@ returns-in-Err-clause-comes g c =
         last = x.first;
         calls = [];
         makes = refl;
+        order = tt;
         left = rests_same (λ y. g.Y.A.Files.log (g.Y.Yard.files y)) (λ y. g.Y.A.Reads.start (g.Y.Yard.files y)) c.args.yard _ c.in-Err.ensures.err;
         told = tt;
       },

@@ -1,4 +1,3 @@
-use Rattle.std.specs.Prelude.{is_some}
 use Rattle.hgs_machine.specs.Refusals.{WereRefused}
 use Rattle.hgs_top.proofs.LeftLemmas.{left_none}
 use Rattle.hgs_top.proofs.obey.commit.Goals as goal
@@ -19,4 +18,6 @@ pub returns-in-Err-clause-left : goal.returns-in-Err-clause-left
 returns-in-Err-clause-left g c =
     let faults = g.F.Reads.faults c.args.files.now in
     let denied = g.F.Reads.denied c.args.files.now in
-    left_none (λ n. WereRefused n faults faults denied denied) (is_some (g.F.Files.log c.args.files.now)) c.in-Err.ended c.in-Err.ensures.left
+    let log = g.F.Files.log c.args.files.now in
+    let start = g.F.Reads.start c.args.files.now in
+    left_none (λ n. WereRefused n faults faults denied denied) log log start c.in-Err.ended (c.in-Err.ensures.left log start)

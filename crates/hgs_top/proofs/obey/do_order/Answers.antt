@@ -1,5 +1,4 @@
 use Rattle.std.proofs.Common.{refl, sym, subst}
-use Rattle.std.specs.Prelude.{is_some}
 use Rattle.hgs_machine.specs.Refusals.{WereRefused}
 use Rattle.hgs_model.specs.declared.command.Command.TheVariants as commands
 use Rattle.hgs_top.specs.Orders.{ComesTo}
@@ -22,7 +21,7 @@ returns-in-Init-clause-cause g c =
 
 pub returns-in-Init-clause-left : goal.returns-in-Init-clause-left
 returns-in-Init-clause-left g c =
-    left_none (λ n. WereRefused n (g.F.Reads.faults c.args.files.now) (g.F.Reads.faults c.init.new.files) (g.F.Reads.denied c.args.files.now) (g.F.Reads.denied c.init.new.files)) (is_some (g.F.Files.log c.args.files.now)) c.init.result c.init.ensures.left
+    left_none (λ n. WereRefused n (g.F.Reads.faults c.args.files.now) (g.F.Reads.faults c.init.new.files) (g.F.Reads.denied c.args.files.now) (g.F.Reads.denied c.init.new.files)) (g.F.Files.log c.args.files.now) (g.F.Files.log c.init.new.files) (g.F.Reads.start c.args.files.now) c.init.result c.init.ensures.left
 
 pub returns-in-Move-clause-comes : goal.returns-in-Move-clause-comes
 returns-in-Move-clause-comes g c =
@@ -61,6 +60,8 @@ pub returns-in-Recover-clause-cause : goal.returns-in-Recover-clause-cause
 returns-in-Recover-clause-cause g c = record { fault = c.recover.ensures.fault; unfinished = c.recover.ensures.unfinished }
 
 pub returns-in-Recover-clause-left : goal.returns-in-Recover-clause-left
-returns-in-Recover-clause-left g c =
-    recovered_refused (g.F.Reads.faults c.args.files.now) (g.F.Reads.faults c.recover.new.files) (g.F.Reads.denied c.args.files.now) (g.F.Reads.denied c.recover.new.files) c.recover.result.outcome c.recover.result.swept
-    c.recover.ensures.counts.faults c.recover.ensures.counts.denied c.recover.ensures.fault c.recover.ensures.unfinished c.recover.ensures.swept
+returns-in-Recover-clause-left g c = (
+  recovered_refused (g.F.Reads.faults c.args.files.now) (g.F.Reads.faults c.recover.new.files) (g.F.Reads.denied c.args.files.now) (g.F.Reads.denied c.recover.new.files) c.recover.result.outcome c.recover.result.swept
+      c.recover.ensures.counts.faults c.recover.ensures.counts.denied c.recover.ensures.fault c.recover.ensures.unfinished c.recover.ensures.swept,
+  c.recover.ensures.left,
+)

@@ -1,5 +1,5 @@
-use Rattle.std.proofs.Common.{arith, ap, subst}
-use Rattle.hgs_world.specs.Book.{Commands, IsCounted}
+use Rattle.std.proofs.Common.{arith, subst}
+use Rattle.hgs_world.specs.Book.{IsCounted}
 use Rattle.hgs_world.proofs.MarkLemmas.{acknowledged_stay}
 use Rattle.hgs_world.proofs.laws.acknowledged_commands_stay.Goals as goal
 

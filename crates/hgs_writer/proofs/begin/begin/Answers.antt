@@ -1,4 +1,4 @@
-use Rattle.std.proofs.Common.{Ok, Err, ap, sym, ◌∙◌, refl, subst}
+use Rattle.std.proofs.Common.{◌+◌, Ok, Err, ap, sym, ◌∙◌, refl, subst}
 use Rattle.std.specs.Prelude.{IfSome, is_some}
 use Rattle.hgs_answers.specs.declared.answer.Answer.{Answer}
 use Rattle.hgs_commit.specs.declared.fault.CommitFault.{CommitFault}
@@ -6,11 +6,13 @@ use Rattle.hgs_files.specs.Tree.{after_all}
 use Rattle.hgs_machine.specs.Carry.{tree_now}
 use Rattle.hgs_machine.specs.Course.{lock_removals}
 use Rattle.hgs_machine.specs.Locks.{AreLocked, AreRemoved, IsTurnedAway}
+use Rattle.hgs_machine.specs.Refusals.{WereRefused, how_many_made, how_many_stand, lock_paths, refusals_of_made}
 use Rattle.hgs_writer.specs.Begun.{Begins, IsRefused, has_no_locks, has_no_plan}
 use Rattle.hgs_writer.specs.declared.begin.Begun.TheVariants.{Ready}
 use Rattle.hgs_writer.specs.Planning.{Plans}
+use Rattle.hgs_writer.specs.Refusals.{refusals_of_outcome}
 use Rattle.hgs_writer.proofs.AllowedLemmas.{may-lock, may-release}
-use Rattle.hgs_writer.proofs.RefusalLemmas.{not-planned, turned-away}
+use Rattle.hgs_writer.proofs.RefusalLemmas.{not-planned, not-planned-left, turned-away, turned-away-left}
 use Rattle.hgs_writer.proofs.WrittenLemmas.{and_told, as_well, in_turn}
 use Rattle.hgs_writer.proofs.begin.begin.Goals as goal
 
@@ -90,3 +92,38 @@ returns-clause-calls g c =
     not-planned (g.F.Reads.faults before) (g.F.Reads.faults locked) (g.F.Reads.faults planned) (g.F.Reads.faults after) (g.F.Reads.denied before) (g.F.Reads.denied locked) (g.F.Reads.denied planned) (g.F.Reads.denied after)
     (is_some (g.F.Files.log before)) fault swept answer c.of_commit-outcome.ensures refl c.take_locks.ensures.counts c.plan.ensures.later c.plan.ensures.refused
     (λ e. c.in-Err-plan.ensures.cause.rose (ap (λ (x : CommitFault). Err x) e)) c.release-swept.ensures.counts c.release-swept.ensures.causes
+
+pub returns-in-Err-clause-left : goal.returns-in-Err-clause-left
+returns-in-Err-clause-left g c =
+    let before = c.args.files.now in
+    let after = c.take_locks.new.files in
+    let why = c.in-Err.refusal.why in
+    let told = is_some (g.F.Files.log before) in
+    let outcome = c.of_locks.result.outcome in
+    let t = tree_now (g.F.Files.log before) (g.F.Reads.start before) in
+    as_well (g.F.Files.log before) (g.F.Files.log after)
+    (λ done. WereRefused (refusals_of_made told why (how_many_made lock_paths t (after_all done t))) (g.F.Reads.faults before) (g.F.Reads.faults after) (g.F.Reads.denied before) (g.F.Reads.denied after))
+    (λ done. WereRefused (refusals_of_outcome told outcome + how_many_made lock_paths t (after_all done t)) (g.F.Reads.faults before) (g.F.Reads.faults after) (g.F.Reads.denied before) (g.F.Reads.denied after))
+    (λ done h. turned-away-left (g.F.Reads.faults before) (g.F.Reads.faults after) (g.F.Reads.denied before) (g.F.Reads.denied after) (how_many_made lock_paths t (after_all done t)) told why outcome c.of_locks.ensures.outcome h) c.in-Err.ensures.left
+
+pub returns-clause-left : goal.returns-clause-left
+returns-clause-left g c =
+    let before = c.args.files.now in
+    let locked = c.take_locks.new.files in
+    let planned = c.plan.new.files in
+    let after = c.release-swept.new.files in
+    let fault = c.in-Err-plan.fault in
+    let told = is_some (g.F.Files.log before) in
+    let outcome = c.of_commit-outcome.result in
+    let latest = g.met.F.Files.latest in
+    let shown = subst (λ s. IfSome s (λ l. Plans c.args.command.now (after_all l (g.F.Reads.start planned)) (Err fault))) (latest planned) (c.in-Err-plan.ensures.found g.met.F.Files.only_writer) in
+    in_turn (g.F.Files.log before) (g.F.Files.log locked) (g.F.Files.log planned) (g.F.Files.log after) (g.F.Reads.start before) (g.F.Reads.start planned)
+    (λ t. AreLocked c.args.who.now t)
+    (λ t done. WereRefused (how_many_stand lock_paths (after_all done t)) (g.F.Reads.faults planned) (g.F.Reads.faults after) (g.F.Reads.denied planned) (g.F.Reads.denied after))
+    (λ t done. WereRefused (refusals_of_outcome told outcome + how_many_made lock_paths t (after_all done t)) (g.F.Reads.faults before) (g.F.Reads.faults after) (g.F.Reads.denied before) (g.F.Reads.denied after))
+    (λ t. Plans c.args.command.now t (Err fault))
+    (sym (latest planned) ∙ (c.plan.ensures.still g.met.F.Files.only_writer ∙ latest locked)) (c.plan.ensures.same_start ∙ c.take_locks.ensures.same_start)
+    (λ t a b are_locked plans left.
+    not-planned-left (g.F.Reads.faults before) (g.F.Reads.faults locked) (g.F.Reads.faults planned) (g.F.Reads.faults after) (g.F.Reads.denied before) (g.F.Reads.denied locked) (g.F.Reads.denied planned) (g.F.Reads.denied after) told fault outcome t a b
+    c.of_commit-outcome.ensures c.take_locks.ensures.counts c.plan.ensures.later c.plan.ensures.refused (λ e. c.in-Err-plan.ensures.cause.rose (ap (λ (x : CommitFault). Err x) e)) left)
+    c.in-Ok.ensures.log shown c.release-swept.ensures.left

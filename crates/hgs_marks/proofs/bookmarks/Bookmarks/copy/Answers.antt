@@ -1,6 +1,5 @@
 use Rattle.std.proofs.Common.{◌≡◌, ◌∙◌, ap}
 use Rattle.hgs_index.specs.declared.node.Node.{Node}
-use Rattle.hgs_marks.specs.Bookmarks.{Mark}
 use Rattle.hgs_marks.specs.Held.{mark_in}
 use Rattle.hgs_marks.proofs.CopyLemmas.{zip-map, zip-same}
 use Rattle.hgs_marks.proofs.bookmarks.Bookmarks.copy.Goals as goal

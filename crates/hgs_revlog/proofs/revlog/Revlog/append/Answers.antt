@@ -6,7 +6,7 @@ use Rattle.std.specs.BTreeMap.{get, is_at}
 use Rattle.std.specs.Cmp.Lexicographic.{slice_cmp}
 use Rattle.std.proofs.lemmas.List.{length_push, take_at}
 use Rattle.hgs_revlog.specs.Log.{place_of, stored_sum}
-use Rattle.hgs_revlog.specs.Load.{fault_of, most_data, most_revisions}
+use Rattle.hgs_revlog.specs.Load.{fault_of, most_revisions}
 use Rattle.hgs_revlog.specs.Theorems.LogLemmas.{place_push, sum_push}
 use Rattle.hgs_revlog.specs.Theorems.LoadLemmas.{faultless}
 use Rattle.hgs_revlog.proofs.LoadedLemmas.{low-push}

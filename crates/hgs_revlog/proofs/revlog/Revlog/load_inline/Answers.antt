@@ -1,6 +1,6 @@
-use Rattle.std.proofs.Common.{◌≡◌, ◌≤◌, true, [], length, take, drop, Ok, Some, arith, sym, ◌∙◌, ap}
+use Rattle.std.proofs.Common.{Ok, sym, ◌∙◌, ap}
 use Rattle.hgs_revlog.specs.Log.{Log, with_entry}
-use Rattle.hgs_revlog.specs.Load.{loaded_either, cell_of, entry_behind}
+use Rattle.hgs_revlog.specs.Load.{loaded_either, entry_behind}
 use Rattle.hgs_revlog.proofs.FormLemmas.{left_of, left-front, left-behind, left-ends, left-shorter, form-begins}
 use Rattle.hgs_revlog.specs.Theorems.LoadLemmas.{load_rest, load_stops, load_ends, load_on, gives}
 use Rattle.hgs_revlog.proofs.PutLemmas.{gives_on}

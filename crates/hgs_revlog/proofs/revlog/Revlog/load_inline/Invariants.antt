@@ -1,4 +1,4 @@
-use Rattle.std.proofs.Common.{◌≡◌, true, length}
+use Rattle.std.proofs.Common.{◌≡◌, length}
 use Rattle.hgs_revlog.specs.Load.{loaded_either}
 use Rattle.hgs_revlog.proofs.FormLemmas.{left_of}
 use Rattle.hgs_revlog.specs.Theorems.LoadLemmas.{load_rest}

@@ -1,4 +1,4 @@
-use Rattle.std.proofs.Common.{◌+◌, ap, sym, ◌∙◌, ◌≡◌, [], Some, true, false}
+use Rattle.std.proofs.Common.{◌+◌, sym, ◌∙◌, ◌≡◌, [], Some, true, false}
 use Rattle.hgs_files.specs.Files.{GoesOn}
 use Rattle.hgs_machine.specs.Asked.{asked}
 use Rattle.hgs_mem.specs.Steady.{steady_log, steady_start, steady_tree}
