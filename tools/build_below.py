@@ -4,12 +4,15 @@
     tools/build_below.py hg_store
 
 `rt` builds one after another, and one that runs keeps others out of all folders that it reads. So each works on a copy of the
-sources here, beside links to the libraries that are built. There are as many as there are processors, with 4 GiB of memory for each.
+sources, beside links to the libraries that are built. There are as many as there are processors, with 4 GiB of memory for each.
+The copies stand outside the repository, where what a killed build leaves is in nobody's way; the next build removes it.
 A library that stands is left as it is: `rt` builds it anew where its sources have changed since.
 """
 
 import concurrent.futures
+import errno
 import fcntl
+import hashlib
 import os
 import pathlib
 import shutil
@@ -49,11 +52,25 @@ def is_built(crate):
     return (TOP / "crates" / crate / "out" / "rlib" / "stamp").exists()
 
 
-def link(source, target):
-    """Makes a folder of links to the files of another, in place of what stands there."""
+def link_or(otherwise):
+    """How a file gets a second name, and what is done where that would stand on another disk."""
+
+    def make(source, target):
+        try:
+            os.link(source, target)
+        except OSError as error:
+            if error.errno != errno.EXDEV:
+                raise
+            otherwise(source, target)
+
+    return make
+
+
+def put(source, target, make):
+    """Makes a folder with the files of another, in place of what stands there."""
     new = target.with_name("new")
     shutil.rmtree(new, ignore_errors=True)
-    shutil.copytree(source, new, copy_function=os.link)
+    shutil.copytree(source, new, copy_function=make)
     shutil.rmtree(target, ignore_errors=True)
     new.rename(target)
 
@@ -69,11 +86,11 @@ def new_room(above):
 def build(crate, libraries, room, jobs):
     """Builds a crate in a room, and keeps what was built."""
     for name in libraries:
-        link(TOP / "crates" / name / "out" / "rlib", room / "crates" / name / "out" / "rlib")
-    words = ["rt", "lib", "--jobs", str(jobs)]
+        put(TOP / "crates" / name / "out" / "rlib", room / "crates" / name / "out" / "rlib", link_or(os.symlink))
+    words = [TOP / "tools" / "rt_once.py", "lib", "--jobs", str(jobs)]
     ended = subprocess.run(words, cwd=room / "crates" / crate, stdin=subprocess.DEVNULL, capture_output=True, text=True)
     if ended.returncode == 0:
-        link(room / "crates" / crate / "out" / "rlib", TOP / "crates" / crate / "out" / "rlib")
+        put(room / "crates" / crate / "out" / "rlib", TOP / "crates" / crate / "out" / "rlib", link_or(shutil.copy2))
     return ended
 
 
@@ -109,7 +126,10 @@ def main():
         return
     memory = os.sysconf("SC_PHYS_PAGES") * os.sysconf("SC_PAGE_SIZE")
     places = max(1, min(len(os.sched_getaffinity(0)), memory // MEMORY_OF_EACH))
-    with tempfile.TemporaryDirectory(dir=TOP, prefix=".building-") as above:
+    prefix = f"hg_store-building-{hashlib.sha256(os.fsencode(TOP)).hexdigest()[:12]}-"
+    for left in pathlib.Path(tempfile.gettempdir()).glob(prefix + "*"):
+        shutil.rmtree(left, ignore_errors=True)
+    with tempfile.TemporaryDirectory(prefix=prefix) as above:
         build_all(crates, named, [new_room(above) for _ in range(places)])
 
 
