@@ -49,6 +49,22 @@ faulty 17 'play 1\nwrite\nend\n '
 faulty 11 'play 1\nend\nfinish\n'
 faulty 13 'play 1\nwrite\n'
 
+# A second commit in pieces of one byte, a load behind each. It writes 611 bytes up to its publication: its backup of dirstate 58, the
+# new dirstate 76, the list of backups 43, the journal 87, the new filelog 67, the list of filelogs 9, the manifest 87 and 64,
+# the changelog 56 and 64. The last of them shows it, and nothing before that does.
+{
+    printf 'play 1\nbegin commit\ncommit\nuser test\ndate 0 0\ndesc 1\na\nfile - 2 a\na\n\nend\nfinish\n'
+    printf 'begin commit\ncommit\nparent tip\nuser test\ndate 60 0\ndesc 1\nb\nfile - 2 a\na\n\nfile - 2 b\nb\n\nend\n'
+    for _ in $(seq 640); do printf 'write 1\nload 0\n'; done
+    printf 'end\n'
+} >"$folder/pieces"
+"$program" play <"$folder/pieces" >"$folder/out" 2>/dev/null
+status=$?
+{ grep '^loaded' "$folder/out" | uniq -c | tr -s ' '; grep '^answer' "$folder/out"; } >"$folder/got"
+printf ' %s\n' '610 loaded 1' '30 loaded 2' >"$folder/wanted"
+printf 'answer 0 %s\n' 0:cb9a9f314b8b07ba71012fcdbc544b5a4d82ff5b 1:37bdf19219c0e69b87d6371fabfaf5c3a63794d9 >>"$folder/wanted"
+judge 'a commit in pieces of one byte' 0 "$folder/wanted"
+
 # a word behind it does not fit
 "$program" play more </dev/null >"$folder/got" 2>/dev/null
 status=$?

@@ -7,6 +7,7 @@ after, and Mercurial, where it is there, finds nothing wrong with either. Withou
 all is skipped. The last line is 'N passed, M failed' or 'N passed, M failed, K skipped'.
 """
 
+import collections
 import hashlib
 import os
 import re
@@ -53,10 +54,10 @@ class World:
         shutil.rmtree(self.folder, ignore_errors=True)
         shutil.copytree(base, self.folder)
 
-    def run(self, words, given=b"", inject=None):
+    def run(self, words, given=b"", inject=None, calls=CALLS):
         command = [self.program, *words]
         if inject:
-            command = ["strace", "-f", "-qq", "-o", self.trace, "-e", f"trace={','.join(CALLS)}", *inject, *command]
+            command = ["strace", "-f", "-qq", "-o", self.trace, "-e", f"trace={','.join(calls)}", *inject, *command]
         return subprocess.run(command, input=given, stdout=subprocess.PIPE, stderr=subprocess.DEVNULL, cwd=self.folder, check=False)
 
     def places(self, base, words, given):
@@ -112,6 +113,9 @@ def try_command(checks, world, base, words, given, opened):
         checks.check(f"{what}: is as before or after, not {sorted(world.state())}", came_to is not None)
         checks.check(f"{what}: an answer stays", came_to == "after" or not answered)
         checks.check(f"{what}: no lock stays", not world.has_locks())
+        verified, found = answers(world, ["verify"])
+        # before `init` there is nothing to be verified
+        checks.check(f"{what}: verify finds nothing", verified == 24 or found.endswith(b", 0 findings\n"))
 
     places = world.places(base, words, given)
     for name, number in places:
@@ -152,6 +156,130 @@ def try_recovery(checks, world, opened, before):
     return len(places)
 
 
+# Two commits, each of a file, and the files that the first one's transaction leaves to undo it.
+NEW = b"commit\nuser test\ndate 0 0\ndesc 1\na\nfile - 2 a\na\n\nend\n"
+NEXT = b"commit\nparent tip\nuser test\ndate 60 0\ndesc 1\nb\nfile - 2 a\na\n\nfile - 2 b\nb\n\nend\n"
+NEW_JOURNAL = b"".join(name + b"\x000\n" for name in b"data/a.i fncache 00manifest.d 00manifest.i 00changelog.d 00changelog.i".split())
+NEW_BACKUPS = b"2\n\0phaseroots\0\x000\nplain\0dirstate\0\x000\n"
+NEW_LINE = b"0\tcb9a9f314b8b07ba71012fcdbc544b5a4d82ff5b\t-1\t-1\t0\t0\ttest\ta\n"
+
+
+def place_of(world, base, words, given, wanted):
+    """The first call of the command over this folder that the pattern finds: its name and its number among those of the name."""
+    world.lay(base)
+    world.run(words, given, ["-e", "signal=none"])
+    numbers = collections.Counter()
+    with open(world.trace, encoding="utf-8", errors="replace") as trace:
+        for line in trace:
+            name = re.match(r"\d+ +([a-z0-9]+)\(", line)
+            if name:
+                numbers[name[1]] += 1
+                if re.search(wanted, line):
+                    return name[1], numbers[name[1]]
+    raise ValueError(f"{words}: no call has {wanted!r}")
+
+
+def stopped(world, base, words, given, wanted):
+    """Leaves the folder as the command does that is stopped before this call."""
+    name, number = place_of(world, base, words, given, wanted)
+    world.lay(base)
+    return world.run(words, given, ["-e", f"inject={name}:signal=SIGKILL:when={number}"])
+
+
+def answers(world, words, given=b""):
+    ended = world.run(words, given)
+    return ended.returncode, ended.stdout
+
+
+def try_answers(checks, world, empty):
+    """What each command writes behind a stop; gives the store of one commit, and its files."""
+    world.lay(empty)
+    world.run(["init"])
+    new = world.save("new")
+    stopped(world, new, ["commit"], NEW, r"^\d+ +rename.*dirstate")
+    stand = world.state()
+    checks.check("the journal of a first commit", stand.get("store/journal") == NEW_JOURNAL)
+    checks.check("the list of its backups", stand.get("store/journal.backupfiles") == NEW_BACKUPS)
+    world.lay(new)
+    checks.check("a first commit", answers(world, ["commit"], NEW)[0] == 0 and answers(world, ["log"]) == (0, NEW_LINE))
+    one = world.save("one")
+    before = world.state()
+
+    stopped(world, one, ["commit"], NEXT, r"^\d+ +rename.*dirstate")
+    two_lines = answers(world, ["log"])
+    checks.check("a published entry is read", two_lines[0] == 0 and two_lines[1].count(b"\n") == 2 and two_lines[1].endswith(NEW_LINE))
+    checks.check("the stopped writer's lock is held", answers(world, ["commit"], NEXT) == (10, b"abort: lock held by hg-store\n"))
+    checks.check("the transaction is undone", answers(world, ["recover"]) == (0, b"transaction undone\n"))
+    checks.check("its changeset is gone", answers(world, ["log"]) == (0, NEW_LINE) and world.state() == before)
+
+    stopped(world, one, ["commit"], NEXT, r"^\d+ +unlink.*store/journal\"")
+    open_one = world.save("open")
+    name, number = place_of(world, open_one, ["recover"], b"", r"^\d+ +ftruncate")
+    world.lay(open_one)
+    world.run(["recover"], b"", ["-e", f"inject={name}:signal=SIGKILL:when={number + 1}"])
+    checks.check("a recovery that was stopped is begun again", answers(world, ["recover"]) == (0, b"transaction undone\n"))
+    checks.check("and then there is nothing to undo", answers(world, ["recover"]) == (1, b"no interrupted transaction available\n"))
+    checks.check("all is as before", world.state() == before)
+    return one, before
+
+
+def failing(world, base, wanted):
+    """What makes the first call of the second commit fail that the pattern finds."""
+    name, number = place_of(world, base, ["commit"], NEXT, wanted)
+    return ["-e", f"inject={name}:error=EIO:when={number}"]
+
+
+def commit_with(world, base, inject, calls=CALLS):
+    """The status of the second commit whose calls fail so, and what it writes."""
+    world.lay(base)
+    ended = world.run(["commit"], NEXT, inject, calls)
+    return ended.returncode, ended.stdout
+
+
+UNDONE = 16, b"abort: file operation failed\n"
+
+
+def unfinished(published):
+    return 17, b"abort: transaction unfinished (published %s)\n" % published
+
+
+def is_recovered(world, before):
+    return "store/journal" in world.state() and answers(world, ["recover"]) == (0, b"transaction undone\n") and world.state() == before
+
+
+def try_failed_appends(checks, world, base, before):
+    """An append that fails before publication, alone, and with the first operation that would undo it."""
+    for name in ("00manifest.d", "00manifest.i", "00changelog.d"):
+        fails = failing(world, base, rf'openat.*{name}".*O_WRONLY')
+        checks.check(f"append to {name} fails", commit_with(world, base, fails) == UNDONE and world.state() == before and not world.has_locks())
+        both = [*fails, "-e", "inject=ftruncate:error=EIO:when=1"]
+        checks.check(f"append to {name} and its undoing fail", commit_with(world, base, both) == unfinished(b"no") and is_recovered(world, before))
+
+
+def try_failed_entry(checks, world, base, before):
+    """The append that would publish fails; then the question for the length of its file does too."""
+    calls = [*CALLS, "statx"]
+    fails = failing(world, base, r'openat.*00changelog\.i".*O_WRONLY')
+    checks.check("append of the entry fails", commit_with(world, base, fails, calls) == UNDONE and world.state() == before)
+    with open(world.trace, encoding="utf-8", errors="replace") as trace:
+        asked = len(re.findall(r"^\d+ +statx\(", trace.read().partition("INJECTED")[0], re.MULTILINE))
+    both = [*fails, "-e", f"inject=statx:error=EIO:when={asked + 1}"]
+    checks.check("append of the entry and its length fail", commit_with(world, base, both, calls) == unfinished(b"unknown") and is_recovered(world, before))
+
+
+def try_failed_ends(checks, world, base, before):
+    """What fails behind publication: the transaction's own operations, and the removals at its end."""
+    for what, wanted in [("renaming of dirstate", r"^\d+ +rename.*dirstate"), ("removal of the journal", r"^\d+ +unlink.*store/journal\"")]:
+        checks.check(f"{what} fails", commit_with(world, base, failing(world, base, wanted)) == unfinished(b"yes"))
+        checks.check(f"{what} fails: the next is turned away", answers(world, ["commit"], NEXT)[0] == 11)
+        checks.check(f"{what} fails: recovered", is_recovered(world, before))
+    for name in ("wlock", "store/lock", "journal.backupfiles"):
+        status, written = commit_with(world, base, failing(world, base, rf'unlink.*"[^"]*{name}"'))
+        lines = written.split(b"\n")
+        checks.check(f"removal of {name} fails", status == 0 and lines[0].startswith(b"1:") and lines[1:] == [b"leftover files remain", b""])
+        checks.check(f"removal of {name} fails: two changesets", answers(world, ["log"])[1].count(b"\n") == 2)
+
+
 def main():
     if not installed():
         print("0 passed, 0 failed, 1 skipped")
@@ -162,6 +290,9 @@ def main():
         world = World(program, work)
         empty = os.path.join(work, "empty")
         os.mkdir(empty)
+        one, before = try_answers(checks, world, empty)
+        for try_some in (try_failed_appends, try_failed_entry, try_failed_ends):
+            try_some(checks, world, one, before)
         opened, places = [], try_command(checks, world, empty, ["init"], b"", [])
         world.lay(empty)
         world.run(["init"])

@@ -98,6 +98,20 @@ def history_inline(index, **others):
     return {**{name: data for name, data in WHOLE.items() if name != DATA}, INDEX: index, **others}
 
 
+# The store of one commit, as it stands behind it: a draft with an inline filelog, which is the working parent.
+COMMITTED = {
+    **{name: data for name, data in WHOLE.items() if name != "store/data/a.d"},
+    FILE: inline(BODY),
+    "store/fncache": b"data/a.i\n",
+    "store/phaseroots": f"1 {ZERO}\n".encode(),
+    "dirstate": bytes.fromhex(ZERO) + NULL + b"n" + struct.pack(">iiii", 0, -1, -1, 1) + b"a",
+}
+
+
+def cut(files, name, length):
+    return {**files, name: files[name][:length]}
+
+
 def damage(what, path=INDEX):
     return f"abort: damaged {path}: {what}\n"
 
@@ -220,6 +234,24 @@ ROWS = [
     (with_file("dirstate", bytes(39)), "parents", damage("dirstate 3 0", "dirstate"), 15),
     (with_file("dirstate", ""), "phase null", UNKNOWN, 12),
     (with_file("dirstate", ""), "phase 01", UNKNOWN, 12),
+    # one change to a store of one changeset, with a working parent: which file is named, and its first fault
+    (COMMITTED, "log", ZERO_LINE, 0),
+    (COMMITTED, "parents", f"0 {ZERO}\n", 0),
+    (COMMITTED, "cat 0 a", "a\n", 0),
+    (cut(COMMITTED, INDEX, 63), "log", damage("dirstate 6 0", "dirstate"), 15),
+    (cut(COMMITTED, DATA, 54), "log", damage("revlog 5 0"), 15),
+    (cut(COMMITTED, "store/00manifest.i", 0), "files 0", damage("revlog 15 0", "store/00manifest.i"), 15),
+    (cut(COMMITTED, FILE, 66), "cat 0 a", damage("revlog 15 0", FILE), 15),
+    ({**COMMITTED, "bookmarks": b"zz\n"}, "heads", damage("bookmarks 1 1", "bookmarks"), 15),
+    (changed(COMMITTED, "store/phaseroots", 0, ord("3")), "phase 0", damage("roots 1 1", "store/phaseroots"), 15),
+    (cut(COMMITTED, "dirstate", 39), "parents", damage("dirstate 3 0", "dirstate"), 15),
+    (changed(COMMITTED, "dirstate", 40, ord("z")), "parents", damage("dirstate 4 40", "dirstate"), 15),
+    (changed(COMMITTED, INDEX, 3, 2), "log", damage("revlog 1 0"), 15),
+    # where two files are broken, the one that is read first is named
+    ({**cut(COMMITTED, "dirstate", 39), "bookmarks": b"zz\n"}, "log", damage("bookmarks 1 1", "bookmarks"), 15),
+    (changed(cut(COMMITTED, "dirstate", 39), INDEX, 3, 2), "log", damage("dirstate 3 0", "dirstate"), 15),
+    (changed(changed(COMMITTED, "store/phaseroots", 0, ord("3")), INDEX, 3, 2), "log", damage("revlog 1 0"), 15),
+    (changed(cut(COMMITTED, INDEX, 63), "store/phaseroots", 0, ord("3")), "log", damage("roots 1 1", "store/phaseroots"), 15),
     # no repository
     ({}, "log", "abort: not a repository\n", 24),
     ({}, "heads", "abort: not a repository\n", 24),
