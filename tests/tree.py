@@ -6,10 +6,16 @@ crate's `proofs/` but what the checker itself makes there; no definition cites a
 stands once; no module is called `out`; `HANDLES` has its one line. The last line is 'N passed, M failed'.
 """
 
+import functools
 import os
 import re
 import subprocess
 import sys
+
+# `rt` sums a crate's files once for each path of crates.txt that leads down to it
+MOST_PATHS = 130_000
+# an edit costs a check, a quarter of a minute and more
+MOST_EDITS, MOST_OF_A_CRATE = 200, 7
 
 top = os.path.dirname(os.path.dirname(os.path.abspath(__file__)))
 os.chdir(top)
@@ -22,19 +28,39 @@ def text_of(path):
         return file.read()
 
 
+def lists_of_crates():
+    """Each crate with the crates of the tree that it names, in the order of crates.txt."""
+    for line in text_of("crates.txt").splitlines():
+        if not line.startswith("#"):
+            name, libraries = line.split(":")
+            yield name, [library for library in libraries.split() if os.path.isdir(f"crates/{library}")]
+
+
 def faults_of_crates():
     above = set()
-    for line in text_of("crates.txt").splitlines():
-        if line.startswith("#"):
-            continue
-        name, libraries = line.split(":")
-        for library in libraries.split():
-            if os.path.isdir(f"crates/{library}") and library not in above:
+    for name, libraries in lists_of_crates():
+        for library in libraries:
+            if library not in above:
                 yield f"crates.txt: {name} stands above {library}"
         above.add(name)
     for name in os.listdir("crates"):
         if name not in above:
             yield f"crates.txt lacks {name}"
+
+
+def faults_of_cost(paths):
+    named = dict(lists_of_crates())
+    paths_down = functools.cache(lambda name: 1 + sum(map(paths_down, named[name])))
+    libraries = [name for name in named if os.path.exists(f"crates/{name}/src/lib.rt")]
+    if sum(map(paths_down, libraries)) > MOST_PATHS:
+        yield f"crates.txt: {sum(map(paths_down, libraries))} paths from the libraries"
+    edits = [path.split("/")[1] for path in paths if re.fullmatch(r"crates/\w+/must-fail/[^/]*\.edit", path)]
+    if len(edits) > MOST_EDITS:
+        yield f"{len(edits)} edits"
+    yield from (f"{edits.count(name)} edits of {name}" for name in named if edits.count(name) > MOST_OF_A_CRATE)
+    for path in paths:
+        if path.startswith("crates/hg_store/src/") and "#[test]" in text_of(path):
+            yield f"{path}: a test in the program's crate, which is proved twice and linked for each edit"
 
 
 def faults_of_names(path):
@@ -50,6 +76,8 @@ def faults_of_names(path):
 def faults_of_edit(path):
     crate = path.split("/must-fail/")[0]
     words = re.findall(r"^(file|old|new): (.*)$", text_of(path), re.M)
+    if not words[0][1].startswith("src/"):
+        yield f"{path} changes no code"
     text = text_of(os.path.join(crate, words[0][1]))
     # its pairs are made one after another
     for (_, old), (_, new) in zip(words[1::2], words[2::2]):
@@ -69,7 +97,7 @@ def faults_of_crate(name, paths):
 
 def main():
     paths = subprocess.run(["git", "ls-files"], stdout=subprocess.PIPE, text=True, check=True).stdout.split()
-    looks = [list(faults_of_crates())]
+    looks = [list(faults_of_crates()), list(faults_of_cost(paths))]
     looks.append([] if text_of("HANDLES") == "Handles allowed: Threads, Wait.\n" else ["HANDLES is another"])
     looks += [list(faults_of_crate(name, paths)) for name in sorted(os.listdir("crates"))]
     looks += [list(faults_of_edit(path)) for path in paths if path.endswith(".edit")]

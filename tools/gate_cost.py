@@ -3,19 +3,26 @@
 
     tools/gate_cost.py rt ci
 
-A row a crate: its proofs, the proofs of its tests, its must-fail edits. Processes that live less than a quarter of a second
-may be missed; the last line has the whole of the command as the system counts it.
+A row a crate: its proofs, the proofs of its tests, its must-fail edits; then what the command itself and all else took, most of it `rt`,
+which sums files. Processes that live less than a quarter of a second may be missed; the last line has the whole as the system counts it.
+
+The rows are compared with those of CONTRIBUTING.md. A machine may be slower or faster than that of the table, by the median of all
+rows; where a crate took more than 30 % above its row besides, it is named and the status is 1.
 """
 
 import collections
 import os
+import pathlib
 import re
 import resource
 import signal
+import statistics
 import subprocess
 import sys
 import time
 
+TABLE = pathlib.Path(__file__).resolve().parent.parent / "CONTRIBUTING.md"
+ALLOWED, LEAST = 1.3, 0.5  # above a row, and minutes below which nothing is said
 TICKS = os.sysconf("SC_CLK_TCK")
 
 
@@ -76,17 +83,43 @@ def watch(process):
     return table
 
 
+def rows_of_table():
+    """The minutes of each crate in CONTRIBUTING.md, by kind."""
+    rows = {}
+    for line in TABLE.read_text().splitlines():
+        cells = re.fullmatch(r"\| `(\w+)` \| ([\d.]*) \| ([\d.]*) \| ([\d.]*) \|", line)
+        if cells:
+            rows[cells[1]] = [float(cell or 0) for cell in cells.groups()[1:]]
+    return rows
+
+
+def above_their_rows(found):
+    """The crates that took more than their rows, of those of which all was done that the rows have."""
+    rows = rows_of_table()
+    whole = {crate for crate, cells in found.items() if crate in rows and all(now or not then for now, then in zip(cells, rows[crate]))}
+    ratios = {crate: sum(found[crate]) / sum(rows[crate]) for crate in whole if sum(rows[crate]) > 0}
+    usual = statistics.median(ratios.values()) if ratios else 1
+    for crate, ratio in sorted(ratios.items()):
+        if ratio > ALLOWED * usual and sum(found[crate]) > LEAST:
+            yield f"{crate}: {sum(found[crate]):.1f} minutes, and {sum(rows[crate]) * usual:.1f} by its row"
+
+
 def main():
     process = subprocess.Popen(sys.argv[1:])
     table = watch(process)
     crates = sorted({crate for crate, _ in table})
+    found = {crate: [table[crate, kind] for kind in ("proofs", "tests", "edits")] for crate in crates}
     print("\n| Crate | Proofs | Tests | Edits | All |\n|---|---|---|---|---|")
-    for crate in crates:
-        cells = [table[crate, kind] for kind in ("proofs", "tests", "edits")]
+    for crate, cells in found.items():
         print(f"| `{crate}` | " + " | ".join(f"{n:.1f}" for n in cells + [sum(cells)]) + " |")
     used = resource.getrusage(resource.RUSAGE_CHILDREN)
-    print(f"| the whole | | | | {(used.ru_utime + used.ru_stime) / 60:.1f} |")
-    sys.exit(process.returncode)
+    whole = (used.ru_utime + used.ru_stime) / 60
+    print("| all crates | " + " | ".join(f"{sum(cells[kind] for cells in found.values()):.1f}" for kind in range(3)) + " | |")
+    print(f"| the command itself and all else | | | | {whole - sum(map(sum, found.values())):.1f} |")
+    print(f"| the whole | | | | {whole:.1f} |")
+    dear = list(above_their_rows(found))
+    print("\n".join(dear))
+    sys.exit(process.returncode or (1 if dear else 0))
 
 
 main()
