@@ -4,13 +4,13 @@
 _hg_store_words() {
     local command=${COMP_WORDS[1]} place=$COMP_CWORD
     if [ "$place" = 1 ]; then
-        printf '%s\n' log heads files cat bookmarks parents phase init commit bookmark verify gen recover play session --help --version
+        printf '%s\n' log heads files cat bookmarks parents phase revset init commit bookmark verify gen recover play session --help --version
         return
     fi
     [[ $command = phase && ${COMP_WORDS[2]} = --force && $place -gt 2 ]] && place=$((place - 1))
     [[ $command = bookmark && ${COMP_WORDS[2]} = --delete && $place -gt 2 ]] && command=delete place=$((place - 1))
     case $command.$place in
-    files.2 | cat.2 | phase.2 | bookmark.3)
+    files.2 | cat.2 | phase.2 | revset.2 | bookmark.3)
         printf '%s\n' tip .
         [ "$command.$COMP_CWORD" = phase.2 ] && echo --force
         HG_STORE_BUILD=no "${COMP_WORDS[0]}" bookmarks 2>/dev/null | cut -f 1

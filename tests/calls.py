@@ -3,7 +3,7 @@
 
 What makes bytes and names last stands in an order: the bytes of a file by its own `fsync`, and names by `fsync` of their folder
 (manual page fsync(2)), the folders that were changed first, first; a new object settles all folders of the store before,
-those below first. It is seen in the tests of `hg_store`, whose program `rt ci` leaves behind. And each question of the program
+those below first. It is seen in the tests of `hgs_os_examples`, whose program `rt ci` leaves behind. And each question of the program
 opens files in the order of a load, and none for writing.
 
 Where `strace` is missing and cannot be installed, all of this is skipped. The last line is 'N passed, M failed' or 'N passed, M failed, K skipped'.
@@ -17,7 +17,7 @@ import sys
 import tempfile
 
 top = os.path.dirname(os.path.dirname(os.path.abspath(__file__)))
-tests = os.path.join(top, "crates/hg_store/out/hg_store_tests")
+tests = os.path.join(top, "crates/hgs_os_examples/out/hgs_os_examples_tests")
 watched = "openat,write,ftruncate,mkdir,rename,unlink,fsync,fdatasync"
 
 # Of each test the calls that change or settle something, up to the removal of its folder; `-` is the folder itself.
@@ -77,7 +77,7 @@ def calls(words, where):
 def lasting_calls(test, where):
     """Those below the test's folder, from its making to the first look at what is to be removed."""
     folder, said = None, []
-    for name, paths, _ in calls([tests, "tests::" + test], where):
+    for name, paths, _ in calls([tests, "calls::" + test], where):
         if name == "mkdir" and folder is None:
             folder = paths[0]
         elif name != "openat" and folder and all(path.startswith(folder) for path in paths):

@@ -5,8 +5,8 @@ command's status and text are the same, and then all files byte for byte, and th
     tests/histories.py [COMMANDS [SEED]]
 
 2,000 commands where nothing is said: half of them in one history, the others in histories of 200. Commits with one parent, none or two,
-from any changeset, with files that are changed, removed, moved, flagged and brought back, folders that are renamed, and files of the
-other side of a merge; phases and bookmarks; commands that are refused, for what they ask or for what stands in their way; and records
+from any changeset, on some branch, with files that are changed, removed, moved, copied, flagged and brought back, folders that are renamed,
+and files of the other side of a merge; phases and bookmarks; commands that are refused, for what they ask or for what stands in their way; and records
 that are changed or cut. `verify` finds nothing at each look, and Mercurial, where it is there, nothing now and then. The statuses that
 came are counted, and each that a history can have must have come. The last line is 'N passed, M failed' or 'N passed, M failed, K skipped'.
 """
@@ -27,7 +27,7 @@ from plain_store import PHASES, REQUIRES, Refused, Store, store_name
 NAMES = [b"a", b"b", b"README", b"Makefile", b".hgignore", b"x_y", b"long.name.txt", b"aux.c", b"lpt1", b" sp ace ", b"t.", b"caf\xc3\xa9", b"n" * 110]
 FOLDERS = [b"", b"src/", b"src/lib.d/", b"Docs/", b"data.i/", b".conf/", b"src/deep/er/", b"x.hg/", b"NUL.x/", b"Long Folder. /" * 8]
 # what stands for each that a whole run must have met; 21 and 22 would take two texts with one SHA-1
-MET = {0, 10, 11, 12, 13, 14, 15, 20, 23, 24, 25, 26, 27, 28, 34}
+MET = {0, 10, 11, 12, 13, 14, 15, 20, 23, 24, 25, 26, 27, 28, 32, 34}
 MOST = 1000  # changesets of one history
 # the last three are about the greatest length of the first text of an inline filelog
 BODIES = [b"", b"a\n", b"b\n", b"\0zero", b"\x01\nmarked", b"\x01\n", b"u", b"x" * 300, b"line\n" * 5, b"y" * 4096, b"z" * 4097, b"\x01\n" + b"m" * 4092]
@@ -100,8 +100,23 @@ class Histories(Checks):
         record = b"commit\n" + b"".join(b"parent %s\n" % name.encode() for name in names) + b"user %s\ndate %s\n" % (user, date)
         record += b"phase %s\n" % phase.encode() if phase != "draft" or self.random.random() < 0.5 else b""
         record += b"bookmark %s\n" % mark.encode() if mark is not None else b""
+        record += self.random.choice([b"", b"", b"", b"branch default\n", b"branch side\n", b"branch a b\n", b"branch tip\n"])
         record += b"desc %d\n%s\n" % (len(text), text)
-        return record + b"".join(b"file %s %d %s\n%s\n" % (flag.encode(), len(body), path, body) for path, (flag, body) in sorted(tree.items())) + b"end\n"
+        return record + b"".join(self.file_lines(*file) for file in self.with_sources(tree, known)) + b"end\n"
+
+    def with_sources(self, tree, known):
+        """The files, of which some of those that are new are copies of files of the first parent, and a few are so that they are refused."""
+        above = [self.bodies[rev] for rev in known[:2]]
+        for path, file in sorted(tree.items()):
+            is_new = not any(path in files for files in above)
+            copied = above and self.random.random() < (0.5 if is_new else 0.01)
+            sources = sorted(above[0]) if above and self.random.random() < 0.97 else FOLDERS[1:2]
+            yield path, file, self.random.choice(sources) if copied and sources else None
+
+    @staticmethod
+    def file_lines(path, file, source):
+        line = b"" if source is None else b"copyfrom %s\n" % source
+        return line + b"file %s %d %s\n%s\n" % (file[0].encode(), len(file[1]), path, file[1])
 
     def commit(self, record):
         """Of a record that may be no record: what the second reader makes of it is asked of the second store."""
@@ -110,7 +125,7 @@ class Histories(Checks):
         def by_the_second():
             names, tree, *rest = read_record(record)
             said = self.store.commit([name.decode("utf-8", "surrogateescape") for name in names], tree, *rest)
-            trees.append(tree)
+            trees.append({path: (flag, body) for path, (flag, body, _) in tree.items()})
             return said
 
         if self.answer(["commit"], record, by_the_second):

@@ -28,6 +28,11 @@ def is_mark(name):
     return is_plain and name not in (b"tip", b".", b"null") and not re.fullmatch(rb"[0-9]+", name)
 
 
+def branch_of(name):
+    """The branch that a line names; `default` is as if the line were not there. Nothing where the name is none."""
+    return b"" if name == b"default" else name if is_mark(name) and b"\\" not in name else None
+
+
 def is_tracked(path):
     parts = path.split(b"/")
     return 1 <= len(path) <= 1024 and not re.search(rb"[\0\r\n]", path) and not any(part in (b"", b".", b"..") or part.lower() == b".hg" for part in parts)
@@ -78,6 +83,10 @@ class Reader:
 
 
 def read_file(reader, files, earlier):
+    source = reader.take(b"copyfrom")
+    if source is not None:
+        reader.must(is_tracked(source) and not source.endswith(b"\1"))
+        reader.pass_line()
     rest = reader.must(reader.take(b"file"))
     found = reader.must(re.fullmatch(rb"([-xl]) (%s) (.*)" % NUMBER, rest, re.DOTALL))
     flag, length, path = found[1].decode(), int(found[2]), found[3]
@@ -89,13 +98,13 @@ def read_file(reader, files, earlier):
     if len(files) == MOST_FILES:
         raise Refused(20, "abort: limit 2")
     reader.pass_line()
-    files[path] = (flag, reader.text(length))
+    files[path] = (flag, reader.text(length), source)
     earlier.append(path)
     reader.at += length + 1
 
 
 def read_record(data):
-    """The arguments of a commit: parents, tree, user, date, phase, bookmark and description."""
+    """The arguments of a commit: parents, tree, user, date, phase, bookmark, branch and description."""
     reader = Reader(data)
     reader.must(reader.line() == b"commit")
     reader.pass_line()
@@ -116,6 +125,11 @@ def read_record(data):
     if (mark := reader.take(b"bookmark")) is not None:
         reader.must(is_mark(mark))
         reader.pass_line()
+    branch = b""
+    if (named := reader.take(b"branch")) is not None:
+        branch = branch_of(named)
+        reader.must(branch is not None)
+        reader.pass_line()
     length = reader.must(reader.take(b"desc"))
     reader.must(re.fullmatch(NUMBER, length) and int(length) <= MOST_TEXT)
     reader.pass_line()
@@ -127,4 +141,4 @@ def read_record(data):
         read_file(reader, files, earlier)
     reader.pass_line()
     reader.must(reader.at == len(data))
-    return parents, files, user, date, phase.decode(), mark and mark.decode(), description
+    return parents, files, user, date, phase.decode(), mark and mark.decode(), branch, description

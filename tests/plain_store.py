@@ -137,6 +137,17 @@ def body_text(body):
     return b"\x01\n\x01\n" + body if body.startswith(b"\x01\n") else body
 
 
+def copy_text(source, node, body):
+    """The text of a copy: behind a block that names its source, and the node that this has."""
+    return b"\x01\ncopy: %s\ncopyrev: %s\n\x01\n%s" % (source, node.hex().encode(), body)
+
+
+def body_of(text):
+    """What stands behind the block of a text, where it has one."""
+    end = text.find(b"\x01\n", 2) if text.startswith(b"\x01\n") else -1
+    return text if end < 0 else text[end + 2 :]
+
+
 class Store:
     def __init__(self):
         self.changelog, self.manifest, self.filelogs, self.list = Revlog(), Revlog(), {}, b""
@@ -211,30 +222,45 @@ class Store:
             return (a, None)
         return (b, None) if a in log.ancestors(b) else (a, b)
 
-    def commit(self, names, tree, user, date, phase, mark, description):
-        """Of a tree from paths to a flag and a body. The revisions are added at the end, where nothing refuses them."""
+    def fresh_text(self, first, body, source):
+        if source is None:
+            return body_text(body)
+        return copy_text(source, self.filelogs[source].nodes[self.file_at(first, source)[0]], body)
+
+    def test_copies(self, parents, tree):
+        copies = [(path, source) for path, (_, _, source) in tree.items() if source is not None]
+        if any(self.file_at(parents[0], source) is None for _, source in copies):
+            raise Refused(23, "abort: unknown path")
+        for path, _ in copies:
+            if any(self.file_at(parent, path) for parent in parents):
+                raise Refused(32, f"abort: copy over {path.decode()}")
+
+    def commit(self, names, tree, user, date, phase, mark, branch, description):
+        """Of a tree from paths to a flag, a body and a source. The revisions are added at the end, where nothing refuses them."""
         self.begin()
         parents = self.parents_of(names)
         link = len(self.trees)
+        self.test_copies(parents, tree)
         rows, changed, added = {}, set(), {}
-        for path, (flag, body) in tree.items():
+        for path, (flag, body, source) in tree.items():
             log = self.filelogs.get(path) or Revlog()
             first, second = self.file_parents(log, parents, path)
-            is_kept = first is not None and second is None and log.texts[first] == body_text(body)
+            is_kept = first is not None and second is None and body_of(log.texts[first]) == body
             old = self.file_at(parents[0], path) or self.file_at(parents[1], path)
             if not is_kept or (old and old[1] != flag):
                 changed.add(path)
             if is_kept:
                 rows[path] = (first, flag)
             else:
-                added[path] = (body_text(body), (first, second))
+                added[path] = (self.fresh_text(parents[0], body, source), (first, second))
                 rows[path] = (None, flag)
         changed |= {path for parent in parents if parent is not None for path in self.trees[parent] if path not in tree}
         if parents[1] is None and not changed:
             raise Refused(13, f"abort: nothing changed ({parents[0] or 0})")
-        return self.add(parents, link, rows, added, sorted(changed), user, date, phase, mark, description)
+        when = b"%d %d" % date + (b" branch:" + branch if branch else b"")
+        return self.add(parents, link, rows, added, sorted(changed), user, when, phase, mark, description)
 
-    def add(self, parents, link, rows, added, changed, user, date, phase, mark, description):
+    def add(self, parents, link, rows, added, changed, user, when, phase, mark, description):
         nodes = {}
         for path, (text, file_parents) in added.items():
             log = self.filelogs.get(path) or Revlog()
@@ -249,7 +275,7 @@ class Store:
         above = (first, None if second == first else second)
         low, high = sorted(self.manifest.node(parent) for parent in above)
         node = hashlib.sha1(low + high + text).digest()
-        lines = [node.hex().encode(), user, b"%d %d" % date, *changed]
+        lines = [node.hex().encode(), user, when, *changed]
         change = b"\n".join(lines) + b"\n\n" + description
         standing = self.changelog.standing(change, parents)
         if standing is not None:
@@ -348,7 +374,7 @@ class Store:
         _, user, date = head.split(b"\n")[:3]
         parents = [-1 if parent is None else parent for parent in self.changelog.parents[rev]]
         numbers = "\t".join(map(str, [rev, self.changelog.nodes[rev].hex(), *parents])).encode()
-        return b"\t".join([numbers, *date.split(b" "), user, description.split(b"\n")[0]]) + b"\n"
+        return b"\t".join([numbers, *date.split(b" ")[:2], user, description.split(b"\n")[0]]) + b"\n"
 
     def listing(self, rev):
         rows = sorted(self.trees[rev].items())

@@ -88,6 +88,40 @@ check "a file of it cannot be read" refused "abort: damaged store/data/src/f99.i
 check "which leaves nothing behind" [ "$(echo half*)" = 'half*' ]
 cd ..
 
+# Records of branches and copies whose form breaks, and where: at the line that does not fit. The lines before these have 23 bytes, and
+# those up to the files 31.
+breaks_at() { # PLACE LINES: what stands behind the date
+    [ "$(printf 'commit\nuser u\ndate 0 0\n%b' "$2" | hg_store commit 2>/dev/null)" = "abort: bad input at $1" ]
+}
+check "a branch before the bookmark" breaks_at 32 'branch x\nbookmark b\n'
+check "two branches" breaks_at 32 'branch x\nbranch y\n'
+check "a branch of digits alone" breaks_at 23 'branch 7\n'
+check "a branch with a backslash" breaks_at 23 'branch a\\\\b\n'
+check "a branch without a name" breaks_at 23 'branch \n'
+check "a branch behind the description" breaks_at 31 'desc 0\n\nbranch x\n'
+check "a source without a file" breaks_at 42 'desc 0\n\ncopyfrom a\nend\n'
+check "two sources" breaks_at 42 'desc 0\n\ncopyfrom a\ncopyfrom b\nfile - 0 c\n\nend\n'
+check "a source that is no path" breaks_at 31 'desc 0\n\ncopyfrom a//b\nfile - 0 c\n\nend\n'
+check "a source that ends in the byte 1" breaks_at 31 'desc 0\n\ncopyfrom a\1\nfile - 0 c\n\nend\n'
+check "a source behind its file" breaks_at 54 'desc 0\n\nfile - 0 c\n\ncopyfrom a\nend\n'
+check "a cut behind a source" breaks_at 42 'desc 0\n\ncopyfrom a\n'
+check "a file of a source out of order" breaks_at 54 'desc 0\n\nfile - 0 c\n\ncopyfrom a\nfile - 0 b\n\nend\n'
+
+# A branch and a copy, with the nodes that Mercurial gives them.
+mkdir -p copying/files && cd copying && hg_store init || exit 1
+echo a >files/a
+check "a changeset to copy from" [ "$(record -m a -u test -d '0 0' files | hg_store commit)" = 0:cb9a9f314b8b07ba71012fcdbc544b5a4d82ff5b ]
+echo a >files/b
+check "a copy" [ "$(record -m b -u test -d '60 0' --copy a:b files | hg_store commit)" = 1:ecb79b03f81bb90a7a34bef62bcb3e917c17e3c5 ]
+check "its text has a block of 62 bytes" [ "$(stat -c %s .hg/store/data/b.i)" = 129 ]
+check "which is no part of its body" [ "$(hg_store cat tip b)" = a ]
+cd ..
+check "a branch" bash -c 'mkdir side && cd side && hg_store init && mkdir files && echo a >files/a && record -m a -u test -d "0 0" files | hg_store commit && echo b >files/b && [ "$(record -m b -u test -d "60 0" --branch side files | hg_store commit)" = 1:89c35e91dd0767fdc86032f5e4df2e08b8549b05 ]'
+check "a copy of no file" refused "copy z is none of the files" record -m m --copy a:z copying/files
+check "a copy of two files" refused "b is a copy of two files" record -m m --copy a:b --copy b:b copying/files
+check "a copy without a path" refused "a copy is SOURCE:PATH" record -m m --copy a copying/files
+check "a branch without a name to record" refused "a branch has a name" record -m m --branch "" copying/files
+
 # The example of README.md: the commands behind '$ ', and what they write.
 sed -n '/^By hand:/,/^[A-Z#`]/p' "$here/../README.md" | sed -n 's/^    //p' >"$work/example"
 sed -n 's/^\$ //p' "$work/example" >"$work/commands"

@@ -336,12 +336,16 @@ COMMANDS = [
     ),
     (DRAFTS, "recover", "no interrupted transaction available\n", 1, DRAFTS),
     (OPEN, "recover", "transaction undone\n", 0, BEFORE),
+    # a name that no file of a store can have, since the names there are ASCII: nothing stands under it
+    ({**OPEN, JOURNAL: b"data/\xff.i\x000\n" + OPEN[JOURNAL]}, "recover", "transaction undone\n", 0, BEFORE),
     (OPEN, "phase 0 public", "abort: lock held by me\n", 10, OPEN),
     *(
         (files, "recover", damage(what, path), 15, files)
         for files, what, path in (
             (other(OPEN, journal=b"data/b.i\x000\nfncache\x00018\n"), "journal 1 2", JOURNAL),
             (other(OPEN, backups=b"3\n"), "journal 2 0", BACKUPS),
+            # as Mercurial leaves it where it is killed at the beginning of a transaction
+            (other(OPEN, journal=b"", backups=b""), "journal 2 0", BACKUPS),
             (other(OPEN, backups=None), "journal 5 0", BACKUPS),
             (other(OPEN, backup=None), "journal 5 0", BACKUP),
             (other(OPEN, journal=b"data/b.i\x000\n00changelog.i\x001000\n"), "journal 4 1000", INDEX),
@@ -398,4 +402,5 @@ def main():
     sys.exit(checks.failed > 0 or checks.passed == 0)
 
 
-main()
+if __name__ == "__main__":
+    main()

@@ -79,6 +79,8 @@ socket_as_index() {
 }
 link_to_index() { lay_store && mv .hg/store/00changelog.i other && ln -s "$PWD/other" .hg/store/00changelog.i; }
 link_to_nowhere() { mkdir .hg && ln -s nowhere .hg/requires; }
+folder_as_bookmarks() { lay_store && rm -f .hg/bookmarks && mkdir .hg/bookmarks; }
+folder_as_roots() { lay_store && rm -f .hg/store/phaseroots && mkdir .hg/store/phaseroots; }
 locked_by_mercurial() { lay_store && ln -s box:77 .hg/wlock && ln -s box:77 .hg/store/lock; }
 second_link() { lay_store && ln .hg/store/00changelog.i other-clone.i && ln .hg/store/00changelog.d other-clone.d; }
 
@@ -158,6 +160,10 @@ socket_as_index|in_time|16|abort: file operation failed|log
 link_to_index|plain|0|log|log
 link_to_nowhere|plain|27|abort: requirement nowhere|log
 locked_by_mercurial|plain|0|log|log
+locked_by_mercurial|plain|10|abort: lock held by box:77|bookmark new 0
+folder_as_bookmarks|plain|16|abort: file operation failed|bookmarks
+folder_as_bookmarks|plain|16|abort: file operation failed|bookmark new 0
+folder_as_roots|plain|16|abort: file operation failed|phase 0
 cut_data|plain|15|abort: damaged store/00changelog.i: revlog 5 15|log
 cut_entry|plain|0|log|log
 other_byte|plain|15|abort: damaged store/00changelog.i: revlog 7 0|log

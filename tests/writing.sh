@@ -119,6 +119,65 @@ for number in 1 2 3 4 5 6; do
     check "nothing is wrong with step $number" env -C ours bash -c "[ -z \"\$(hg verify --quiet 2>&1)\" ]"
 done
 check "the stores are the same" same_store ours theirs
+
+# ---- the same copies, renames and branches by both
+
+# The files of the step with this number, in the current folder: a copy, two renames of which one has another body, and a copy at
+# a path that an earlier changeset had.
+copy_files() {
+    case $1 in
+        1) mkdir src && echo a >a && echo b >src/b && head -c 4097 /dev/zero | tr '\0' z >large ;;
+        2) cp a copied ;;
+        3) mv src/b src/c && mv large moved && echo more >>moved ;;
+        4) cp copied src/b ;;
+        5) echo more >>src/b ;;
+    esac
+}
+
+# The copies of a step, and the branch that it is on.
+copies_of() { case $1 in 2) echo a:copied ;; 3) printf 'src/b:src/c\nlarge:moved\n' ;; 4) echo copied:src/b ;; esac; }
+branch_of() { case $1 in 3 | 4) echo side ;; *) echo default ;; esac; }
+
+copies_ours() {
+    local words=()
+    while IFS= read -r copy; do words+=(--copy "$copy"); done < <(copies_of "$1")
+    "$here/../bin/record" -m "step $1" -u ada -d "$1 0" --branch "$(branch_of "$1")" "${words[@]}" . | "$program" commit
+}
+
+copies_theirs() {
+    hg --quiet branch --force "$(branch_of "$1")"
+    copies_of "$1" | while IFS=: read -r source copy; do
+        if [ -e "$source" ]; then hg copy --after "$source" "$copy"; else hg rename --after "$source" "$copy"; fi
+    done
+    hg --quiet commit --addremove -m "step $1" -u ada -d "$1 0"
+}
+
+both_copy() { # NUMBER: each commits, and the node is the same
+    local ours
+    (cd copies && copy_files "$1") && (cd their-copies && copy_files "$1" && copies_theirs "$1") || return 1
+    ours=$(cd copies && copies_ours "$1") || return 1
+    [ "$ours" = "$(hg -R their-copies log -r tip --template '{rev}:{node}')" ]
+}
+
+mkdir copies && hg init their-copies
+check "a repository of copies is made" ends 0 "" env -C copies "$program" init
+for number in 1 2 3 4 5; do check "both commit step $number with its copies" both_copy "$number"; done
+check "the stores with copies are the same" same_store copies their-copies
+says() { [ "$(hg -R copies "${@:2}")" = "$1" ]; } # TEXT WORDS: what Mercurial says of the program's
+check "Mercurial sees the copies and the branches" says $'0 default\n1 default a>copied\n2 side large>moved src/b>src/c\n3 side copied>src/b\n4 default' \
+    log -r 'all()' --template '{rev} {branch}{file_copies % " {source}>{name}"}\n'
+check "it follows a file through them" says $'4\n3\n1\n0' log --follow --template '{rev}\n' copies/src/b
+check "it knows a copy's source" env -C copies bash -c '[ "$(hg debugrename -r 3 src/b)" = "src/b renamed from copied:37d9b5d994eab34eda9c16b195ace52c7b129980" ]'
+check "it lists the branches" says $'default 4\nside 3' branches --closed --template '{branch} {rev}\n'
+check "nothing is wrong with copies" env -C copies bash -c '[ -z "$(hg verify --quiet 2>&1)" ] && [ "$("$0" verify)" = "checked 5 changesets, 6 filelogs, 0 findings" ]' "$program"
+cd copies || exit 1
+copy_refused() { refused "$1" "$2" bash -c '"$1" -m m "${@:3}" . | "$2" commit' - "$here/../bin/record" "$program" "${@:3}"; }
+check "a copy of nothing" copy_refused 23 "abort: unknown path" --copy none:src/b
+check "a copy over a file" copy_refused 32 "abort: copy over src/b" --copy a:src/b
+check "a copy of a file that the second parent alone has" copy_refused 23 "abort: unknown path" --parent 0 --parent tip --copy copied:src/c
+check "a source before a path" copy_refused 23 "abort: unknown path" --parent null --copy a:src/b
+cd ..
+
 cd ours || exit 1
 check "both say the same" same_answers
 check "Mercurial finds no change in the folder" bash -c '[ -z "$(hg status 2>&1)" ]'

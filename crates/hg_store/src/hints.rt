@@ -20,7 +20,7 @@ pub fn hint(status: u8) -> Option<&'static str> {
             "the input is no record of a changeset, no schedule or no script, from the byte on that the line names; `bin/record` prints one of a folder; nothing was changed",
         ),
         15 => Some(
-            "this file does not hold what it should; nothing was changed; `hg verify` says more of a repository of Mercurial's",
+            "this file does not hold what it should; nothing was changed; `hg verify` says more of a repository of Mercurial's, and `hg recover` undoes what a stopped hg left",
         ),
         16 => Some(
             "the system failed a call on a file of .hg: see that it may be read and written and that the disk is sound and not full; the repository is as before",
@@ -39,7 +39,9 @@ pub fn hint(status: u8) -> Option<&'static str> {
         22 => Some(
             "the path of the line and a new one would have the same files in the store; nothing was changed",
         ),
-        23 => Some("the changeset has no file of this path; `hg_store files REV` lists its files"),
+        23 => Some(
+            "the changeset has no file of this path, or of a commit the first parent has no file of the path that a copy names; `hg_store files REV` lists its files",
+        ),
         24 => Some(
             "there is no .hg/requires here: run it in the folder that has the .hg, not in one below it; `hg_store init` makes an empty repository",
         ),
@@ -55,6 +57,12 @@ pub fn hint(status: u8) -> Option<&'static str> {
             "docs/ANSWERS.md says what each kind of finding means; `verify` changes nothing",
         ),
         30 => Some("there was not enough memory; `hg_store log` shows whether a commit was made"),
+        32 => Some(
+            "a parent has a file of this path, and a copy is a new file; nothing was changed",
+        ),
+        33 => Some(
+            "the text is no set of changesets, from the byte on that the line names; docs/FORMATS.md has the form of sets",
+        ),
         34 => Some("this file stands where a new one is to be; move it away; nothing was changed"),
         _ => None,
     }

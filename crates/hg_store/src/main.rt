@@ -1,26 +1,20 @@
 //! The program: the store of a Mercurial repository, in the folder `.hg` of the current one.
 //!
-//! This crate is the edge to the operating system, and is trusted: std's clauses do not say what files and streams hold.
-//! What the program does with them is proved in the crates below.
+//! This crate takes the words, makes the objects and says what a status means. It is trusted, as `hgs_os` is; what the program
+//! does with them is proved in the crates below.
 #![tactic(auto)]
 
 mod command_line;
-mod files;
-mod folder;
 mod hints;
 mod progress;
-mod streams;
-#[cfg(test)]
-mod tests;
-mod yard;
 
 use crate::command_line::{Words, read_words};
-use crate::files::OsFiles;
 use crate::hints::hint;
 use crate::progress::OsProgress;
-use crate::streams::{OsSink, OsSource};
-use crate::yard::OsYard;
 use hgs_files::streams::Sink;
+use hgs_os::files::OsFiles;
+use hgs_os::streams::{OsSink, OsSource};
+use hgs_os::yard::OsYard;
 use hgs_run::run::run;
 use hgs_top::command::refuse_words;
 use hgs_top::orders::Order;

@@ -5,11 +5,11 @@ use Rattle.hgs_index.specs.Limit.{limit_number}
 use Rattle.hgs_index.specs.declared.node.Node.{Node}
 use Rattle.hgs_model.specs.Phase.{phase_name}
 use Rattle.hgs_model.specs.declared.command.Command.{Command}
-use Rattle.hgs_model.specs.declared.command.Command.TheVariants.{Commit, Move, Mark, Unmark}
+use Rattle.hgs_model.specs.declared.command.Command.TheVariants.{Commit, Import, Move, Mark, Unmark}
 use Rattle.hgs_plan.specs.Damage.{damage_text}
 use Rattle.hgs_answers.specs.declared.answer.Answer.{Answer}
 use Rattle.hgs_answers.specs.declared.outcome.Outcome.{Outcome}
-use Rattle.hgs_answers.specs.declared.outcome.Outcome.TheVariants.{Done, LockHeld, Abandoned, UnknownRevision, NothingChanged, Damaged, Fault, Unfinished, Limit, Collision, NameClash, NeedsForce, Memory, InTheWay}
+use Rattle.hgs_answers.specs.declared.outcome.Outcome.TheVariants.{Done, LockHeld, Abandoned, UnknownRevision, NothingChanged, Damaged, Fault, Unfinished, Limit, Collision, NameClash, NeedsForce, Memory, InTheWay, UnknownPath, Unsettled, CopyOver}
 use Rattle.hgs_answers.specs.declared.outcome.Published.{Published}
 use Rattle.hgs_answers.specs.declared.outcome.Published.TheVariants.{No, Yes, Unknown}
 
@@ -29,6 +29,9 @@ status_of (NameClash path) = 22
 status_of (NeedsForce rev) = 26
 status_of Memory = 30
 status_of (InTheWay path) = 34
+status_of UnknownPath = 23
+status_of (Unsettled rev node) = 31
+status_of (CopyOver path) = 32
 
 abbrev pub published_word : Published → List ℕ
 published_word No = codes "no"
@@ -68,11 +71,15 @@ refusal_text (NameClash path) = codes "name clash with " ++ path
 refusal_text (NeedsForce rev) = needs_force_text rev
 refusal_text Memory = codes "out of memory"
 refusal_text (InTheWay path) = codes "file in the way " ++ path
+refusal_text UnknownPath = codes "unknown path"
+refusal_text (Unsettled rev node) = codes "transaction not settled"
+refusal_text (CopyOver path) = codes "copy over " ++ path
 
--- What is said of a command that was done: number and node of the new changeset; the number of a changeset and the phase that it was given; the bookmark, with its
+-- What is said of a command that was done: number and node of the new changeset, of an import of the last one; the number of a changeset and the phase that it was given; the bookmark, with its
 -- changeset's number where it was set.
 abbrev pub done_text : Command → ℕ → Node → List ℕ
 done_text (Commit change) rev node = decimal rev ++ 58 ∷ hex node.0
+done_text (Import changes) rev node = decimal rev ++ 58 ∷ hex node.0
 done_text (Move name phase force) rev node = decimal rev ++ 32 ∷ phase_name phase
 done_text (Mark name at) rev node = name ++ 32 ∷ decimal rev
 done_text (Unmark name) rev node = name ++ codes " removed"

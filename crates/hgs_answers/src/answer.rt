@@ -53,7 +53,7 @@ fn push_done(into: &mut Vec<u8>, command: &Command, rev: u32, node: &Node) -> Re
     ensures { OnOk result (into.new.items ≡ into.old.items ++ done_text command.now rev node.now) }
 {
     match command {
-        Command::Commit(_) => push_changeset(into, rev, node),
+        Command::Commit(_) | Command::Import(_) => push_changeset(into, rev, node),
         Command::Move { phase, .. } => push_phase(into, rev, *phase),
         Command::Mark { name, .. } => push_mark(into, name, rev),
         Command::Unmark { name } => {
@@ -181,6 +181,9 @@ impl Outcome {
             ),
             Outcome::Memory => into.extend_from_slice(b"out of memory"),
             Outcome::InTheWay(path) => push_words(into, b"file in the way ", path.bytes()),
+            Outcome::UnknownPath => into.extend_from_slice(b"unknown path"),
+            Outcome::Unsettled { .. } => into.extend_from_slice(b"transaction not settled"),
+            Outcome::CopyOver(path) => push_words(into, b"copy over ", path.as_slice()),
         }
     }
 

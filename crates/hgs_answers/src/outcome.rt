@@ -56,6 +56,12 @@ pub enum Outcome {
     Memory,
     /// A file with bytes stands where one of a new filelog is to be.
     InTheWay(StorePath),
+    /// The source of a copy is no file of the first parent.
+    UnknownPath,
+    /// The transaction stands, and it is not sure that it would after a loss of power. Nothing answers this yet.
+    Unsettled { rev: u32, node: Node },
+    /// A copy has this path, which a parent has a file at.
+    CopyOver(Bytes),
 }
 
 impl Outcome {
@@ -78,6 +84,9 @@ impl Outcome {
             Outcome::NeedsForce(_) => 26,
             Outcome::Memory => 30,
             Outcome::InTheWay(_) => 34,
+            Outcome::UnknownPath => 23,
+            Outcome::Unsettled { .. } => 31,
+            Outcome::CopyOver(_) => 32,
         }
     }
 }

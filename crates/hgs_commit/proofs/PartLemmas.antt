@@ -9,7 +9,7 @@ use Rattle.hgs_load.specs.View.{changelog_index}
 use Rattle.hgs_steps.specs.Steps.{CanBeAssembled}
 use Rattle.hgs_transaction.specs.declared.parts.Appending.{Appending}
 use Rattle.hgs_transaction.specs.declared.parts.Change.{Change}
-use Rattle.hgs_transaction.specs.declared.parts.Change.TheVariants.{Append, Replace}
+use Rattle.hgs_transaction.specs.declared.parts.Change.TheVariants.{Append, MakeIndex, RenameIndex, Replace}
 use Rattle.hgs_transaction.specs.declared.parts.Replacing.{Replacing}
 use Rattle.hgs_transaction.specs.Parts.{is_in_store}
 use Rattle.hgs_commit.specs.Appended.{is_beside, is_beside_path}
@@ -25,6 +25,8 @@ stored (Append a ∷ changes) h =
     let b = both (is_beside_path a.path) (list_all is_beside changes) h in
     ap (λ q. q && list_all is_in_store changes) (both (begins_with a.path (codes "store/")) (not (same_path a.path changelog_index)) b.0).0 ∙ stored changes b.1
 stored (Replace x ∷ changes) h = cc
+stored (MakeIndex bytes ∷ changes) h = cc
+stored (RenameIndex before ∷ changes) h = cc
 
 roots_stored : (roots : Option Replacing) → list_all is_in_store (optional_replace roots) ≡ true
 roots_stored None = refl

@@ -2,6 +2,7 @@
 use Rattle.std.proofs.Common.{◌≡◌, ℕ, List, ◌++◌, Bool, true, false, length, Option, None, Result, Ok, Err, refl, sym, ◌∙◌, ap, subst}
 use Rattle.std.specs.Prelude.{⊤, ◌||◌}
 use Rattle.std.specs.Bool.{MatchBool}
+use Rattle.hgs_files.specs.declared.op.Op.{Op}
 use Rattle.hgs_files.specs.Tree.{Tree}
 use Rattle.hgs_index.specs.Revision.{Parents}
 use Rattle.hgs_loading.specs.Theorems.FoundLemmas.{either}
@@ -15,7 +16,8 @@ use Rattle.hgs_steps.specs.declared.fault.PlanFault.{PlanFault}
 use Rattle.hgs_steps.specs.declared.loaded.Loaded.{Loaded}
 use Rattle.hgs_steps.specs.declared.step.Step.{Step}
 use Rattle.hgs_commit.specs.Changeset.{changeset_in, manifest_in}
-use Rattle.hgs_commit.specs.Commit.{ClashBy, ClashOn, GivesWith, OfTexts, StepsOn, Steps, accepted, and_plan, grown_in, or_refused, or_unread, planned, step_on, tested, texts_in, too_many_marks, trees_in, written_new, written_of, written_unless}
+use Rattle.hgs_path.specs.Fncache.{listing}
+use Rattle.hgs_commit.specs.Commit.{AtRest, ClashBy, ClashOn, GivesWith, OfTexts, OfTrees, StepsOn, Steps, accepted, and_plan, both_parents, copies_tested, grown_in, grown_on, manifests_of, or_refused, or_unread, planned, step_copied, step_on, tested, texts_in, too_many_marks, trees_in, written_new, written_of, written_unless}
 use Rattle.hgs_commit.specs.declared.fault.CommitFault.{CommitFault}
 use Rattle.hgs_commit.specs.declared.fault.CommitFault.TheVariants.{Unread, Refused}
 use Rattle.hgs_commit.specs.declared.hindrance.Hindrances.{Hindrances}
@@ -25,8 +27,12 @@ use Rattle.hgs_commit.specs.declared.new_text.NewText.{NewText}
 use Rattle.hgs_revlog.specs.Log.{Log}
 use Rattle.hgs_commit.specs.Obstacles.{Met, Obstacle, met_of, noted, nothing_met, noting}
 use Rattle.hgs_commit.specs.Texts.{OfText}
-use Rattle.hgs_commit.specs.Trees.{OfGrown}
+use Rattle.hgs_commit.specs.Trees.{OfGrown, all_files_in, grown_of}
+use Rattle.hgs_commit.specs.Tree.{ClashIn}
 use Rattle.hgs_commit.proofs.TreeLemmas.{noted-append, noting-err, noting-ok}
+use Rattle.hgs_commit.proofs.WholeLemmas.{clash-of-parents, clash-unasked, grown-of-parents, trees-unread}
+use Rattle.hgs_commit.proofs.AnswerLemmas.{alone-both}
+use Rattle.hgs_loading.specs.Parent.{Files}
 
 -- ---- the texts
 
@@ -75,36 +81,98 @@ module _ (l : Loaded) (c : NewChange) (parents : Parents) (t : Tree) where
   abbrev behind_grown : Option (List ℕ) → (OfGrown × Parents) × List Obstacle → Result Step CommitFault
   behind_grown clash g = or_refused (tested parents g.0.0) (λ changed. or_unread (texts_in l c parents g.0.0 g.0.1 t) (behind_texts clash (noted (start l c) g.1)))
 
-  module _ (x : OfGrown) (manifests : Parents) (m : Met) (clash : Option (List ℕ)) (grown : noting (start l c) (grown_in l c parents t) ≡ Ok ((x, manifests), m)) (told : ClashOn l (trees_in l c parents t) None clash) where
-    from-grown : step_on clash l c parents t ≡ or_refused (tested parents x) (λ changed. or_unread (texts_in l c parents x manifests t) (behind_texts clash m))
-    from-grown =
-        let n = noting-ok (start l c) m (x, manifests) (grown_in l c parents t) grown in
-        ap (λ r. or_unread r (behind_grown clash)) n.1
-        ∙ ap (λ k. or_refused (tested parents x) (λ changed. or_unread (texts_in l c parents x manifests t) (behind_texts clash k))) (sym n.2)
+  abbrev behind_parents : Option (List ℕ) → Files × Files → Result Step CommitFault
+  behind_parents clash p = or_refused (copies_tested p.0.1 p.1.1 c.files) (λ copied. step_copied clash l c parents t)
 
-    pub step-unchanged : (f : PlanFault) → Err f ≡ tested parents x → StepsOn l c parents t (Err (Refused f))
-    step-unchanged f h = free-any (is_memory f) _ (clash, told, from-grown ∙ ap (λ r. or_refused r (λ changed. or_unread (texts_in l c parents x manifests t) (behind_texts clash m))) (sym h))
+  pub step-orphan : (e : ReadAnswer) → MatchBool (is_of_outside e) ⊤ (both_parents l parents t ≡ Err e) → StepsOn l c parents t (Err (Unread e))
+  step-orphan e h = either (is_of_outside e) (both_parents l parents t ≡ Err e) ((clash : Option (List ℕ)) × ClashOn l c (trees_in l c parents t) None clash × (step_on clash l c parents t ≡ Err (Unread e)))
+      (λ k. (None, untold k, ap (λ r. or_unread r (behind_parents None)) k)) h
+    where
+      untold : both_parents l parents t ≡ Err e → ClashOn l c (trees_in l c parents t) None None
+      untold k = let P : Result OfTrees ReadAnswer → Type 0 = λ r. ClashOn l c r None None in subst P (sym (trees-unread l c parents t e k)) tt
 
-    module _ (changed : Ok tt ≡ tested parents x) where
-      from-changed : step_on clash l c parents t ≡ or_unread (texts_in l c parents x manifests t) (behind_texts clash m)
-      from-changed = from-grown ∙ ap (λ r. or_refused r (λ changed. or_unread (texts_in l c parents x manifests t) (behind_texts clash m))) (sym changed)
+  module _ (first second : Files) (read : both_parents l parents t ≡ Ok (first, second)) where
+    from-parents : (clash : Option (List ℕ)) → step_on clash l c parents t ≡ or_refused (copies_tested first.1 second.1 c.files) (λ copied. step_copied clash l c parents t)
+    from-parents clash = ap (λ r. or_unread r (behind_parents clash)) read
 
-      pub step-textless : (e : ReadAnswer) → MatchBool (is_of_outside e) ⊤ (noting m (texts_in l c parents x manifests t) ≡ Err e) → StepsOn l c parents t (Err (Unread e))
-      step-textless e h = either (is_of_outside e) (noting m (texts_in l c parents x manifests t) ≡ Err e) ((clash : Option (List ℕ)) × ClashOn l (trees_in l c parents t) None clash × (step_on clash l c parents t ≡ Err (Unread e)))
-          (λ k. (clash, told, from-changed ∙ ap (λ r. or_unread r (behind_texts clash m)) (noting-err m e (texts_in l c parents x manifests t) k))) h
+    pub step-uncopied : (f : PlanFault) → MatchBool (is_memory f) ⊤ (copies_tested first.1 second.1 c.files ≡ Err f) → StepsOn l c parents t (Err (Refused f))
+    step-uncopied f h = either (is_memory f) (copies_tested first.1 second.1 c.files ≡ Err f) ((clash : Option (List ℕ)) × ClashOn l c (trees_in l c parents t) None clash × (step_on clash l c parents t ≡ Err (Refused f)))
+        (λ k. (None, clash-unasked l c parents t first second read f k, from-parents None ∙ ap (λ r. or_refused r (λ copied. step_copied None l c parents t)) k)) h
 
-      module _ (texts : OfTexts) (new : Met) (found : noting m (texts_in l c parents x manifests t) ≡ Ok (texts, new)) where
-        from-texts : step_on clash l c parents t ≡ or_refused (planned l c parents texts new clash) accepted
-        from-texts =
-            let n = noting-ok m new texts (texts_in l c parents x manifests t) found in
-            from-changed ∙ ap (λ r. or_unread r (behind_texts clash m)) n.1 ∙ ap (λ k. or_refused (planned l c parents texts k clash) accepted) (sym n.2)
+    module _ (copied : copies_tested first.1 second.1 c.files ≡ Ok tt) where
+      from-copied : (clash : Option (List ℕ)) → step_on clash l c parents t ≡ step_copied clash l c parents t
+      from-copied clash = from-parents clash ∙ ap (λ r. or_refused r (λ copied. step_copied clash l c parents t)) copied
 
-        pub step-refused : (f : PlanFault) → MatchBool (is_memory f) ⊤ (planned l c parents texts new clash ≡ Err f) → StepsOn l c parents t (Err (Refused f))
-        step-refused f h = either (is_memory f) (planned l c parents texts new clash ≡ Err f) ((clash : Option (List ℕ)) × ClashOn l (trees_in l c parents t) None clash × (step_on clash l c parents t ≡ Err (Refused f)))
-            (λ k. (clash, told, from-texts ∙ ap (λ r. or_refused r accepted) k)) h
+      -- without the files of the commit
+      pub step-unread : (e : ReadAnswer) → MatchBool (is_of_outside e) ⊤ (noting (start l c) (grown_on l c first second t) ≡ Err e) → StepsOn l c parents t (Err (Unread e))
+      step-unread e h = either (is_of_outside e) (noting (start l c) (grown_on l c first second t) ≡ Err e) ((clash : Option (List ℕ)) × ClashOn l c (trees_in l c parents t) None clash × (step_on clash l c parents t ≡ Err (Unread e)))
+          (λ k. (None, untold k, from-copied None ∙ ap (λ r. or_unread r (behind_grown None)) (unread k))) h
+        where
+          unread : noting (start l c) (grown_on l c first second t) ≡ Err e → grown_in l c parents t ≡ Err e
+          unread k = grown-of-parents l c parents t first second read ∙ noting-err (start l c) e (grown_on l c first second t) k
 
-        pub step-found : (step : Step) → planned l c parents texts new clash ≡ Ok step → StepsOn l c parents t (Ok step)
-        step-found step h = (clash, told, from-texts ∙ ap (λ r. or_refused r accepted) h)
+          untold : noting (start l c) (grown_on l c first second t) ≡ Err e → ClashOn l c (trees_in l c parents t) None None
+          untold k = by (trees_in l c parents t) (unread k)
+            where
+              by : (r : Result OfTrees ReadAnswer) → (let told : OfTrees → Result ((OfGrown × Parents) × List Obstacle) ReadAnswer = λ x. Ok ((grown_of x.first.1 x.second.1 x.files.0, manifests_of x), x.files.1) in and_then r told) ≡ Err e → ClashOn l c r None None
+              by (Err f) g = tt
+              by (Ok x) g = cc
+
+      module _ (x : OfGrown) (manifests : Parents) (m : Met) (clash : Option (List ℕ)) (grown : noting (start l c) (grown_on l c first second t) ≡ Ok ((x, manifests), m)) (told : ClashOn l c (trees_in l c parents t) None clash) where
+        from-grown : step_on clash l c parents t ≡ or_refused (tested parents x) (λ changed. or_unread (texts_in l c parents x manifests t) (behind_texts clash m))
+        from-grown =
+            let n = noting-ok (start l c) m (x, manifests) (grown_on l c first second t) grown in
+            from-copied clash
+            ∙ ap (λ r. or_unread r (behind_grown clash)) (grown-of-parents l c parents t first second read ∙ n.1)
+            ∙ ap (λ k. or_refused (tested parents x) (λ changed. or_unread (texts_in l c parents x manifests t) (behind_texts clash k))) (sym n.2)
+
+        pub step-unchanged : (f : PlanFault) → Err f ≡ tested parents x → StepsOn l c parents t (Err (Refused f))
+        step-unchanged f h = free-any (is_memory f) _ (clash, told, from-grown ∙ ap (λ r. or_refused r (λ changed. or_unread (texts_in l c parents x manifests t) (behind_texts clash m))) (sym h))
+
+        module _ (changed : Ok tt ≡ tested parents x) where
+          from-changed : step_on clash l c parents t ≡ or_unread (texts_in l c parents x manifests t) (behind_texts clash m)
+          from-changed = from-grown ∙ ap (λ r. or_refused r (λ changed. or_unread (texts_in l c parents x manifests t) (behind_texts clash m))) (sym changed)
+
+          pub step-textless : (e : ReadAnswer) → MatchBool (is_of_outside e) ⊤ (noting m (texts_in l c parents x manifests t) ≡ Err e) → StepsOn l c parents t (Err (Unread e))
+          step-textless e h = either (is_of_outside e) (noting m (texts_in l c parents x manifests t) ≡ Err e) ((clash : Option (List ℕ)) × ClashOn l c (trees_in l c parents t) None clash × (step_on clash l c parents t ≡ Err (Unread e)))
+              (λ k. (clash, told, from-changed ∙ ap (λ r. or_unread r (behind_texts clash m)) (noting-err m e (texts_in l c parents x manifests t) k))) h
+
+          module _ (texts : OfTexts) (new : Met) (found : noting m (texts_in l c parents x manifests t) ≡ Ok (texts, new)) where
+            from-texts : step_on clash l c parents t ≡ or_refused (planned l c parents texts new clash) accepted
+            from-texts =
+                let n = noting-ok m new texts (texts_in l c parents x manifests t) found in
+                from-changed ∙ ap (λ r. or_unread r (behind_texts clash m)) n.1 ∙ ap (λ k. or_refused (planned l c parents texts k clash) accepted) (sym n.2)
+
+            pub step-refused : (f : PlanFault) → MatchBool (is_memory f) ⊤ (planned l c parents texts new clash ≡ Err f) → StepsOn l c parents t (Err (Refused f))
+            step-refused f h = either (is_memory f) (planned l c parents texts new clash ≡ Err f) ((clash : Option (List ℕ)) × ClashOn l c (trees_in l c parents t) None clash × (step_on clash l c parents t ≡ Err (Refused f)))
+                (λ k. (clash, told, from-texts ∙ ap (λ r. or_refused r accepted) k)) h
+
+            pub step-found : (step : Step) → planned l c parents texts new clash ≡ Ok step → StepsOn l c parents t (Ok step)
+            step-found step h = (clash, told, from-texts ∙ ap (λ r. or_refused r accepted) h)
+
+-- ---- what the calls found, where nobody else writes
+
+-- the files of the parents, the tree of the commit on them, and the clash that is told
+abbrev pub IsGrownOn : Loaded → NewChange → Parents → Files → Files → OfGrown → Parents → Met → Option (List ℕ) → Tree → Type 0
+IsGrownOn l c parents first second x manifests m clash t =
+    (both_parents l parents t ≡ Ok (first, second)) × (noting (start l c) (grown_on l c first second t) ≡ Ok ((x, manifests), m)) × ClashOn l c (trees_in l c parents t) None clash
+
+pub grown-alone : (l : Loaded) (c : NewChange) (parents : Parents) (first second : Files) (x : OfGrown) (manifests : Parents) (between m : Met) (old clash : Option (List ℕ)) (alone : Bool) (seen seen_next : Option (List Op)) (tree tree_next : Tree)
+    → between ≡ start l c → old ≡ None → (alone ≡ true → seen_next ≡ seen) → tree_next ≡ tree
+    → AtRest alone seen tree (λ t. both_parents l parents t ≡ Ok (first, second))
+    → AtRest alone seen_next tree_next (λ t. noting between (grown_on l c first second t) ≡ Ok ((x, manifests), m))
+    → AtRest alone seen_next tree_next (λ t. ClashIn (listing l.fncache) (all_files_in (listing l.fncache) (length l.changelog.entries) first.1 second.1 c.files t) old clash)
+    → AtRest alone seen_next tree_next (IsGrownOn l c parents first second x manifests m clash)
+grown-alone l c parents first second x manifests between m old clash alone seen seen_next tree tree_next started untold still same read found told =
+    let Found : Tree → Type 0 = λ t. noting between (grown_on l c first second t) ≡ Ok ((x, manifests), m) in
+    let Told : Tree → Type 0 = λ t. ClashIn (listing l.fncache) (all_files_in (listing l.fncache) (length l.changelog.entries) first.1 second.1 c.files t) old clash in
+    alone-both alone seen seen_next tree tree_next (λ t. both_parents l parents t ≡ Ok (first, second)) (λ t. Found t × Told t) (IsGrownOn l c parents first second x manifests m clash) still same
+    (λ t p q. (
+      p,
+      ap (λ k. noting k (grown_on l c first second t)) (sym started) ∙ q.0,
+      (let P : Option (List ℕ) → Type 0 = λ o. ClashIn (listing l.fncache) (all_files_in (listing l.fncache) (length l.changelog.entries) first.1 second.1 c.files t) o clash in clash-of-parents l c parents t first second p None clash (subst P untold q.1)),
+    ))
+    read (alone-both alone seen_next seen_next tree_next tree_next Found Told (λ t. Found t × Told t) (λ h. refl) refl (λ t a b. (a, b)) found told)
 
 -- ---- the parents
 

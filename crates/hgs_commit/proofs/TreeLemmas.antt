@@ -1,12 +1,13 @@
 -- The files of a tree one after another.
 use Rattle.std.proofs.Common.{◌≡◌, ℕ, List, [], ◌∷◌, ◌++◌, Bool, Option, Result, Ok, Err, refl, sym, ◌∙◌, ap, subst, append_assoc}
 use Rattle.hgs_files.specs.Tree.{Tree}
+use Rattle.hgs_index.specs.Manifest.{Row}
 use Rattle.hgs_loading.specs.Found.{and_then}
 use Rattle.hgs_model.specs.declared.files.NewFile.{NewFile}
 use Rattle.hgs_path.specs.Fncache.{with_both}
 use Rattle.hgs_path.specs.declared.name.Ext.{Ext}
 use Rattle.hgs_load.specs.declared.answer.ReadAnswer.{ReadAnswer}
-use Rattle.hgs_commit.specs.Files.{OfFile, file_in, new_path}
+use Rattle.hgs_commit.specs.Files.{OfFile, file_in, new_path, source_node}
 use Rattle.hgs_commit.specs.Obstacles.{ClashBehind, Met, Obstacle, noted, noted_one, noting, with_all}
 use Rattle.hgs_commit.specs.Tree.{ClashIn, OfFiles, OfTree, adding, files_in, new_lines, new_paths, passed_at, rest_at, row_at, with_file, with_files, with_first}
 use Rattle.hgs_commit.specs.Texts.{changes_of}
@@ -48,34 +49,37 @@ grown-is old between new x path at bf bs br bc bg bl nf ns nr nc ng nl =
     let lines : new.lines ≡ old.lines ++ new_lines x.new x.inline x.row.path = nl ∙ ap (λ l. l ++ new_lines x.new x.inline x.row.path) bl in
     λ i. record { first = first i; second = second i; rows = rows i; changed = changed i; growth = growth i; lines = lines i }
 
-abbrev pub given : (List ℕ → Ext → Bool) → ℕ → OfTree → Met → List NewFile → Tree → Result (OfTree × Met) ReadAnswer
-given lists link tree m files t = adding tree m (files_in lists link files tree.first tree.second t)
+abbrev pub given : (List ℕ → Ext → Bool) → ℕ → List Row → OfTree → Met → List NewFile → Tree → Result (OfTree × Met) ReadAnswer
+given lists link sources tree m files t = adding tree m (files_in lists link sources files tree.first tree.second t)
 
-module _ (lists : List ℕ → Ext → Bool) (link : ℕ) (f : NewFile) (rest : List NewFile) (tree : OfTree) (first second : Option Told) (t : Tree) (is_first : first ≡ row_at f.path tree.first) (is_second : second ≡ row_at f.path tree.second) where
+module _ (lists : List ℕ → Ext → Bool) (link : ℕ) (sources : List Row) (f : NewFile) (rest : List NewFile) (tree : OfTree) (first second : Option Told) (t : Tree) (is_first : first ≡ row_at f.path tree.first) (is_second : second ≡ row_at f.path tree.second) where
+  abbrev source : List ℕ
+  source = source_node sources f.from
+
   abbrev behind : Result OfFiles ReadAnswer
-  behind = files_in lists link rest (rest_at f.path tree.first) (rest_at f.path tree.second) t
+  behind = files_in lists link sources rest (rest_at f.path tree.first) (rest_at f.path tree.second) t
 
-  split : (r : Result (OfFile × List Obstacle) ReadAnswer) → file_in lists link f first second t ≡ r → files_in lists link (f ∷ rest) tree.first tree.second t ≡ and_then r (λ x. and_then behind (λ xs. Ok (with_first x xs)))
+  split : (r : Result (OfFile × List Obstacle) ReadAnswer) → file_in lists link f source first second t ≡ r → files_in lists link sources (f ∷ rest) tree.first tree.second t ≡ and_then r (λ x. and_then behind (λ xs. Ok (with_first x xs)))
   split r e =
       ap (λ q. and_then q (λ x. and_then behind (λ xs. Ok (with_first x xs))))
-      (ap (λ q. file_in lists link f q (row_at f.path tree.second) t) (sym is_first) ∙ ap (λ q. file_in lists link f first q t) (sym is_second) ∙ e)
+      (ap (λ q. file_in lists link f source q (row_at f.path tree.second) t) (sym is_first) ∙ ap (λ q. file_in lists link f source first q t) (sym is_second) ∙ e)
 
   module _ (x : OfFile) (obstacles : List Obstacle) (m : Met) where
     one : (xs : Result OfFiles ReadAnswer) → adding tree m (and_then xs (λ xs. Ok (with_first (x, obstacles) xs))) ≡ adding (with_file tree x) (noted m obstacles) xs
     one (Ok xs) = ap (λ n. Ok (with_files (with_file tree x) xs.0, n)) (noted-append m obstacles xs.1)
     one (Err e) = refl
 
-  pub next : (x : OfFile) (m new : Met) (grown : OfTree) → x.row.path ≡ f.path → grown ≡ with_file tree x → noting m (file_in lists link f first second t) ≡ Ok (x, new) → given lists link tree m (f ∷ rest) t ≡ given lists link grown new rest t
+  pub next : (x : OfFile) (m new : Met) (grown : OfTree) → x.row.path ≡ f.path → grown ≡ with_file tree x → noting m (file_in lists link f source first second t) ≡ Ok (x, new) → given lists link sources tree m (f ∷ rest) t ≡ given lists link sources grown new rest t
   next x m new grown path is h =
-      let n = noting-ok m new x (file_in lists link f first second t) h in
+      let n = noting-ok m new x (file_in lists link f source first second t) h in
       ap (adding tree m) (split (Ok (x, n.0)) n.1)
       ∙ one x n.0 m behind
-      ∙ ap (λ p. adding (with_file tree x) (noted m n.0) (files_in lists link rest (rest_at p tree.first) (rest_at p tree.second) t)) (sym path)
-      ∙ ap (λ g. given lists link g (noted m n.0) rest t) (sym is)
-      ∙ ap (λ k. given lists link grown k rest t) (sym n.2)
+      ∙ ap (λ p. adding (with_file tree x) (noted m n.0) (files_in lists link sources rest (rest_at p tree.first) (rest_at p tree.second) t)) (sym path)
+      ∙ ap (λ g. given lists link sources g (noted m n.0) rest t) (sym is)
+      ∙ ap (λ k. given lists link sources grown k rest t) (sym n.2)
 
-  pub none : (m : Met) (e : ReadAnswer) → noting m (file_in lists link f first second t) ≡ Err e → given lists link tree m (f ∷ rest) t ≡ Err e
-  none m e h = ap (adding tree m) (split (Err e) (noting-err m e (file_in lists link f first second t) h))
+  pub none : (m : Met) (e : ReadAnswer) → noting m (file_in lists link f source first second t) ≡ Err e → given lists link sources tree m (f ∷ rest) t ≡ Err e
+  none m e h = ap (adding tree m) (split (Err e) (noting-err m e (file_in lists link f source first second t) h))
 
   -- ---- names that clash
 
@@ -88,12 +92,12 @@ module _ (lists : List ℕ → Ext → Bool) (link : ℕ) (f : NewFile) (rest : 
   clash-next base x obstacles (Err e) a b c h k = tt
 
   -- `base` has the listed paths and the new ones before this file, `after` its path too where it is new
-  pub next-clash : (base after : List ℕ → Ext → Bool) (x : OfFile) (m new : Met) (grown : OfTree) → x.row.path ≡ f.path → grown ≡ with_file tree x → noting m (file_in lists link f first second t) ≡ Ok (x, new) → after ≡ with_all base (new_path x.new x.row.path) → (a b d : Option (List ℕ)) → ClashBehind base (new_path x.new x.row.path) a b →
-      ClashIn after (files_in lists link rest grown.first grown.second t) b d → ClashIn base (files_in lists link (f ∷ rest) tree.first tree.second t) a d
+  pub next-clash : (base after : List ℕ → Ext → Bool) (x : OfFile) (m new : Met) (grown : OfTree) → x.row.path ≡ f.path → grown ≡ with_file tree x → noting m (file_in lists link f source first second t) ≡ Ok (x, new) → after ≡ with_all base (new_path x.new x.row.path) → (a b d : Option (List ℕ)) → ClashBehind base (new_path x.new x.row.path) a b →
+      ClashIn after (files_in lists link sources rest grown.first grown.second t) b d → ClashIn base (files_in lists link sources (f ∷ rest) tree.first tree.second t) a d
   next-clash base after x m new grown path is h listed a b d once k =
-      let n = noting-ok m new x (file_in lists link f first second t) h in
+      let n = noting-ok m new x (file_in lists link f source first second t) h in
       let P : Result OfFiles ReadAnswer → Type 0 = λ r. ClashIn base r a d in
       let Q : (List ℕ → Ext → Bool) → Type 0 = λ l. ClashIn l behind b d in
-      let R : OfTree → Type 0 = λ g. ClashIn after (files_in lists link rest g.first g.second t) b d in
-      let S : List ℕ → Type 0 = λ p. ClashIn after (files_in lists link rest (rest_at p tree.first) (rest_at p tree.second) t) b d in
+      let R : OfTree → Type 0 = λ g. ClashIn after (files_in lists link sources rest g.first g.second t) b d in
+      let S : List ℕ → Type 0 = λ p. ClashIn after (files_in lists link sources rest (rest_at p tree.first) (rest_at p tree.second) t) b d in
       subst P (sym (split (Ok (x, n.0)) n.1)) (clash-next base x n.0 behind a b d once (subst Q listed (subst S path (subst R is k))))

@@ -5,7 +5,7 @@ use Rattle.hgs_files.specs.Tree.{same_path}
 use Rattle.hgs_load.specs.View.{changelog_index}
 use Rattle.hgs_transaction.specs.declared.parts.Appending.{Appending}
 use Rattle.hgs_transaction.specs.declared.parts.Change.{Change}
-use Rattle.hgs_transaction.specs.declared.parts.Change.TheVariants.{Append, Replace}
+use Rattle.hgs_transaction.specs.declared.parts.Change.TheVariants.{Append, MakeIndex, RenameIndex, Replace}
 
 abbrev pub append_some : List ℕ → ℕ → List ℕ → List Change
 append_some path before [] = []
@@ -23,3 +23,5 @@ is_beside_path path = begins_with path (codes "store/") && not (same_path path c
 abbrev pub is_beside : Change → Bool
 is_beside (Append a) = is_beside_path a.path
 is_beside (Replace x) = false
+is_beside (MakeIndex bytes) = false
+is_beside (RenameIndex before) = false

@@ -1,9 +1,10 @@
 -- What the manifest and the changeset of a commit become.
-use Rattle.std.specs.Prelude.{ℕ, List, [], length, Result}
+use Rattle.std.specs.Prelude.{ℕ, List, length, Result}
 use Rattle.hgs_files.specs.Tree.{Tree}
 use Rattle.hgs_index.specs.ChangeText.{Change, change_text}
 use Rattle.hgs_index.specs.Manifest.{Row, manifest_text}
 use Rattle.hgs_index.specs.Revision.{Parents}
+use Rattle.hgs_model.specs.Step.{branch_extras}
 use Rattle.hgs_model.specs.declared.command.NewChange.{NewChange}
 use Rattle.hgs_load.specs.declared.answer.ReadAnswer.{ReadAnswer}
 use Rattle.hgs_reader.specs.Contents.{manifest_index, manifest_data}
@@ -29,7 +30,7 @@ change_of c manifest changed = record {
   user = c.user;
   seconds = c.seconds;
   offset = c.offset;
-  extras = [];
+  extras = branch_extras c.branch;
   files = changed;
   description = c.description;
 }

@@ -1,9 +1,11 @@
 -- What a commit becomes, by what was loaded and by the files of a tree at rest.
-use Rattle.std.specs.Prelude.{◌≡◌, ◌+◌, ◌==◌, ◌&&◌, ℕ, nat_lt, List, [], ◌∷◌, ◌++◌, Bool, true, false, length, Option, Some, None, is_none, unwrap_or, slice_index_or, Result, Ok, Err, if◌then◌else◌, IfSome, ⊤}
+use Rattle.std.specs.Prelude.{◌≡◌, ◌+◌, ◌==◌, ◌&&◌, ℕ, nat_lt, List, [], ◌∷◌, ◌++◌, Bool, true, false, length, Option, Some, None, is_none, is_some, unwrap_or, slice_index_or, find, Result, Ok, Err, if◌then◌else◌, IfSome, OnOk, ⊤}
 use Rattle.std.specs.Bool.{MatchBool}
+use Rattle.std.specs.List.{list_any}
 use Rattle.std.specs.Option.{option_map}
 use Rattle.hgs_files.specs.declared.op.Op.{Op}
 use Rattle.hgs_files.specs.Tree.{Tree, after_all}
+use Rattle.hgs_index.specs.Manifest.{Row}
 use Rattle.hgs_index.specs.declared.entry.Entry.{Entry}
 use Rattle.hgs_index.specs.declared.kinds.Which.TheVariants as limits
 use Rattle.hgs_index.specs.Revision.{Parents}
@@ -11,11 +13,13 @@ use Rattle.hgs_loading.specs.Found.{and_then}
 use Rattle.hgs_loading.specs.Parent.{Files, parent_in}
 use Rattle.hgs_loading.specs.Small.{fncache_path, most_fncache}
 use Rattle.hgs_marks.specs.Bookmarks.{node_of}
-use Rattle.hgs_model.specs.History.{manifest_parents_of}
+use Rattle.hgs_manifest.specs.Held.{found_in}
+use Rattle.hgs_model.specs.History.{first_of, manifest_parents_of}
 use Rattle.hgs_model.specs.Phase.{greater}
 use Rattle.hgs_model.specs.Valid.{new_paths as paths_of_files}
+use Rattle.hgs_model.specs.declared.files.NewFile.{NewFile}
 use Rattle.hgs_model.specs.declared.command.NewChange.{NewChange}
-use Rattle.hgs_model.specs.declared.command.Refusal.TheVariants.{NothingChanged}
+use Rattle.hgs_model.specs.declared.command.Refusal.TheVariants.{CopyOver, NothingChanged, UnknownPath}
 use Rattle.hgs_model.specs.declared.phase.Phase.{Phase}
 use Rattle.hgs_model.specs.declared.phase.Phase.TheVariants.{Public}
 use Rattle.hgs_path.specs.Fncache.{listing}
@@ -51,12 +55,39 @@ use Rattle.hgs_commit.specs.declared.tree.Grown.{Grown}
 use Rattle.hgs_commit.specs.declared.written.Texts.{Texts}
 use Rattle.hgs_commit.specs.declared.written.Written.{Written}
 
--- ---- the tree
+-- ---- the parents
 
 -- the files of a parent and the revision of its manifest, none where there is no parent
 abbrev pub parent_files : Loaded → Option ℕ → Tree → Result Files ReadAnswer
 parent_files l None t = Ok (None, [])
 parent_files l (Some rev) t = parent_in changelog_data l.changelog manifest_data l.manifest rev t
+
+abbrev pub both_parents : Loaded → Parents → Tree → Result (Files × Files) ReadAnswer
+both_parents l parents t = and_then (parent_files l parents.0 t) (λ first. and_then (parent_files l parents.1 t) (λ second. Ok (first, second)))
+
+-- ---- copies
+
+-- whether this is a source that is none of these rows
+abbrev pub lacks : List Row → Option (List ℕ) → Bool
+lacks first None = false
+lacks first (Some path) = is_none (found_in path first)
+
+abbrev pub lacks_source : List Row → NewFile → Bool
+lacks_source first f = lacks first f.from
+
+-- whether a file has a source, and a parent has its path
+abbrev pub is_over : List Row → List Row → NewFile → Bool
+is_over first second f = is_some f.from && is_some (first_of (found_in f.path first) (found_in f.path second))
+
+abbrev pub over_where : Option NewFile → Result (Unit {0}) PlanFault
+over_where None = Ok tt
+over_where (Some f) = Err (refused_for (CopyOver f.path))
+
+-- a source that the first parent lacks refuses the commit, and then the first copy whose path a parent has
+abbrev pub copies_tested : List Row → List Row → List NewFile → Result (Unit {0}) PlanFault
+copies_tested first second files = if list_any (lacks_source first) files then Err (refused_for UnknownPath) else over_where (find (is_over first second) files)
+
+-- ---- the tree
 
 -- the files of the two parents, and those of the commit
 pub record OfTrees : Type 0 where
@@ -77,6 +108,10 @@ manifests_of x = manifest_parents_of x.first.0 x.second.0
 -- the tree of the commit, its manifest's parents, and what keeps its files from being written
 abbrev pub grown_in : Loaded → NewChange → Parents → Tree → Result ((OfGrown × Parents) × List Obstacle) ReadAnswer
 grown_in l c parents t = and_then (trees_in l c parents t) (λ x. Ok ((grown_of x.first.1 x.second.1 x.files.0, manifests_of x), x.files.1))
+
+-- the same of the files of the parents
+abbrev pub grown_on : Loaded → NewChange → Files → Files → Tree → Result ((OfGrown × Parents) × List Obstacle) ReadAnswer
+grown_on l c first second t = and_then (all_files_in (listing l.fncache) (length l.changelog.entries) first.1 second.1 c.files t) (λ files. Ok ((grown_of first.1 second.1 files.0, manifest_parents_of first.0 second.0), files.1))
 
 -- that of the one parent, or the empty one without a parent, changes nothing
 abbrev pub tested : Parents → OfGrown → Result (Unit {0}) PlanFault
@@ -214,13 +249,19 @@ long_list l more = if nat_lt most_fncache (l.fncache_length + more) then passes 
 abbrev pub planned : Loaded → NewChange → Parents → OfTexts → Met → Option (List ℕ) → Result Step PlanFault
 planned l c parents x m clash = and_plan (written_of x (noted (noted m (long_list l (length x.lines))) (inline_logs l)) clash) (λ w. step_of l c parents w)
 
--- the step of a commit on these parents, where this is told of names that clash
-abbrev pub step_on : Option (List ℕ) → Loaded → NewChange → Parents → Tree → Result Step CommitFault
-step_on clash l c parents t =
+-- the step of a commit on these parents whose copies are not refused, where this is told of names that clash
+abbrev pub step_copied : Option (List ℕ) → Loaded → NewChange → Parents → Tree → Result Step CommitFault
+step_copied clash l c parents t =
     or_unread (grown_in l c parents t) (λ grown.
     or_refused (tested parents grown.0.0) (λ changed.
     or_unread (texts_in l c parents grown.0.0 grown.0.1 t) (λ texts.
     or_refused (planned l c parents texts.0 (noted (noted (noted nothing_met (too_many_marks l c)) grown.1) texts.1) clash) accepted)))
+
+-- the step of a commit on these parents
+abbrev pub step_on : Option (List ℕ) → Loaded → NewChange → Parents → Tree → Result Step CommitFault
+step_on clash l c parents t =
+    or_unread (both_parents l parents t) (λ trees.
+    or_refused (copies_tested trees.0.1 trees.1.1 c.files) (λ copied. step_copied clash l c parents t))
 
 -- the step of a commit
 abbrev pub commit_in : Option (List ℕ) → Loaded → NewChange → Tree → Result Step CommitFault
@@ -228,12 +269,13 @@ commit_in clash l c t = or_refused (parents_answer (named_all l c.parents)) (λ 
 
 -- ---- names that clash
 
-abbrev pub ClashOn : Loaded → Result OfTrees ReadAnswer → Option (List ℕ) → Option (List ℕ) → Type 0
-ClashOn l (Ok x) old new = ClashIn (listing l.fncache) (Ok x.files) old new
-ClashOn l (Err e) old new = Unit {0}
+-- a clash is looked for where the copies are not refused
+abbrev pub ClashOn : Loaded → NewChange → Result OfTrees ReadAnswer → Option (List ℕ) → Option (List ℕ) → Type 0
+ClashOn l c (Ok x) old new = OnOk (copies_tested x.first.1 x.second.1 c.files) (ClashIn (listing l.fncache) (Ok x.files) old new)
+ClashOn l c (Err e) old new = Unit {0}
 
 abbrev pub ClashBy : Loaded → NewChange → Tree → Result Parents PlanFault → Option (List ℕ) → Type 0
-ClashBy l c t (Ok parents) clash = ClashOn l (trees_in l c parents t) None clash
+ClashBy l c t (Ok parents) clash = ClashOn l c (trees_in l c parents t) None clash
 ClashBy l c t (Err e) clash = Unit {0}
 
 -- ---- what a call answers
@@ -250,7 +292,7 @@ GivesWith IsTold given (Err e) = MatchBool (is_free e) ⊤ ((clash : Option (Lis
 
 -- the answer of a commit on these parents
 abbrev pub StepsOn : Loaded → NewChange → Parents → Tree → Result Step CommitFault → Type 0
-StepsOn l c parents t result = GivesWith (ClashOn l (trees_in l c parents t) None) (λ clash. step_on clash l c parents t) result
+StepsOn l c parents t result = GivesWith (ClashOn l c (trees_in l c parents t) None) (λ clash. step_on clash l c parents t) result
 
 -- the answer of a commit: told is of the first new path that clashes, with a listed one or a new one before it with which it does
 abbrev pub Steps : Loaded → NewChange → Tree → Result Step CommitFault → Type 0

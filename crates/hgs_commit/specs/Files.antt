@@ -10,8 +10,10 @@ use Rattle.hgs_index.specs.Manifest.{Row}
 use Rattle.hgs_index.specs.Revision.{Parents, parent_node}
 use Rattle.hgs_loading.specs.Found.{and_then}
 use Rattle.hgs_loading.specs.Logs.{chunk_in_form, either_data_in, either_log_in}
-use Rattle.hgs_manifest.specs.Held.{is_row_path}
+use Rattle.hgs_index.specs.Node.{null_node}
+use Rattle.hgs_manifest.specs.Held.{found_in, is_row_path}
 use Rattle.hgs_model.specs.History.{file_parents_of, first_of, same_flag}
+use Rattle.hgs_model.specs.Step.{copy_block}
 use Rattle.hgs_model.specs.declared.files.NewFile.{NewFile}
 use Rattle.hgs_path.specs.declared.name.Ext.{Ext}
 use Rattle.hgs_path.specs.declared.name.Ext.TheVariants.{I, D}
@@ -52,6 +54,26 @@ known_rev index (Some rev) = Ok (Some rev)
 abbrev pub rev_of_node : List ℕ → List Entry → Option (List ℕ) → Result (Option ℕ) ReadAnswer
 rev_of_node index entries None = Ok None
 rev_of_node index entries (Some node) = known_rev index (place_of entries node)
+
+-- ---- the text of a file that is not kept
+
+-- the node of a row, and no node where there is none
+abbrev pub told_node : Option Told → List ℕ
+told_node None = null_node
+told_node (Some told) = told.0
+
+-- the node that the source of a copy has in these rows
+abbrev pub source_node : List Row → Option (List ℕ) → List ℕ
+source_node rows None = null_node
+source_node rows (Some path) = told_node (found_in path rows)
+
+-- the block of a copy of a file with this node; without a source the prefix that the body asks for
+abbrev pub fresh_block : Option (List ℕ) → List ℕ → List ℕ → List ℕ
+fresh_block None node body = plain_prefix body
+fresh_block (Some path) node body = copy_block path node
+
+abbrev pub fresh_text : NewFile → List ℕ → List ℕ
+fresh_text file node = fresh_block file.from node file.body ++ file.body
 
 -- ---- the revision that is kept
 
@@ -105,9 +127,10 @@ new_path new path = if new then path ∷ [] else []
 abbrev pub row_with : NewFile → List ℕ → Row
 row_with file node = record { path = file.path; node = node; flag = file.flag }
 
-abbrev pub changed_in : OfLog → NewFile → Parents → ℕ → Tree → Result (OfFile × List Obstacle) ReadAnswer
-changed_in f file parents link t =
-    and_then (new_text_in f (record { text = plain_prefix file.body ++ file.body; parents = parents; link = link }) t) (λ text.
+-- a file whose revision is not kept, where its source has this node
+abbrev pub changed_in : OfLog → NewFile → List ℕ → Parents → ℕ → Tree → Result (OfFile × List Obstacle) ReadAnswer
+changed_in f file source parents link t =
+    and_then (new_text_in f (record { text = fresh_text file source; parents = parents; link = link }) t) (λ text.
     and_then (place_in f t) (λ obstacles.
     Ok (record { row = row_with file text.0.node; changed = true; growth = text.0.growth; new = length f.log.entries == 0; inline = f.log.inline }, obstacles ++ text.1)))
 
@@ -131,13 +154,13 @@ has_other_flag flag (Some old) = not (same_flag flag old.1)
 abbrev pub kept_file : OfLog → NewFile → Option Told → ℕ → OfFile
 kept_file f file old rev = record { row = row_with file (parent_node (nodes_of f.log.entries) (Some rev)); changed = has_other_flag file.flag old; growth = None; new = false; inline = f.log.inline }
 
-abbrev pub file_with : OfLog → NewFile → Option Told → Parents → ℕ → Option ℕ → Tree → Result (OfFile × List Obstacle) ReadAnswer
-file_with f file old parents link None t = changed_in (formed f (plain_prefix file.body ++ file.body)) file parents link t
-file_with f file old parents link (Some rev) t = Ok (kept_file f file old rev, [])
+abbrev pub file_with : OfLog → NewFile → List ℕ → Option Told → Parents → ℕ → Option ℕ → Tree → Result (OfFile × List Obstacle) ReadAnswer
+file_with f file source old parents link None t = changed_in (formed f (fresh_text file source)) file source parents link t
+file_with f file source old parents link (Some rev) t = Ok (kept_file f file old rev, [])
 
 -- the file on these revisions of its filelog
-abbrev pub file_on : OfLog → NewFile → Option Told → Parents → ℕ → Tree → Result (OfFile × List Obstacle) ReadAnswer
-file_on f file old parents link t = and_then (kept_in f parents.0 parents.1 file.body t) (λ rev. file_with f file old parents link rev t)
+abbrev pub file_on : OfLog → NewFile → List ℕ → Option Told → Parents → ℕ → Tree → Result (OfFile × List Obstacle) ReadAnswer
+file_on f file source old parents link t = and_then (kept_in f parents.0 parents.1 file.body t) (λ rev. file_with f file source old parents link rev t)
 
 abbrev pub node_in : Option Told → Option (List ℕ)
 node_in told = option_map (λ x. x.0) told
@@ -149,12 +172,12 @@ parents_by f first second =
     and_then (rev_of_node f.index f.log.entries (node_in second)) (λ b.
     Ok (file_parents_of (parents_in f.log.entries) a b)))
 
--- a file of the new tree
-abbrev pub file_in : (List ℕ → Ext → Bool) → ℕ → NewFile → Option Told → Option Told → Tree → Result (OfFile × List Obstacle) ReadAnswer
-file_in lists link file first second t =
+-- a file of the new tree, where its source has this node
+abbrev pub file_in : (List ℕ → Ext → Bool) → ℕ → NewFile → List ℕ → Option Told → Option Told → Tree → Result (OfFile × List Obstacle) ReadAnswer
+file_in lists link file source first second t =
     and_then (filelog_in lists file.path t) (λ f.
     and_then (parents_by f first second) (λ parents.
-    file_on f file (first_of first second) parents link t))
+    file_on f file source (first_of first second) parents link t))
 
 -- ---- the order of files
 

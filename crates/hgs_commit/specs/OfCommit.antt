@@ -4,7 +4,7 @@ use Rattle.std.specs.List.{list_all}
 use Rattle.hgs_load.specs.View.{changelog_index}
 use Rattle.hgs_revlog.specs.Log.{Log}
 use Rattle.hgs_transaction.specs.declared.parts.Change.{Change}
-use Rattle.hgs_transaction.specs.declared.parts.Change.TheVariants.{Append, Replace}
+use Rattle.hgs_transaction.specs.declared.parts.Change.TheVariants.{Append, MakeIndex, RenameIndex, Replace}
 use Rattle.hgs_transaction.specs.declared.parts.Parts.{Parts}
 use Rattle.hgs_transaction.specs.declared.parts.ReplacedFile.TheVariants.{PhaseRoots, Dirstate, Bookmarks}
 use Rattle.hgs_transaction.specs.declared.parts.Replacing.{Replacing}
@@ -25,6 +25,8 @@ optional_replace (Some x) = Replace x ∷ []
 abbrev pub IsEntryBehind : Log → Change → Type 0
 IsEntryBehind log (Append a) = (a.path ≡ changelog_index) × (a.before ≡ 64 * length log.entries) × (length a.bytes ≡ 64)
 IsEntryBehind log (Replace x) = ⊥
+IsEntryBehind log (MakeIndex bytes) = ⊥
+IsEntryBehind log (RenameIndex before) = ⊥
 
 -- Before that it appends to other files of the store, and replaces the phase roots, where they change.
 pub record ArePartsOfCommit (log : Log) (p : Parts) : Type 0 where

@@ -11,7 +11,7 @@ use Rattle.hgs_path.specs.declared.name.Ext.TheVariants.{I, D}
 use Rattle.hgs_path.specs.StoreName.{listed_name}
 use Rattle.hgs_load.specs.declared.answer.ReadAnswer.{ReadAnswer}
 use Rattle.hgs_transaction.specs.declared.parts.Change.{Change}
-use Rattle.hgs_commit.specs.Files.{OfFile, file_in, new_path}
+use Rattle.hgs_commit.specs.Files.{OfFile, file_in, new_path, source_node}
 use Rattle.hgs_commit.specs.Obstacles.{ClashBehind, Met, Obstacle, noted}
 use Rattle.hgs_commit.specs.Texts.{changes_of}
 use Rattle.hgs_commit.specs.Walk.{Told, before, behind_row, first_row, from_path, told_of_row}
@@ -72,12 +72,12 @@ OfFiles = List OfFile × List Obstacle
 abbrev pub with_first : OfFile × List Obstacle → OfFiles → OfFiles
 with_first x xs = (x.0 ∷ xs.0, x.1 ++ xs.1)
 
--- each file by the rows of its path in the parents' manifests
-abbrev pub files_in : (List ℕ → Ext → Bool) → ℕ → List NewFile → List Row → List Row → Tree → Result OfFiles ReadAnswer
-files_in lists link [] first second t = Ok ([], [])
-files_in lists link (f ∷ files) first second t =
-    and_then (file_in lists link f (row_at f.path first) (row_at f.path second) t) (λ x.
-    and_then (files_in lists link files (rest_at f.path first) (rest_at f.path second) t) (λ xs. Ok (with_first x xs)))
+-- each file by the rows of its path in the parents' manifests, and by the row of its source
+abbrev pub files_in : (List ℕ → Ext → Bool) → ℕ → List Row → List NewFile → List Row → List Row → Tree → Result OfFiles ReadAnswer
+files_in lists link sources [] first second t = Ok ([], [])
+files_in lists link sources (f ∷ files) first second t =
+    and_then (file_in lists link f (source_node sources f.from) (row_at f.path first) (row_at f.path second) t) (λ x.
+    and_then (files_in lists link sources files (rest_at f.path first) (rest_at f.path second) t) (λ xs. Ok (with_first x xs)))
 
 -- a tree with what was met so far, and with files behind it
 abbrev pub adding : OfTree → Met → Result OfFiles ReadAnswer → Result (OfTree × Met) ReadAnswer

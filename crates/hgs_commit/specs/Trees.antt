@@ -10,15 +10,15 @@ use Rattle.hgs_model.specs.declared.files.NewFile.{NewFile}
 use Rattle.hgs_path.specs.declared.name.Ext.{Ext}
 use Rattle.hgs_load.specs.declared.answer.ReadAnswer.{ReadAnswer}
 use Rattle.hgs_transaction.specs.declared.parts.Change.{Change}
-use Rattle.hgs_commit.specs.Files.{OfFile, file_in}
+use Rattle.hgs_commit.specs.Files.{OfFile, file_in, source_node}
 use Rattle.hgs_commit.specs.Texts.{changes_of}
 use Rattle.hgs_commit.specs.Tree.{OfFiles, new_lines, paths_of, with_first}
 
--- each file by the rows of its path in the manifests of the two parents
+-- each file by the rows of its path in the manifests of the two parents, and by that of its source in the first
 abbrev pub all_files_in : (List ℕ → Ext → Bool) → ℕ → List Row → List Row → List NewFile → Tree → Result OfFiles ReadAnswer
 all_files_in lists link first second [] t = Ok ([], [])
 all_files_in lists link first second (f ∷ files) t =
-    and_then (file_in lists link f (found_in f.path first) (found_in f.path second) t) (λ x.
+    and_then (file_in lists link f (source_node first f.from) (found_in f.path first) (found_in f.path second) t) (λ x.
     and_then (all_files_in lists link first second files t) (λ xs. Ok (with_first x xs)))
 
 -- a whole tree: its rows, the changed paths in order, the appends to filelogs, and the lines of new ones

@@ -11,6 +11,7 @@ ghost use Rattle.hgs_commit.specs.Hindered.{is_met};
 ghost use Rattle.hgs_commit.specs.Obstacles.{met_of, noting};
 ghost use Rattle.hgs_commit.specs.Pushed.{AppendsTo, Pushes};
 ghost use Rattle.hgs_commit.specs.Texts.{view_text};
+ghost use Rattle.hgs_model.specs.Step.{branch_extras};
 
 use crate::hindrance::Hindrances;
 use crate::new_text::NewText;
@@ -55,6 +56,18 @@ pub fn new_manifest<R: Reads>(
     new_text(alloc, files, paths, manifest, &text, parents, link, met)
 }
 
+// The branch, as extras have it.
+fn extras_of(alloc: Global, change: &NewChange) -> Result<Bytes, AllocError>
+    ensures { IfOk result (λ extras. extras ≡ branch_extras change.now.branch) }
+{
+    let Some(name) = &change.branch else {
+        return Ok(Bytes::new(alloc));
+    };
+    let mut extras = Vec::from_slice(alloc, b"branch:")?;
+    extras.extend_from_slice(name.as_slice())?;
+    Ok(Bytes::from_vec(extras))
+}
+
 // The text of the changeset.
 fn change_text(
     alloc: Global,
@@ -69,7 +82,7 @@ fn change_text(
         user: change.user.copy(alloc)?,
         seconds: change.seconds,
         offset: change.offset,
-        extras: Bytes::new(alloc),
+        extras: extras_of(alloc, change)?,
         files: changed,
         description: change.description.copy(alloc)?,
     };

@@ -1,6 +1,6 @@
 //! A commit: what is read for it, and the parts of its transaction.
-ghost use Rattle.std.specs.Prelude.{◌≡◌, ◌≤◌, ◌<◌, ◌+◌, [], true, false, length, nat_lt, Some, IfOk, IfSome, OnOk};
-ghost use Rattle.std.specs.List.{list_all};
+ghost use Rattle.std.specs.Prelude.{◌≡◌, ◌≤◌, ◌<◌, ◌+◌, [], true, false, length, nat_lt, find, option_map, Some, IfOk, IfSome, OnOk};
+ghost use Rattle.std.specs.List.{list_all, list_any};
 ghost use Rattle.hgs_bytes.specs.Text.{ascends};
 ghost use Rattle.hgs_model.specs.Valid.{IsNewChange, new_paths};
 ghost use Rattle.hgs_load.specs.Answer.{HasFaultCause};
@@ -16,13 +16,17 @@ ghost use Rattle.hgs_load.specs.Marks.{most_bookmarks};
 ghost use Rattle.hgs_loading.specs.Small.{most_fncache};
 ghost use Rattle.hgs_steps.specs.Fault.{is_memory};
 ghost use Rattle.hgs_steps.specs.Loaded.{has_inline};
-ghost use Rattle.hgs_commit.specs.Commit.{AtRest, ClashOn, Steps, StepsOn, grown_in, inline_logs, is_new_mark, long_list, mark_count, parent_files, planned, tested, texts_in, too_many_marks, trees_in, view_grown, view_texts, view_written, written_of};
+ghost use Rattle.hgs_commit.specs.Commit.{AtRest, Steps, StepsOn, both_parents, copies_tested, grown_on, inline_logs, is_new_mark, is_over, lacks_source, long_list, mark_count, over_where, parent_files, planned, tested, texts_in, too_many_marks, view_grown, view_texts, view_written, written_of};
 ghost use Rattle.hgs_commit.specs.Hindered.{is_met};
 ghost use Rattle.hgs_commit.specs.Obstacles.{met_of, noted, noting};
 ghost use Rattle.hgs_commit.specs.Pushed.{AppendsTo, IsNewText, Pushes};
 ghost use Rattle.hgs_commit.specs.OfCommit.{ArePartsOfCommit};
 ghost use Rattle.hgs_commit.specs.Fault.{HasCause};
 ghost use Rattle.hgs_commit.specs.Files.{can_follow};
+ghost use Rattle.hgs_commit.specs.Tree.{ClashIn};
+ghost use Rattle.hgs_commit.specs.Trees.{all_files_in};
+ghost use Rattle.hgs_index.specs.Manifest.{AreRows};
+ghost use Rattle.hgs_path.specs.Fncache.{listing};
 
 use crate::changeset::{new_changeset, new_manifest};
 use crate::fault::CommitFault;
@@ -41,6 +45,7 @@ use hgs_loading::parent::{ParentManifest, parent_manifest};
 use hgs_loading::store::changelog_paths;
 use hgs_manifest::manifest::Manifest;
 use hgs_model::command::{NewChange, Refusal};
+use hgs_model::files::NewFile;
 use hgs_reader::contents::manifest_paths;
 use hgs_revlog::revlog::Revlog;
 use hgs_steps::fault::PlanFault;
@@ -86,6 +91,97 @@ fn parent_of<R: Reads>(
         &manifest,
         rev,
     )
+}
+
+// The files of the two parents.
+fn both_parents<R: Reads>(
+    alloc: Global,
+    files: &mut R,
+    loaded: &Loaded,
+    parents: (Option<u32>, Option<u32>),
+) -> Result<(ParentManifest, ParentManifest), ReadAnswer>
+    requires first { IfSome parents.0 (λ r. r < length loaded.now.changelog.entries) }
+    requires second { IfSome parents.1 (λ r. r < length loaded.now.changelog.entries) }
+    requires manifest { AreEntries loaded.now.manifest.entries }
+    ensures found { Finds (λ x. (view_parent x.0, view_parent x.1)) R.alone (R.seen files.new) (R.start files.new) (both_parents loaded.now parents) result }
+    ensures first { IfOk result (λ x. IfSome x.0.rev (λ r. r < length loaded.now.manifest.entries)) }
+    ensures second { IfOk result (λ x. IfSome x.1.rev (λ r. r < length loaded.now.manifest.entries)) }
+    ensures same_start { R.start files.new ≡ R.start files.old }
+    ensures still { R.alone ≡ true → R.seen files.new ≡ R.seen files.old }
+    ensures cause { HasFaultCause (R.faults files.old) (R.faults files.new) (R.denied files.old) (R.denied files.new) result }
+{
+    let first = match parent_of(alloc, files, loaded, parents.0) {
+        Ok(first) => first,
+        Err(refusal) => return Err(refusal),
+    };
+    let second = match parent_of(alloc, files, loaded, parents.1) {
+        Ok(second) => second,
+        Err(refusal) => return Err(refusal),
+    };
+    Ok((first, second))
+}
+
+// Whether a file has a source that is none of these rows.
+fn lacks_source(file: &NewFile, first: &Manifest) -> bool
+    ensures { result ≡ lacks_source first.now file.now }
+{
+    match &file.from {
+        Some(path) => first.get(path.as_slice()).is_none(),
+        None => false,
+    }
+}
+
+// Whether a file has a source, and a parent has its path.
+fn is_over(file: &NewFile, first: &Manifest, second: &Manifest) -> bool
+    ensures { result ≡ is_over first.now second.now file.now }
+{
+    let path = file.path.as_slice();
+    file.from.is_some() && (first.get(path).is_some() || second.get(path).is_some())
+}
+
+// Whether one of the files has a source that is none of these rows.
+fn has_unknown_source(files: &[NewFile], first: &Manifest) -> bool
+    ensures { result ≡ list_any (lacks_source first.now) files.now }
+{
+    files.iter().any(|file| lacks_source(file, first))
+}
+
+// The first copy whose path a parent has.
+fn first_over<'a>(files: &'a [NewFile], first: &Manifest, second: &Manifest) -> Option<&'a NewFile>
+    ensures { option_map (λ f. f.now) result ≡ find (is_over first.now second.now) files.now }
+{
+    files.iter().find(|file| is_over(file, first, second))
+}
+
+// No copy has a path that a parent has.
+fn test_places(
+    alloc: Global,
+    files: &[NewFile],
+    first: &Manifest,
+    second: &Manifest,
+) -> Result<(), PlanFault>
+    ensures { Gives is_memory (λ free. free) result (over_where (find (is_over first.now second.now) files.now)) }
+{
+    let Some(file) = first_over(files, first, second) else {
+        return Ok(());
+    };
+    let path = file.path.copy(alloc)?;
+    Err(PlanFault::Refused(Refusal::CopyOver(path)))
+}
+
+// A copy is one of a file of the first parent, and at a path that no parent has.
+fn test_copies(
+    alloc: Global,
+    files: &[NewFile],
+    first: &Manifest,
+    second: &Manifest,
+) -> Result<(), PlanFault>
+    ensures { Gives is_memory (λ free. free) result (copies_tested first.now second.now files.now) }
+{
+    if has_unknown_source(files, first) {
+        return Err(PlanFault::Refused(Refusal::UnknownPath));
+    }
+    test_places(alloc, files, first, second)
 }
 
 // A tree that is that of the one parent, or empty where there is no parent, changes nothing.
@@ -161,24 +257,25 @@ fn meet_long_list(loaded: &Loaded, more: usize, met: &mut Hindrances)
     }
 }
 
-// The tree of the commit, and its manifests' parents.
+// The tree of the commit on these files of its parents, and its manifests' parents.
 fn grown_tree<R: Reads>(
     alloc: Global,
     files: &mut R,
     loaded: &Loaded,
     change: &NewChange,
-    parents: (Option<u32>, Option<u32>),
+    first: &ParentManifest,
+    second: &ParentManifest,
     met: &mut Hindrances,
 ) -> Result<(Grown, (Option<u32>, Option<u32>)), ReadAnswer>
     requires changelog { AreEntries loaded.now.changelog.entries }
-    requires manifest { AreEntries loaded.now.manifest.entries }
-    requires first { IfSome parents.0 (λ r. r < length loaded.now.changelog.entries) }
-    requires second { IfSome parents.1 (λ r. r < length loaded.now.changelog.entries) }
+    requires first { IfSome first.now.rev (λ r. r < length loaded.now.manifest.entries) }
+    requires second { IfSome second.now.rev (λ r. r < length loaded.now.manifest.entries) }
+    requires rows { AtRest R.alone (R.seen files.old) (R.start files.old) (λ t. AreRows first.now.rows × AreRows second.now.rows) }
     requires few { length change.now.files ≤ 20000 }
     requires order { can_follow [] change.now.files ≡ true }
     requires ascend { ascends (new_paths change.now.files) ≡ true }
-    ensures found { Finds (λ x. ((view_grown x.0, x.1), met_of met.new)) R.alone (R.seen files.new) (R.start files.new) (λ t. noting (met_of met.old) (grown_in loaded.now change.now parents t)) result }
-    ensures clash { OnOk result (AtRest R.alone (R.seen files.new) (R.start files.new) (λ t. ClashOn loaded.now (trees_in loaded.now change.now parents t) met.old.clash met.new.clash)) }
+    ensures found { Finds (λ x. ((view_grown x.0, x.1), met_of met.new)) R.alone (R.seen files.new) (R.start files.new) (λ t. noting (met_of met.old) (grown_on loaded.now change.now (view_parent first.now) (view_parent second.now) t)) result }
+    ensures clash { OnOk result (AtRest R.alone (R.seen files.new) (R.start files.new) (λ t. ClashIn (listing loaded.now.fncache) (all_files_in (listing loaded.now.fncache) (length loaded.now.changelog.entries) first.now.rows second.now.rows change.now.files t) met.old.clash met.new.clash)) }
     ensures few { IfOk result (λ x. length x.0.growth.items ≤ 40000) }
     ensures beside { IfOk result (λ x. list_all is_beside x.0.growth.items ≡ true) }
     ensures first { IfOk result (λ x. IfSome x.1.0 (λ r. r < length loaded.now.manifest.entries)) }
@@ -187,23 +284,15 @@ fn grown_tree<R: Reads>(
     ensures still { R.alone ≡ true → R.seen files.new ≡ R.seen files.old }
     ensures cause { HasFaultCause (R.faults files.old) (R.faults files.new) (R.denied files.old) (R.denied files.new) result }
 {
-    manifest_reads_then_prints();
-    let first = match parent_of(alloc, files, loaded, parents.0) {
-        Ok(first) => first,
-        Err(refusal) => return Err(refusal),
-    };
-    let second = match parent_of(alloc, files, loaded, parents.1) {
-        Ok(second) => second,
-        Err(refusal) => return Err(refusal),
-    };
     let manifests = manifest_parents(first.rev, second.rev);
-    let mut tree = NewTree::new(alloc, first.rows, second.rows);
+    let mut tree = NewTree::new(alloc, &first.rows, &second.rows);
     let link = loaded.changelog.len();
     match add_files(
         alloc,
         files,
         &loaded.fncache,
         link,
+        &first.rows,
         change.files.as_slice(),
         &mut tree,
         met,
@@ -367,9 +456,20 @@ fn step_on<R: Reads>(
     ensures refused { R.denied files.old ≤ R.denied files.new }
     ensures cause { HasCause (R.faults files.old) (R.faults files.new) result }
 {
+    manifest_reads_then_prints();
+    let (first, second) = match both_parents(alloc, files, loaded, parents) {
+        Ok(read) => read,
+        Err(refusal) => return Err(CommitFault::Unread(refusal)),
+    };
+    match test_copies(alloc, change.files.as_slice(), &first.rows, &second.rows) {
+        Ok(()) => {}
+        Err(fault) => return Err(CommitFault::Refused(fault)),
+    }
     let mut met = Hindrances::none();
     meet_bookmarks(loaded, change, &mut met);
-    let (grown, manifests) = match grown_tree(alloc, files, loaded, change, parents, &mut met) {
+    let (grown, manifests) = match grown_tree(
+        alloc, files, loaded, change, &first, &second, &mut met,
+    ) {
         Ok(grown) => grown,
         Err(refusal) => return Err(CommitFault::Unread(refusal)),
     };

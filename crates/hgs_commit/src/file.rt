@@ -1,6 +1,6 @@
 //! A file of a commit: its revision in the new tree.
 ghost use Rattle.std.specs.Prelude.{◌≡◌, ◌<◌, ◌^◌, ◌++◌, [], true, length, IfOk, IfSome, OnOk, ◌≤◌, false, Ok};
-ghost use Rattle.hgs_index.specs.FileText.{plain_prefix};
+ghost use Rattle.hgs_model.specs.Step.{copy_lines};
 ghost use Rattle.hgs_load.specs.Answer.{HasFaultCause};
 ghost use Rattle.hgs_revlog.specs.Loaded.{AreEntries, parents_in};
 ghost use Rattle.std.specs.Option.{option_map};
@@ -10,7 +10,7 @@ ghost use Rattle.hgs_loading.specs.Found.{Finds, and_then};
 ghost use Rattle.hgs_model.specs.History.{first_of};
 ghost use Rattle.hgs_load.specs.Answer.{is_of_outside, NeverFaults};
 ghost use Rattle.hgs_path.specs.Fncache.{listing, IsClash};
-ghost use Rattle.hgs_commit.specs.Files.{can_follow, changed_in, file_in, file_on, formed, kept_file, new_path, node_in, parents_by, place_in, standing_at, view_file, view_filelog};
+ghost use Rattle.hgs_commit.specs.Files.{can_follow, changed_in, file_in, file_on, formed, fresh_text, kept_file, new_path, node_in, parents_by, place_in, source_node, standing_at, view_file, view_filelog};
 ghost use Rattle.hgs_commit.specs.NewTree.{tree_of};
 ghost use Rattle.hgs_commit.specs.Tree.{ClashIn, adding, files_in};
 ghost use Rattle.hgs_files.specs.Tree.{after_all};
@@ -30,9 +30,11 @@ use hgs_files::files::Reads;
 use hgs_files::path::StorePath;
 use hgs_index::kinds::Flag;
 use hgs_index::node::Node;
+use hgs_index::texts::hex_of;
 use hgs_load::answer::ReadAnswer;
 use hgs_loading::logs::test_either_data;
 use hgs_loading::whole::size_of;
+use hgs_manifest::manifest::Manifest;
 use hgs_model::files::NewFile;
 use hgs_path::fncache::Fncache;
 use std::alloc::{AllocError, Global};
@@ -84,12 +86,49 @@ fn test_place<R: Reads>(
     meet_standing(alloc, files, &filelog.paths.chunks, met)
 }
 
+// What stands in the block of a copy of the file with this path and this node.
+fn copy_lines(alloc: Global, path: &[u8], node: &Node) -> Result<Vec<u8>, AllocError>
+    ensures { IfOk result (λ lines. lines.items ≡ copy_lines path.now node.now.0) }
+{
+    let mut lines = Vec::from_slice(alloc, b"copy: ")?;
+    lines.extend_from_slice(path)?;
+    lines.extend_from_slice(b"\ncopyrev: ")?;
+    lines.extend_from_slice(hex_of(node).as_slice())?;
+    lines.push(b'\n')?;
+    Ok(lines)
+}
+
+// The text of a file whose revision is not kept, where its source has this node.
+fn fresh_text(alloc: Global, file: &NewFile, source: &Node) -> Result<Vec<u8>, AllocError>
+    ensures { IfOk result (λ text. text.items ≡ fresh_text file.now source.now.0) }
+{
+    let Some(path) = &file.from else {
+        return pack(alloc, None, file.body.as_slice());
+    };
+    let lines = copy_lines(alloc, path.as_slice(), source)?;
+    pack(alloc, Some(&lines), file.body.as_slice())
+}
+
+// The node that the source of a copy has in these rows; the null node where there is none.
+fn source_node(file: &NewFile, rows: &Manifest) -> Node
+    ensures { result.0 ≡ source_node rows.now file.now.from }
+{
+    let Some(path) = &file.from else {
+        return Node([0; 20]);
+    };
+    match rows.get(path.as_slice()) {
+        Some((node, _)) => node,
+        None => Node([0; 20]),
+    }
+}
+
 // A file whose revision is not kept.
 fn changed_file<R: Reads>(
     alloc: Global,
     files: &mut R,
     link: u32,
     file: &NewFile,
+    source: &Node,
     filelog: Filelog,
     parents: (Option<u32>, Option<u32>),
     met: &mut Hindrances,
@@ -99,14 +138,14 @@ fn changed_file<R: Reads>(
     requires first { IfSome parents.0 (λ rev. rev < length filelog.log.entries) }
     requires second { IfSome parents.1 (λ rev. rev < length filelog.log.entries) }
     ensures path { IfOk result (λ f. f.path ≡ file.now.path) }
-    ensures found { Finds (λ f. (view_file f, met_of met.new)) R.alone (R.seen files.new) (R.start files.new) (λ t. noting (met_of met.old) (changed_in (formed (view_filelog filelog) (plain_prefix file.now.body ++ file.now.body)) file.now parents link t)) result }
+    ensures found { Finds (λ f. (view_file f, met_of met.new)) R.alone (R.seen files.new) (R.start files.new) (λ t. noting (met_of met.old) (changed_in (formed (view_filelog filelog) (fresh_text file.now source.now.0)) file.now source.now.0 parents link t)) result }
     ensures clash { met.new.clash ≡ met.old.clash }
     ensures same_start { R.start files.new ≡ R.start files.old }
     ensures still { R.alone ≡ true → R.seen files.new ≡ R.seen files.old }
     ensures cause { HasFaultCause (R.faults files.old) (R.faults files.new) (R.denied files.old) (R.denied files.new) result }
 {
     let path = file.path.copy(alloc)?;
-    let text = pack(alloc, None, file.body.as_slice())?;
+    let text = fresh_text(alloc, file, source)?;
     let filelog = filelog.formed(alloc, &text);
     let (p1, p2) = parents;
     let revised = match revise_in(
@@ -199,6 +238,7 @@ fn file_on<R: Reads>(
     files: &mut R,
     link: u32,
     file: &NewFile,
+    source: &Node,
     rows: ParentFiles,
     filelog: Filelog,
     parents: (Option<u32>, Option<u32>),
@@ -208,7 +248,7 @@ fn file_on<R: Reads>(
     requires entries { AreEntries filelog.log.entries }
     requires first { IfSome parents.0 (λ rev. rev < length filelog.log.entries) }
     requires second { IfSome parents.1 (λ rev. rev < length filelog.log.entries) }
-    ensures found { Finds (λ f. (view_file f, met_of met.new)) R.alone (R.seen files.new) (R.start files.new) (λ t. noting (met_of met.old) (file_on (view_filelog filelog) file.now (first_of (option_map told_of_found rows.first) (option_map told_of_found rows.second)) parents link t)) result }
+    ensures found { Finds (λ f. (view_file f, met_of met.new)) R.alone (R.seen files.new) (R.start files.new) (λ t. noting (met_of met.old) (file_on (view_filelog filelog) file.now source.now.0 (first_of (option_map told_of_found rows.first) (option_map told_of_found rows.second)) parents link t)) result }
     ensures clash { met.new.clash ≡ met.old.clash }
     ensures path { IfOk result (λ f. f.path ≡ file.now.path) }
     ensures same_start { R.start files.new ≡ R.start files.old }
@@ -217,22 +257,23 @@ fn file_on<R: Reads>(
 {
     match filelog.kept(alloc, files, parents, file.body.as_slice())? {
         Some(rev) => Ok(kept_file(alloc, file, &filelog, rows, rev)?),
-        None => changed_file(alloc, files, link, file, filelog, parents, met),
+        None => changed_file(alloc, files, link, file, source, filelog, parents, met),
     }
 }
 
-// A file of the new tree, by those with its path in the trees of the two parents.
+// A file of the new tree, by the node of its source, and by those with its path in the trees of the two parents.
 fn file_of<R: Reads>(
     alloc: Global,
     files: &mut R,
     fncache: &Fncache,
     link: u32,
     file: &NewFile,
+    source: &Node,
     rows: ParentFiles,
     met: &mut Hindrances,
 ) -> Result<TreeFile, ReadAnswer>
     requires link { link < 2 ^ 31 }
-    ensures found { Finds (λ f. (view_file f, met_of met.new)) R.alone (R.seen files.new) (R.start files.new) (λ t. noting (met_of met.old) (file_in (listing fncache.now) link file.now (option_map told_of_found rows.first) (option_map told_of_found rows.second) t)) result }
+    ensures found { Finds (λ f. (view_file f, met_of met.new)) R.alone (R.seen files.new) (R.start files.new) (λ t. noting (met_of met.old) (file_in (listing fncache.now) link file.now source.now.0 (option_map told_of_found rows.first) (option_map told_of_found rows.second) t)) result }
     ensures clash { met.new.clash ≡ met.old.clash }
     ensures path { IfOk result (λ f. f.path ≡ file.now.path) }
     ensures same_start { R.start files.new ≡ R.start files.old }
@@ -247,7 +288,9 @@ fn file_of<R: Reads>(
         Ok(parents) => parents,
         Err(refusal) => return Err(refusal),
     };
-    file_on(alloc, files, link, file, rows, filelog, parents, met)
+    file_on(
+        alloc, files, link, file, source, rows, filelog, parents, met,
+    )
 }
 
 // Another path of one of these lists that has the same store name for one of its two files.
@@ -286,22 +329,24 @@ fn with_new(
     new_paths.with_path(path)
 }
 
-/// Adds all files of a commit to the tree, each after what is read of its filelog.
+/// Adds all files of a commit to the tree, each after what is read of its filelog. The sources of copies are among the rows of
+/// the first parent.
 pub fn add_files<R: Reads>(
     alloc: Global,
     files: &mut R,
     fncache: &Fncache,
     link: u32,
+    sources: &Manifest,
     new_files: &[NewFile],
-    tree: &mut NewTree,
+    tree: &mut NewTree<'_>,
     met: &mut Hindrances,
 ) -> Result<(), ReadAnswer>
     requires link { link < 2 ^ 31 }
     requires empty { tree.old.rows ≡ [] }
     requires few { length new_files.now ≤ 20000 }
     requires order { can_follow [] new_files.now ≡ true }
-    ensures found { Finds (λ _. (tree_of tree.new, met_of met.new)) R.alone (R.seen files.new) (R.start files.new) (λ t. adding (tree_of tree.old) (met_of met.old) (files_in (listing fncache.now) link new_files.now tree.old.first tree.old.second t)) result }
-    ensures clash { OnOk result (R.alone ≡ true → IfSome (R.seen files.new) (λ log. ClashIn (listing fncache.now) (files_in (listing fncache.now) link new_files.now tree.old.first tree.old.second (after_all log (R.start files.new))) met.old.clash met.new.clash)) }
+    ensures found { Finds (λ _. (tree_of tree.new, met_of met.new)) R.alone (R.seen files.new) (R.start files.new) (λ t. adding (tree_of tree.old) (met_of met.old) (files_in (listing fncache.now) link sources.now new_files.now tree.old.first tree.old.second t)) result }
+    ensures clash { OnOk result (R.alone ≡ true → IfSome (R.seen files.new) (λ log. ClashIn (listing fncache.now) (files_in (listing fncache.now) link sources.now new_files.now tree.old.first tree.old.second (after_all log (R.start files.new))) met.old.clash met.new.clash)) }
     ensures count { OnOk result (length tree.new.rows ≡ length new_files.now) }
     ensures same_start { R.start files.new ≡ R.start files.old }
     ensures still { R.alone ≡ true → R.seen files.new ≡ R.seen files.old }
@@ -312,7 +357,8 @@ pub fn add_files<R: Reads>(
     while let Some((file, behind)) = rest.split_first() {
         let path = file.path.as_slice();
         let rows = tree.parent_files(path)?;
-        let added = match file_of(alloc, files, fncache, link, file, rows, met) {
+        let source = source_node(file, sources);
+        let added = match file_of(alloc, files, fncache, link, file, &source, rows, met) {
             Ok(added) => added,
             Err(refusal) => return Err(refusal),
         };

@@ -48,10 +48,10 @@ impl ParentFiles {
 
 /// The files of a tree up to some path, beside the manifests of the two parents.
 #[derive(Drop)]
-pub struct NewTree {
+pub struct NewTree<'a> {
     alloc: Global,
-    first: Walk,
-    second: Walk,
+    first: Walk<'a>,
+    second: Walk<'a>,
     rows: Manifest,
     changed: Vec<Bytes>,
     growth: Vec<Change>,
@@ -104,11 +104,11 @@ fn in_order(alloc: Global, paths: Vec<Bytes>) -> Result<Names, AllocError>
     Ok(names)
 }
 
-impl NewTree {
+impl<'a> NewTree<'a> {
     /// A tree of no files yet, on parents with these manifests. Takes no memory.
-    pub fn new(alloc: Global, first: Manifest, second: Manifest) -> NewTree
-        ensures first { result.first ≡ first }
-        ensures second { result.second ≡ second }
+    pub fn new(alloc: Global, first: &'a Manifest, second: &'a Manifest) -> NewTree<'a>
+        ensures first { result.first ≡ first.now }
+        ensures second { result.second ≡ second.now }
         ensures rows { result.rows ≡ [] }
         ensures changed { result.changed.items ≡ [] }
         ensures growth { result.growth.items ≡ [] }
@@ -241,11 +241,11 @@ impl NewTree {
 
     /// The whole tree. The paths of the parents' trees that are left are removed ones.
     pub fn finish(self) -> Result<Grown, AllocError>
-        ensures rows { IfOk result (λ grown. grown.rows ≡ self.rows) }
-        ensures changed { IfOk result (λ grown. grown.changed ≡ in_order (self.changed.items ++ (paths_of self.first ++ paths_of self.second))) }
-        ensures growth { IfOk result (λ grown. grown.growth ≡ self.growth) }
-        ensures lines { IfOk result (λ grown. grown.lines ≡ self.lines) }
-        ensures few { IfOk result (λ grown. length grown.growth.items ≤ 2 * length self.rows) }
+        ensures rows { IfOk result (λ grown. grown.rows ≡ self.entry.rows) }
+        ensures changed { IfOk result (λ grown. grown.changed ≡ in_order (self.entry.changed.items ++ (paths_of self.entry.first ++ paths_of self.entry.second))) }
+        ensures growth { IfOk result (λ grown. grown.growth ≡ self.entry.growth) }
+        ensures lines { IfOk result (λ grown. grown.lines ≡ self.entry.lines) }
+        ensures few { IfOk result (λ grown. length grown.growth.items ≤ 2 * length self.entry.rows) }
         ensures beside { IfOk result (λ grown. list_all is_beside grown.growth.items ≡ true) }
     {
         let NewTree {

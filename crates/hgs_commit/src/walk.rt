@@ -12,8 +12,8 @@ use std::marker::Model;
 
 /// A parent's manifest, of which some rows were passed. Contracts see it as the rows that were not.
 #[derive(Drop)]
-pub struct Walk {
-    manifest: Manifest,
+pub struct Walk<'a> {
+    manifest: &'a Manifest,
     next: u32,
 }
 
@@ -25,21 +25,21 @@ fn push_path(alloc: Global, path: &[u8], passed: &mut Vec<Bytes>) -> Result<(), 
     Ok(())
 }
 
-impl Model for Walk {
+impl<'a> Model for Walk<'a> {
     ghost use Rattle.std.specs.Prelude.{◌≤◌, List, drop, length};
     ghost use Rattle.hgs_index.specs.Manifest.{Row};
 
     ghost Value = { List Row };
 
-    ghost view = { λ w. drop w.next w.manifest };
+    ghost view = { λ w. drop w.next w.manifest.now };
 
-    ghost invariant = { λ w. w.next ≤ length w.manifest };
+    ghost invariant = { λ w. w.next ≤ length w.manifest.now };
 }
 
-impl Walk {
+impl<'a> Walk<'a> {
     /// All rows of a manifest. Takes no memory.
-    pub fn new(manifest: Manifest) -> Walk
-        ensures { result ≡ manifest }
+    pub fn new(manifest: &'a Manifest) -> Walk<'a>
+        ensures { result ≡ manifest.now }
     {
         Walk { manifest, next: 0 }
     }
@@ -84,7 +84,7 @@ impl Walk {
 
     /// Passes all rows that are left, and adds their paths.
     pub fn pass_all(mut self, alloc: Global, passed: &mut Vec<Bytes>) -> Result<(), AllocError>
-        ensures passed { OnOk result (passed.new.items ≡ passed.old.items ++ map (λ r. r.path) self) }
+        ensures passed { OnOk result (passed.new.items ≡ passed.old.items ++ map (λ r. r.path) self.entry) }
     {
         while self.next < self.manifest.len() {
             let row = self.manifest.row(self.next);

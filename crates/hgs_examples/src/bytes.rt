@@ -1,4 +1,5 @@
 //! Each call that takes memory, once, and the separators on texts whose parts are written by hand.
+use crate::given::given;
 use hgs_bytes::bytes::Bytes;
 use hgs_bytes::names::Names;
 use hgs_bytes::parts::{below, next_line, split_at_byte, starts};
@@ -10,15 +11,16 @@ fn bytes_are_copied_cut_and_joined(rt: HostRuntime) -> Result<(), Fail> {
     let alloc = rt.alloc();
     let mut bytes = Bytes::from_slice(alloc, b"abc")?;
     let copy = bytes.copy(alloc)?;
-    bytes.append(b"de")?;
+    given(bytes.append(b"de"))?;
     assert_eq!(rt; bytes.as_slice(), b"abcde".as_slice());
-    assert_eq!(rt; bytes.clone()?.into_vec().as_slice(), b"abcde".as_slice());
+    let all = bytes.clone()?.into_vec();
+    assert_eq!(rt; all.as_slice(), b"abcde".as_slice());
     bytes.cut(3);
     assert!(rt; bytes == copy);
     bytes.cut(9);
     assert_eq!(rt; bytes.len(), 3);
-    assert!(rt; Bytes::new(alloc).is_empty());
-    assert!(rt; Bytes::new(alloc) < bytes);
+    let none = Bytes::new(alloc);
+    assert!(rt; none.is_empty() && none < bytes);
     Ok(())
 }
 
@@ -33,9 +35,9 @@ fn order_is_by_the_first_byte_that_differs_then_by_length(rt: HostRuntime) -> Re
         (b"", b"", Ordering::Equal),
     ];
     for (a, b, wanted) in table {
-        let found = Bytes::from_slice(alloc, a)?.cmp(&Bytes::from_slice(alloc, b)?);
-        assert_eq!(rt; found, wanted);
-        assert_eq!(rt; below(a, b), wanted == Ordering::Less);
+        let first = Bytes::from_slice(alloc, a)?;
+        let second = Bytes::from_slice(alloc, b)?;
+        assert!(rt; first.cmp(&second) == wanted && below(a, b) == (wanted == Ordering::Less));
     }
     Ok(())
 }
@@ -44,33 +46,45 @@ fn order_is_by_the_first_byte_that_differs_then_by_length(rt: HostRuntime) -> Re
 fn names_stand_in_order(rt: HostRuntime) -> Result<(), Fail> {
     let alloc = rt.alloc();
     let mut names = Names::new(alloc);
-    names.push(Bytes::from_slice(alloc, b"x")?)?;
-    names.push(Bytes::from_slice(alloc, b"y/z")?)?;
+    let first = Bytes::from_slice(alloc, b"x")?;
+    let second = Bytes::from_slice(alloc, b"y/z")?;
+    names.push(first)?;
+    names.push(second)?;
     assert_eq!(rt; names.len(), 2);
     if names.len() == 2 {
         assert_eq!(rt; names.get(1).as_slice(), b"y/z".as_slice());
     }
-    assert_eq!(rt; names.into_vec().len(), 2);
+    let all = names.into_vec();
+    assert_eq!(rt; all.len(), 2);
     Ok(())
+}
+
+/// Whether a text is split at its first NUL so.
+fn is_split(text: &[u8], wanted: Option<(&[u8], &[u8])>) -> bool {
+    match (split_at_byte(text, 0), wanted) {
+        (Some((front, rest)), Some((first, behind))) => front == first && rest == behind,
+        (None, None) => true,
+        _ => false,
+    }
+}
+
+/// Whether the first line of a text, that it is whole, and what stands behind it are these.
+fn is_line(text: &[u8], line: &[u8], is_whole: bool, behind: &[u8]) -> bool {
+    if text.is_empty() {
+        return false;
+    }
+    let (found, whole, rest) = next_line(text);
+    found == line && whole == is_whole && rest == behind
 }
 
 #[test]
 fn texts_are_split(rt: HostRuntime) {
-    assert!(rt; split_at_byte(b"abc", 0).is_none());
-    let Some((front, rest)) = split_at_byte(b"a\0b\0", 0) else {
-        assert!(rt; false);
-        return;
-    };
-    assert_eq!(rt; front, b"a".as_slice());
-    assert_eq!(rt; rest, b"b\0".as_slice());
-    let (line, whole, rest) = next_line(b"\nx");
-    assert_eq!(rt; line.len(), 0);
-    assert!(rt; whole);
-    assert_eq!(rt; rest, b"x".as_slice());
-    let (line, whole, rest) = next_line(b"x");
-    assert_eq!(rt; line, b"x".as_slice());
-    assert!(rt; !whole);
-    assert_eq!(rt; rest.len(), 0);
-    assert!(rt; starts(b"store/", b"store"));
-    assert!(rt; !starts(b"stor", b"store"));
+    assert!(rt;
+        is_split(b"abc", None)
+            && is_split(b"a\0b\0", Some((b"a", b"b\0")))
+            && is_line(b"\nx", b"", true, b"x")
+            && is_line(b"x", b"x", false, b"")
+            && starts(b"store/", b"store")
+            && !starts(b"stor", b"store")
+    );
 }

@@ -1,5 +1,6 @@
+use crate::given::given;
 use hex::FromHex;
-use hgs_index::entry::{Entry, EntryFault, Header, decode, encode};
+use hgs_index::entry::{Entry, Header, decode, encode};
 use hgs_index::node::Node;
 use std::test::Fail;
 
@@ -60,7 +61,8 @@ const ROWS: [Row; 4] = [
 ];
 
 fn entry_of(row: &Row) -> Result<Entry, Fail> {
-    let Row(_, offset, stored, size, rev, p1, p2, node) = row;
+    let Row(_, offset, stored, size, rev, p1, p2, digits) = row;
+    let node = given(<[u8; 20] as FromHex>::from_hex(*digits))?;
     Ok(Entry {
         offset: *offset,
         flags: 0,
@@ -70,15 +72,16 @@ fn entry_of(row: &Row) -> Result<Entry, Fail> {
         link: *rev,
         p1: *p1,
         p2: *p2,
-        node: Node(<[u8; 20] as FromHex>::from_hex(*node)?),
+        node: Node(node),
     })
 }
 
 #[test]
 fn entries_of_stores(rt: HostRuntime) -> Result<(), Fail> {
     for row in &ROWS {
-        let bytes = <[u8; 64] as FromHex>::from_hex(row.0)?;
-        assert_eq!(rt; decode(&bytes, row.4), Ok(entry_of(row)?), "{}", row.0);
+        let bytes = given(<[u8; 64] as FromHex>::from_hex(row.0))?;
+        let wanted = entry_of(row)?;
+        assert_eq!(rt; decode(&bytes, row.4), Ok(wanted), "{}", row.0);
     }
     Ok(())
 }
@@ -89,6 +92,7 @@ fn first_entry_written(rt: HostRuntime) -> Result<(), Fail> {
         inline: false,
         generaldelta: false,
     };
+    let node = given(<[u8; 20] as FromHex>::from_hex(ROWS[1].7))?;
     let entry = Entry {
         offset: 0,
         flags: 0,
@@ -98,15 +102,16 @@ fn first_entry_written(rt: HostRuntime) -> Result<(), Fail> {
         link: 0,
         p1: None,
         p2: None,
-        node: Node(<[u8; 20] as FromHex>::from_hex(ROWS[1].7)?),
+        node: Node(node),
     };
-    let bytes = <[u8; 64] as FromHex>::from_hex(ROWS[1].0)?;
+    let bytes = given(<[u8; 64] as FromHex>::from_hex(ROWS[1].0))?;
     assert_eq!(rt; encode(&entry, Some(header)), bytes);
     Ok(())
 }
 
 #[test]
 fn later_entry_written(rt: HostRuntime) -> Result<(), Fail> {
+    let node = given(<[u8; 20] as FromHex>::from_hex(ROWS[2].7))?;
     let entry = Entry {
         offset: 279,
         flags: 0,
@@ -116,9 +121,9 @@ fn later_entry_written(rt: HostRuntime) -> Result<(), Fail> {
         link: 2,
         p1: Some(1),
         p2: None,
-        node: Node(<[u8; 20] as FromHex>::from_hex(ROWS[2].7)?),
+        node: Node(node),
     };
-    let bytes = <[u8; 64] as FromHex>::from_hex(ROWS[2].0)?;
+    let bytes = given(<[u8; 64] as FromHex>::from_hex(ROWS[2].0))?;
     assert_eq!(rt; encode(&entry, None), bytes);
     Ok(())
 }

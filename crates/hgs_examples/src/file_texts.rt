@@ -1,3 +1,4 @@
+use crate::given::given;
 use hgs_filelog::file_text::{pack, unpack};
 use std::test::Fail;
 
@@ -25,11 +26,10 @@ const CASES: [Case; 5] = [
 #[test]
 fn blocks_and_bodies(rt: HostRuntime) -> Result<(), Fail> {
     for (body, meta, block, text) in CASES {
-        let packed = pack(rt.alloc(), meta, body)?;
+        let packed = given(pack(rt.alloc(), meta, body))?;
         assert_eq!(rt; packed.as_slice(), text);
         let parts = unpack(text);
-        assert_eq!(rt; parts.meta.len, block.len() as u64);
-        assert_eq!(rt; parts.body.from, block.len() as u64);
+        assert!(rt; parts.meta.len == block.len() as u64 && parts.body.from == block.len() as u64);
     }
     Ok(())
 }
@@ -37,6 +37,5 @@ fn blocks_and_bodies(rt: HostRuntime) -> Result<(), Fail> {
 #[test]
 fn a_block_without_end_is_body(rt: HostRuntime) {
     let parts = unpack(b"\x01\ncopy: a\n");
-    assert_eq!(rt; parts.meta.len, 0);
-    assert_eq!(rt; parts.body.len, 10);
+    assert!(rt; parts.meta.len == 0 && parts.body.len == 10);
 }

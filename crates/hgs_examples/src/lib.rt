@@ -2,8 +2,6 @@
 #![tactic(auto)]
 
 #[cfg(test)]
-mod bodies;
-#[cfg(test)]
 mod bytes;
 #[cfg(test)]
 mod changesets;
@@ -13,6 +11,8 @@ mod entries;
 mod file_lists;
 #[cfg(test)]
 mod file_texts;
+#[cfg(test)]
+mod given;
 #[cfg(test)]
 mod headers;
 #[cfg(test)]

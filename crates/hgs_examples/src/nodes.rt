@@ -1,3 +1,4 @@
+use crate::given::given;
 use hex::FromHex;
 use hgs_index::node::{Node, node_of};
 use std::test::Fail;
@@ -33,17 +34,17 @@ const ROWS: [(&str, &str, &[u8], &str); 5] = [
 ];
 
 fn node(digits: &str) -> Result<Node, Fail> {
-    Ok(Node(<[u8; 20] as FromHex>::from_hex(digits)?))
+    let node = given(<[u8; 20] as FromHex>::from_hex(digits))?;
+    Ok(Node(node))
 }
 
 #[test]
 fn hashes(rt: HostRuntime) -> Result<(), Fail> {
     for (p1, p2, text, want) in ROWS {
-        assert_eq!(rt;
-            node_of(&node(p1)?, &node(p2)?, text),
-            node(want)?,
-            "{want}"
-        );
+        let first = node(p1)?;
+        let second = node(p2)?;
+        let wanted = node(want)?;
+        assert_eq!(rt; node_of(&first, &second, text), wanted, "{want}");
     }
     Ok(())
 }

@@ -1,3 +1,4 @@
+use crate::given::given;
 use hgs_files::path::{NameFault, StorePath};
 use std::test::Fail;
 
@@ -13,17 +14,16 @@ fn names_that_are_paths_and_names_that_are_not(rt: HostRuntime) -> Result<(), Fa
         b"a/..b/.c.",
     ];
     for name in good {
-        let path = StorePath::new(rt.alloc(), name)?;
-        assert_eq!(rt; path.copy(rt.alloc())?.bytes(), name);
+        let path = given(StorePath::new(rt.alloc(), name))?;
+        let copy = path.copy(rt.alloc())?;
+        assert_eq!(rt; copy.bytes(), name);
     }
     let bad: [&[u8]; 10] = [
         b"", b"/a", b".", b"..", b"a/.", b"../a", b"a/./b", b"a\0", b"a\nb", b"\r",
     ];
     for name in bad {
-        assert!(rt;
-            StorePath::new(rt.alloc(), name) == Err(NameFault::Shape),
-            "{name:?}"
-        );
+        let fault = StorePath::new(rt.alloc(), name).err();
+        assert_eq!(rt; fault, Some(NameFault::Shape), "{name:?}");
     }
     Ok(())
 }
@@ -34,8 +34,9 @@ fn paths_have_at_most_4096_bytes(rt: HostRuntime) -> Result<(), Fail> {
     for _ in 0..4096 {
         name.push(b'a')?;
     }
-    StorePath::new(rt.alloc(), name.as_slice())?;
+    given(StorePath::new(rt.alloc(), name.as_slice()))?;
     name.push(b'a')?;
-    assert!(rt; StorePath::new(rt.alloc(), name.as_slice()) == Err(NameFault::Shape));
+    let fault = StorePath::new(rt.alloc(), name.as_slice()).err();
+    assert_eq!(rt; fault, Some(NameFault::Shape));
     Ok(())
 }

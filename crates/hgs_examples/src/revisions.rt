@@ -76,18 +76,19 @@ fn two_parents(rt: HostRuntime) -> Result<(), Fail> {
     loaded_entries();
     let mut log = match Revlog::load(alloc, &INDEX, Tail::Refuse) {
         Ok(log) => log,
-        Err(fault) => return Err(fault.into()),
+        Err(_) => return Err(Fail::new("no revlog")),
     };
     if log.len() < 2 {
         assert!(rt; false, "too short");
         return Ok(());
     }
-    assert_eq!(rt; taken(&mut log, b"c\n", 0, 1, b""), Ok((2, Some(MERGED))));
-    assert_eq!(rt; log.len(), 3);
-    assert_eq!(rt; taken(&mut log, b"c\n", 0, 1, b"uc\n"), Ok((2, None)));
+    let first = taken(&mut log, b"c\n", 0, 1, b"");
+    let second = taken(&mut log, b"c\n", 0, 1, b"uc\n");
     // The parents in the other order are the same ones.
-    assert_eq!(rt; taken(&mut log, b"c\n", 1, 0, b"uc\n"), Ok((2, None)));
-    assert_eq!(rt; log.len(), 3);
-    assert_eq!(rt; log.copy()?.len(), 3);
+    let turned = taken(&mut log, b"c\n", 1, 0, b"uc\n");
+    let copy = log.copy()?;
+    assert!(rt; first == Ok((2, Some(MERGED))));
+    assert!(rt; second == Ok((2, None)) && turned == Ok((2, None)));
+    assert!(rt; log.len() == 3 && copy.len() == 3);
     Ok(())
 }

@@ -98,10 +98,9 @@ fn refuses_entries(rt: HostRuntime) -> Result<(), Fail> {
     // Nothing behind the wanted node is looked at.
     let mut node = [0u8; 20];
     node.copy_from_slice(&INDEX[96..116]);
-    assert_eq!(rt; revisions(alloc, &null, Tail::Until(Node(node))), Ok(2));
-    assert_eq!(rt;
-        revisions(alloc, &null, Tail::Until(NEVER)),
-        Err(RevFault::Twice(2))
+    assert!(rt;
+        revisions(alloc, &null, Tail::Until(Node(node))) == Ok(2)
+            && revisions(alloc, &null, Tail::Until(NEVER)) == Err(RevFault::Twice(2))
     );
     Ok(())
 }
@@ -128,8 +127,10 @@ fn reads_texts(rt: HostRuntime) -> Result<(), Fail> {
     zipped[0] = 0x78;
     let mut changed = SECOND;
     changed[113] = b'2';
-    assert_eq!(rt; text_len(alloc, &INDEX, 0, &FIRST), Ok(164));
-    assert_eq!(rt; text_len(alloc, &INDEX, 2, &THIRD), Ok(96));
+    assert!(rt;
+        text_len(alloc, &INDEX, 0, &FIRST) == Ok(164)
+            && text_len(alloc, &INDEX, 2, &THIRD) == Ok(96)
+    );
     let cases = [
         (INDEX, SECOND, 114, Ok(113)),
         (edited(71, 1), SECOND, 114, Err(RevFault::Flagged(1))),
@@ -184,8 +185,7 @@ fn a_first_entry(rt: HostRuntime) -> Result<(), Fail> {
                 node: _,
             },
         ) => {
-            assert_eq!(rt; entry, want);
-            assert_eq!(rt; chunk.as_slice(), b"ua\n".as_slice());
+            assert!(rt; entry == want && chunk.as_slice() == b"ua\n".as_slice());
         }
         _ => assert!(rt; false, "not new"),
     }

@@ -1,6 +1,6 @@
 -- The files of generated changesets: their order, their paths and their lengths.
 use Rattle.std.proofs.Common.{◌≡◌, ℕ, zero, suc, ◌+◌, ◌<◌, ◌≤◌, ◌^◌, Bool, true, false, List, [], ◌∷◌, ◌++◌, length, length-append, refl, sym, ◌∙◌, ap, subst, arith}
-use Rattle.std.specs.Prelude.{◌==◌, nat_lt, cond, decimal}
+use Rattle.std.specs.Prelude.{◌==◌, nat_lt, cond, decimal, None}
 use Rattle.std.specs.List.{AllByRecursion}
 use Rattle.std.specs.Cmp.Lexicographic.{slice_cmp, nat_list_cmp_total, lists_ties}
 use Rattle.std.specs.Ordering.{nat_cmp, is_lt, is_eq, ordering_reverse}
@@ -73,16 +73,17 @@ ascend path text (f ∷ files) all = first-by path text f files (is_below f.path
 
 pub record IsFile (f : NewFile) : Type 0 where
   pub path : IsGood f.path
+  pub source : f.from ≡ None
   pub short : length f.body ≤ 42
 
 all-by : (path text : List ℕ) (f : NewFile) (files : List NewFile) (below the_same : Bool) → is_below f.path path ≡ below → same f.path path ≡ the_same →
-    IsFile (record { path = path; flag = Plain; body = text }) → IsFile f → AllByRecursion IsFile files → AllByRecursion IsFile (with_text path text files) →
+    IsFile (record { path = path; flag = Plain; from = None; body = text }) → IsFile f → AllByRecursion IsFile files → AllByRecursion IsFile (with_text path text files) →
     AllByRecursion IsFile (with_text path text (f ∷ files))
 all-by path text f files true t b s this one all more = rw b (one, more)
 all-by path text f files false true b s this one all more = rw (b, s) (this, all)
 all-by path text f files false false b s this one all more = rw (b, s) (this, (one, all))
 
-all-with : (path text : List ℕ) (files : List NewFile) → IsFile (record { path = path; flag = Plain; body = text }) → AllByRecursion IsFile files → AllByRecursion IsFile (with_text path text files)
+all-with : (path text : List ℕ) (files : List NewFile) → IsFile (record { path = path; flag = Plain; from = None; body = text }) → AllByRecursion IsFile files → AllByRecursion IsFile (with_text path text files)
 all-with path text [] this all = (this, tt)
 all-with path text (f ∷ files) this all = all-by path text f files (is_below f.path path) (same f.path path) refl refl this all.0 all.1 (all-with path text files this all.1)
 
@@ -116,7 +117,7 @@ pub files-good : (seed n : ℕ) → seed < 2 ^ 64 → n < 2 ^ 64 → AllByRecurs
 files-good seed zero lt few = tt
 files-good seed (suc n) lt few =
     all-with (path_of (number_after seed (suc n))) (text_of n (number_after seed (suc n))) (files_after seed n)
-    (record { path = good (number_after seed (suc n)); short = short-text n (number_after seed (suc n)) (omega (arith, few)) (small seed (suc n) lt) }) (files-good seed n lt (omega (arith, few)))
+    (record { path = good (number_after seed (suc n)); source = refl; short = short-text n (number_after seed (suc n)) (omega (arith, few)) (small seed (suc n) lt) }) (files-good seed n lt (omega (arith, few)))
 
 pub files-ascend : (seed n : ℕ) → ascends (new_paths (files_after seed n)) ≡ true
 files-ascend seed zero = refl

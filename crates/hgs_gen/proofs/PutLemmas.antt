@@ -1,6 +1,6 @@
 -- A text that is put at its path.
 use Rattle.std.proofs.Common.{◌≡◌, ℕ, zero, suc, ◌<◌, ◌≤◌, true, false, List, [], ◌∷◌, ◌++◌, length, take, drop, get_or, refl, ap, arith}
-use Rattle.std.specs.Prelude.{IfSome, slice_get, slice_set}
+use Rattle.std.specs.Prelude.{IfSome, None, slice_get, slice_set}
 use Rattle.std.specs.List.{insert}
 use Rattle.hgs_bytes.specs.Bytes.{same, is_below}
 use Rattle.hgs_gen.specs.Generated.{with_text}
@@ -8,7 +8,7 @@ use Rattle.hgs_index.specs.declared.kinds.Flag.TheVariants.{Plain}
 use Rattle.hgs_model.specs.declared.files.NewFile.{NewFile}
 
 abbrev pub file_of : List ℕ → List ℕ → NewFile
-file_of path text = record { path = path; flag = Plain; body = text }
+file_of path text = record { path = path; flag = Plain; from = None; body = text }
 
 -- at a place where its path does not stand, a text is put before what is there
 pub put_new : (path text : List ℕ) (files : List NewFile) (at : ℕ) (f : NewFile) → at < length files → f ≡ get_or files at f → IfSome (slice_get files at) (λ g. is_below g.path path ≡ false) →

@@ -26,11 +26,11 @@ text_of made x = decimal made ++ 32 ∷ (decimal x ++ 10 ∷ [])
 
 -- the files with this text at this path, in the order of paths
 abbrev pub with_text : List ℕ → List ℕ → List NewFile → List NewFile
-with_text path text [] = record { path = path; flag = Plain; body = text } ∷ []
+with_text path text [] = record { path = path; flag = Plain; from = None; body = text } ∷ []
 with_text path text (f ∷ files) =
     if is_below f.path path then f ∷ with_text path text files
-    else if same f.path path then record { path = path; flag = Plain; body = text } ∷ files
-    else record { path = path; flag = Plain; body = text } ∷ f ∷ files
+    else if same f.path path then record { path = path; flag = Plain; from = None; body = text } ∷ files
+    else record { path = path; flag = Plain; from = None; body = text } ∷ f ∷ files
 
 -- the files after so many changesets: each writes one, and the others stay
 abbrev pub files_after : ℕ → ℕ → List NewFile
@@ -51,6 +51,7 @@ change_of made files = record {
   offset = pos 0;
   phase = Draft;
   bookmark = None;
+  branch = None;
   description = codes "c" ++ decimal made;
   files = files;
 }

@@ -93,6 +93,7 @@ fn with_text(mut files: Vec<NewFile>, path: Bytes, body: Bytes) -> Result<Vec<Ne
     let file = NewFile {
         path,
         flag: Flag::Plain,
+        from: None,
         body,
     };
     if stands {
@@ -130,6 +131,7 @@ fn change_of(alloc: Global, made: u32, files: NewFiles) -> Result<NewChange, All
         offset: 0,
         phase: Phase::Draft,
         bookmark: None,
+        branch: None,
         description: description_of(alloc, made)?,
         files,
     })

@@ -59,6 +59,7 @@ fn files_of(alloc: Global, command: Command) -> NewFiles
 {
     match command {
         Command::Commit(change) => change.files,
+        Command::Import(_) => NewFiles::new(alloc),
         Command::Move { .. } => NewFiles::new(alloc),
         Command::Mark { .. } => NewFiles::new(alloc),
         Command::Unmark { .. } => NewFiles::new(alloc),

@@ -18,7 +18,7 @@ use Rattle.hgs_model.specs.Step.{Next, step}
 use Rattle.hgs_model.specs.Valid.{IsValid}
 use Rattle.hgs_model.specs.declared.command.Command.{Command}
 use Rattle.hgs_model.specs.declared.command.Refusal.{Refusal}
-use Rattle.hgs_pieces.specs.Made.{HasNoLocks}
+use Rattle.hgs_writer.specs.Made.{HasNoLocks}
 use Rattle.hgs_script.specs.Script.{IsShare}
 use Rattle.hgs_session.specs.Calls.{Beginning, Call, IsCall, Stage, name_of}
 use Rattle.hgs_stands.specs.Stands.{Stands}
@@ -54,6 +54,9 @@ unharmed r stepped u (outcomes.Collision path rev) le held a = (tt, (r, a))
 unharmed r stepped u (outcomes.NameClash path) le held a = (tt, (r, a))
 unharmed r stepped u outcomes.Memory le held a = (tt, (r, a))
 unharmed r stepped u (outcomes.InTheWay path) le held a = (tt, (r, a))
+unharmed r stepped u outcomes.UnknownPath le held a = (tt, (r, a.1))
+unharmed r stepped u (outcomes.Unsettled rev node) le held a = absurd a
+unharmed r stepped u (outcomes.CopyOver path) le held a = (tt, (r, a.1))
 
 module _ (x : Beginning) (shares : AllByRecursion IsShare x.jobs)
     (answered : (t : Tree) (r : Repo) (command : Command) (who : List ℕ) (answer : Answer) (done : List Op) → Stands t r → IsValid command → HasWhatItNeeds t r command → IsWritten who command t answer done → IsAnswered r (step r command) answer.outcome (after_all done t))

@@ -54,6 +54,9 @@ outcome-fails told (outcomes.NameClash path) = omega arith
 outcome-fails told (outcomes.NeedsForce rev) = omega arith
 outcome-fails told outcomes.Memory = omega arith
 outcome-fails told (outcomes.InTheWay path) = omega arith
+outcome-fails told outcomes.UnknownPath = omega arith
+outcome-fails told (outcomes.Unsettled rev node) = omega arith
+outcome-fails told (outcomes.CopyOver path) = omega arith
 
 outcome-faults : (o : Outcome) (p q : ℕ) → p ≤ q → q < greatest → (o ≡ outcomes.Fault → Rose p q) → p + one_if_faulted (status_of o) ≤ q
 outcome-faults (outcomes.Done rev node) p q le less rose = omega (arith, le)
@@ -70,6 +73,9 @@ outcome-faults (outcomes.NameClash path) p q le less rose = omega (arith, le)
 outcome-faults (outcomes.NeedsForce rev) p q le less rose = omega (arith, le)
 outcome-faults outcomes.Memory p q le less rose = omega (arith, le)
 outcome-faults (outcomes.InTheWay path) p q le less rose = omega (arith, le)
+outcome-faults outcomes.UnknownPath p q le less rose = omega (arith, le)
+outcome-faults (outcomes.Unsettled rev node) p q le less rose = omega (arith, le)
+outcome-faults (outcomes.CopyOver path) p q le less rose = omega (arith, le)
 
 abbrev pub failed-weighs : Call → ℕ
 failed-weighs c = one_if_failed (status_of c.answer.outcome)

@@ -12,6 +12,7 @@ use Rattle.hgs_legal.specs.LegalLog.{IsRun, Run, State, Turn, current, start_of,
 use Rattle.hgs_legal.specs.Numbers.{acknowledged_of, b_of, n_of, w_of}
 use Rattle.hgs_machine.specs.Carry.{tree_now}
 use Rattle.hgs_model.specs.Repo.{Repo}
+use Rattle.hgs_model.specs.Theorems.ValidLemmas.{asked-valid}
 use Rattle.hgs_model.specs.Valid.{IsValid}
 use Rattle.hgs_model.specs.declared.command.Command.{Command}
 use Rattle.hgs_script.specs.Script.{CanBeDone, IsShare}
@@ -19,11 +20,11 @@ use Rattle.hgs_script.specs.declared.job.Job.{Job}
 use Rattle.hgs_script.specs.declared.job.Job.TheVariants.{Change}
 use Rattle.hgs_session.specs.Calls.{Beginning, Call, IsCall, Stage, job_among, job_in, name_of, published_by, published_of, unsure_of, unsure_with}
 use Rattle.hgs_stands.specs.Stands.{Stands}
-use Rattle.hgs_turns.specs.Turns.{IsAtRest, LeadsAs, LeadsOn}
+use Rattle.hgs_writer.specs.Turns.{IsAtRest, LeadsAs, LeadsOn}
 use Rattle.hgs_model.specs.Step.{step}
 use Rattle.hgs_answers.specs.declared.outcome.Outcome.{Outcome}
 use Rattle.hgs_answers.specs.declared.outcome.Outcome.TheVariants.{Abandoned, LockHeld}
-use Rattle.hgs_pieces.specs.Made.{HasNoLocks}
+use Rattle.hgs_writer.specs.Made.{HasNoLocks}
 use Rattle.hgs_writer.specs.Alone.{HasWhatItNeeds, IsAnswered, IsBarred, IsOutcomeOf, ReadsWithin}
 use Rattle.hgs_writer.specs.Limits.{LoadsWithin}
 use Rattle.hgs_writer.specs.Written.{IsWritten, IsWrittenFor}
@@ -67,7 +68,7 @@ job-valid jobs worker job command shares e = by (slice_get jobs worker) refl e
       where
         nowhere : {Y : Type 0} {y : Y} → ◌≡◌ {A = Option Y} None (Some y) → ⊥
         nowhere e = cc
-    by (Some mine) is e = each-at CanBeDone mine job (Change command) (each-at IsShare jobs worker mine shares is).each e
+    by (Some mine) is e = asked-valid command (each-at CanBeDone mine job (Change command) (each-at IsShare jobs worker mine shares is).each e)
 
 -- ---- what the session's lists say of one call more
 

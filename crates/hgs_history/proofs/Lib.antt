@@ -10,3 +10,5 @@ pub mod Histories
 pub mod Working
 pub mod Kept
 pub mod SampleLemmas
+pub mod Texts
+pub mod Questions

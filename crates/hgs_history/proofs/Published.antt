@@ -12,7 +12,7 @@ use Rattle.hgs_script.specs.declared.job.Job.{Job}
 use Rattle.hgs_script.specs.declared.job.Job.TheVariants.{Change}
 use Rattle.hgs_script.specs.declared.result.PublishedJob.{PublishedJob}
 use Rattle.hgs_session.specs.Calls.{entry_of, is_published, is_unsure, job_in, name_of}
-use Rattle.hgs_turns.specs.Turns.{IsTurnOf, LeadsAs, LeadsOn, Order}
+use Rattle.hgs_writer.specs.Turns.{IsTurnOf, LeadsAs, LeadsOn, Order}
 use Rattle.hgs_writer.specs.Alone.{IsBarred}
 use Rattle.hgs_history.specs.History.{ArePublished, AreTurnsOf, IsTurnOfJob, MayBeTurnOf, is_done}
 

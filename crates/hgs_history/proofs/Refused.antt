@@ -25,12 +25,16 @@ as-written who command t answer _ _ (has_plan planned locking carrying done lock
 
 pub refused-by : (r : Repo) (stepped : Result Next Refusal) (outcome : Outcome) (u : Tree) → IsAnswered r stepped outcome u → IsRefusedBy stepped outcome
 refused-by r stepped outcomes.UnknownRevision u a = a.0
+refused-by r stepped outcomes.UnknownPath u a = a.0
+refused-by r stepped (outcomes.CopyOver path) u a = a.0
 refused-by r stepped (outcomes.NeedsForce rev) u a = a.0
 refused-by r stepped (outcomes.NothingChanged rev) u a = a.0
 refused-by r stepped outcome u a = tt
 
 pub barred-by : (stepped : Result Next Refusal) (outcome : Outcome) → IsBarred outcome → IsRefusedBy stepped outcome
 barred-by stepped outcomes.UnknownRevision b = absurd b
+barred-by stepped outcomes.UnknownPath b = absurd b
+barred-by stepped (outcomes.CopyOver path) b = absurd b
 barred-by stepped (outcomes.NeedsForce rev) b = absurd b
 barred-by stepped (outcomes.NothingChanged rev) b = absurd b
 barred-by stepped outcome b = tt

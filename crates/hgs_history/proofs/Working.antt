@@ -2,7 +2,7 @@
 use Rattle.std.proofs.Common.{◌≡◌, ◌⊎◌, ℕ, List, [], ◌∷◌, ◌++◌, refl, sym, ◌∙◌, ap, subst, inl, inr}
 use Rattle.std.specs.Prelude.{IfSome, None, Option, Some}
 use Rattle.std.specs.List.{FoldsTo}
-use Rattle.hgs_asked.specs.Beside.{IsAnsweredOf, IsKnown, IsNotLoaded}
+use Rattle.hgs_history.specs.Beside.{IsAnsweredOf, IsKnown, IsNotLoaded}
 use Rattle.hgs_bytes.specs.Bytes.{IsPrefixOf}
 use Rattle.hgs_files.specs.Reads.{Grows, Rose}
 use Rattle.hgs_files.specs.Tree.{Tree}

@@ -2,7 +2,7 @@
 use Rattle.std.specs.Prelude.{◌≡◌, ◌⊎◌, ℕ, Bool, true, false, List, [], ◌∷◌, ◌++◌, Option, Some, None, Result, Err, fold}
 use Rattle.std.specs.List.{FoldsTo}
 use Rattle.hgs_answers.specs.declared.outcome.Outcome.{Outcome}
-use Rattle.hgs_answers.specs.declared.outcome.Outcome.TheVariants.{Abandoned, Done, LockHeld, NeedsForce, NothingChanged, UnknownRevision}
+use Rattle.hgs_answers.specs.declared.outcome.Outcome.TheVariants.{Abandoned, CopyOver, Done, LockHeld, NeedsForce, NothingChanged, UnknownPath, UnknownRevision}
 use Rattle.hgs_files.specs.declared.op.Op.{Op}
 use Rattle.hgs_files.specs.Tree.{Tree}
 use Rattle.hgs_journal.specs.Names.{journal_path}
@@ -19,7 +19,7 @@ use Rattle.hgs_script.specs.declared.job.Job.TheVariants.{Change}
 use Rattle.hgs_script.specs.declared.result.PublishedJob.{PublishedJob}
 use Rattle.hgs_session.specs.Calls.{AreInOrder, Beginning, Call, IsCall, Makes, Stage, job_in, name_of, published_of, unsure_of}
 use Rattle.hgs_stands.specs.Stands.{Stands}
-use Rattle.hgs_pieces.specs.Made.{HasNoLocks}
+use Rattle.hgs_writer.specs.Made.{HasNoLocks}
 use Rattle.hgs_writer.specs.Alone.{HasWhatItNeeds, IsBarred, IsOutcomeOf, ReadsWithin}
 use Rattle.hgs_writer.specs.Limits.{LoadsWithin}
 use Rattle.hgs_writer.specs.Written.{IsWrittenFor}
@@ -77,6 +77,8 @@ pub record IsBehind (jobs : List (List Job)) (calls : List Call) (s : State) : T
 -- where a call is refused as its command is, that is what the repository makes of the command
 abbrev pub IsRefusedBy : Result Next Refusal → Outcome → Type 0
 IsRefusedBy stepped UnknownRevision = stepped ≡ Err refusals.UnknownRevision
+IsRefusedBy stepped UnknownPath = stepped ≡ Err refusals.UnknownPath
+IsRefusedBy stepped (CopyOver path) = stepped ≡ Err (refusals.CopyOver path)
 IsRefusedBy stepped (NeedsForce rev) = stepped ≡ Err (refusals.NeedsForce rev)
 IsRefusedBy stepped (NothingChanged rev) = stepped ≡ Err (refusals.NothingChanged rev)
 IsRefusedBy stepped outcome = Unit {0}

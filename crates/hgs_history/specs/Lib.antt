@@ -3,3 +3,4 @@ pub mod Once
 pub mod Workers
 pub mod Kept
 pub mod Samples
+pub mod Beside

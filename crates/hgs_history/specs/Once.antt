@@ -7,7 +7,7 @@ use Rattle.hgs_files.specs.Tree.{Tree, after_all}
 use Rattle.hgs_index.specs.declared.node.Node.{Node}
 use Rattle.hgs_model.specs.Repo.{Repo}
 use Rattle.hgs_model.specs.declared.command.Command.{Command}
-use Rattle.hgs_pieces.specs.Made.{HasNoLocks}
+use Rattle.hgs_writer.specs.Made.{HasNoLocks}
 use Rattle.hgs_script.specs.declared.job.Job.{Job}
 use Rattle.hgs_script.specs.declared.job.Job.TheVariants.{Ask, Change}
 use Rattle.hgs_script.specs.declared.job.Question.{Question}

@@ -1,6 +1,6 @@
 -- How a worker's jobs are answered, one after another, while other workers write.
 use Rattle.std.specs.Prelude.{◌≡◌, ℕ, List, Some, IfSome}
-use Rattle.hgs_asked.specs.Beside.{IsAnsweredOf, IsKnown, IsNotLoaded}
+use Rattle.hgs_history.specs.Beside.{IsAnsweredOf, IsKnown, IsNotLoaded}
 use Rattle.hgs_files.specs.Reads.{Rose}
 use Rattle.hgs_files.specs.declared.op.Op.{Op}
 use Rattle.hgs_headline.specs.WritersLog.{WritersLog}

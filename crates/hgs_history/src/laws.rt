@@ -2,7 +2,7 @@
 //! proof takes.
 ghost use Rattle.std.specs.Prelude.{◌≡◌, ◌≤◌, ◌<◌, ◌+◌, ◌++◌, ◌∷◌, ◌==◌, ℕ, List, [], Option, Some, filter, length, true};
 ghost use Rattle.std.specs.List.{AllByRecursion, FoldsTo};
-ghost use Rattle.hgs_asked.specs.Beside.{AreNoOlder};
+ghost use Rattle.hgs_history.specs.Beside.{AreNoOlder};
 ghost use Rattle.hgs_bytes.specs.Bytes.{IsPrefixOf};
 ghost use Rattle.hgs_files.specs.Reads.{greatest};
 ghost use Rattle.hgs_files.specs.Tree.{Tree, after_all};
@@ -26,13 +26,13 @@ ghost use Rattle.hgs_history.specs.Kept.{KeepsHistory};
 ghost use Rattle.hgs_history.specs.Once.{AreCallsFrom, IsCleanAt, IsListed, IsUnharmed, calls_by, how_many, one_if_failed, one_if_faulted};
 ghost use Rattle.hgs_history.specs.Workers.{GoesBeside, Knows};
 
-use hgs_asked::laws::questions_beside_writers;
+use crate::question_laws::questions_beside_writers;
 use hgs_legal::laws::numbers_rise;
-use hgs_turns::laws::{
+use hgs_writer::laws::{calls_clean_up, calls_come_to_steps, calls_leave_what_they_answer};
+use hgs_writer::turn_laws::{
     calls_beside_a_journal_publish_nothing, calls_publish_their_own_turns,
     states_at_rest_have_one_number, states_at_rest_stand,
 };
-use hgs_writer::laws::{calls_clean_up, calls_come_to_steps, calls_leave_what_they_answer};
 
 /// From a tree that stands for a repository the log of a session's calls is one that writers make. It publishes the transactions
 /// of the jobs that these calls list, in that order, each by the job's own command and with its name in the locks and the

@@ -1,12 +1,11 @@
 //! A reading end loads a repository while the writing end commits: between two of its reads, and where the commit has stopped or
 //! failed at each of its calls.
 ghost use Rattle.std.specs.Prelude.{IfOk};
-ghost use Rattle.hgs_model.specs.Valid.{IsValid};
+ghost use Rattle.hgs_model.specs.Valid.{CanBeAsked};
 
-use crate::ends::{Free, Pair, two_ends};
+use crate::ends::{Free, Pair, put, two_ends};
+use crate::given::given;
 use hgs_answers::outcome::{Outcome, Published};
-use hgs_files::files::Files;
-use hgs_files::path::StorePath;
 use hgs_hub::reader::HubReader;
 use hgs_hub::writer::HubWriter;
 use hgs_input::laws::read_records_are_records;
@@ -37,7 +36,7 @@ const CALLS: u64 = 100;
 const WHO: &[u8] = b"me";
 
 fn commit_of(alloc: Global, record: &[u8]) -> Result<Command, Fail>
-    ensures { IfOk result (λ command. IsValid command) }
+    ensures { IfOk result (λ command. CanBeAsked command) }
 {
     read_records_are_records();
     match read_commit(alloc, record) {
@@ -49,17 +48,20 @@ fn commit_of(alloc: Global, record: &[u8]) -> Result<Command, Fail>
 /// The files of a repository with the first changeset, which is public.
 fn committed(alloc: Global) -> Result<MemFiles, Fail> {
     let mut files = MemFiles::new(alloc)?;
-    files.put(&StorePath::new(alloc, b"requires")?, REQUIRES)?;
+    put(alloc, &mut files, b"requires", REQUIRES)?;
     let first = commit_of(alloc, FIRST)?;
-    match write(alloc, &mut files, &first, WHO).outcome {
-        Outcome::Done { .. } => Ok(files),
-        _ => Err(Fail::new("no first changeset")),
+    let answer = write(alloc, &mut files, &first, WHO);
+    if matches!(answer.outcome, Outcome::Done { .. }) {
+        Ok(files)
+    } else {
+        Err(Fail::new("no first changeset"))
     }
 }
 
 /// How many changesets are loaded, of which the first is public.
 fn loaded_with(alloc: Global, r: &mut HubReader<Free>, machine: LoadMachine) -> Result<u32, Fail> {
-    let session = Session::of(alloc, load_with(alloc, r, machine)?)?;
+    let loaded = given(load_with(alloc, r, machine))?;
+    let session = given(Session::of(alloc, loaded))?;
     if session.len() == 0 || session.phase(0) != Phase::Public {
         return Err(Fail::new("the first changeset is not public"));
     }
@@ -73,14 +75,16 @@ fn loaded_beside<T: Wait + Drop + Send>(
     r: &mut HubReader<Free>,
     reads: u32,
 ) -> Result<u32, Fail> {
-    let mut machine = LoadMachine::open(alloc)?;
+    let mut machine = given(LoadMachine::open(alloc))?;
     for _ in 0..reads {
-        feed_next(alloc, r, &mut machine)?;
+        given(feed_next(alloc, r, &mut machine))?;
     }
     let second = commit_of(alloc, SECOND)?;
-    match write(alloc, w, &second, WHO).outcome {
-        Outcome::Done { rev: 1, .. } => loaded_with(alloc, r, machine),
-        _ => Err(Fail::new("no second changeset")),
+    let answer = write(alloc, w, &second, WHO);
+    if matches!(answer.outcome, Outcome::Done { rev: 1, .. }) {
+        loaded_with(alloc, r, machine)
+    } else {
+        Err(Fail::new("no second changeset"))
     }
 }
 
@@ -89,8 +93,10 @@ fn loaded_beside<T: Wait + Drop + Send>(
 fn a_commit_between_two_reads(rt: HostRuntime) -> Result<(), Fail> {
     let alloc = rt.alloc();
     for (reads, loaded) in [(0, 2), (1, 2), (2, 2), (3, 2), (4, 1), (5, 1)] {
-        let Pair { mut w, mut r } = two_ends(&rt, committed(alloc)?)?;
-        assert_eq!(rt; loaded_beside(alloc, &mut w, &mut r, reads)?, loaded);
+        let files = committed(alloc)?;
+        let Pair { mut w, mut r } = two_ends(&rt, files)?;
+        let count = loaded_beside(alloc, &mut w, &mut r, reads)?;
+        assert_eq!(rt; count, loaded);
     }
     Ok(())
 }
@@ -112,9 +118,10 @@ fn commit_and_load<T: Wait + Drop + Send>(
 ) -> Result<(Outcome, u32), Fail> {
     let Pair { mut w, mut r } = two_ends(rt, files)?;
     let second = commit_of(alloc, SECOND)?;
-    let outcome = write(alloc, &mut w, &second, WHO).outcome;
-    let machine = LoadMachine::open(alloc)?;
-    Ok((outcome, loaded_with(alloc, &mut r, machine)?))
+    let answer = write(alloc, &mut w, &second, WHO);
+    let machine = given(LoadMachine::open(alloc))?;
+    let loaded = loaded_with(alloc, &mut r, machine)?;
+    Ok((answer.outcome, loaded))
 }
 
 #[test]
@@ -123,7 +130,7 @@ fn each_call_of_a_commit_fails_beside_a_reader(rt: HostRuntime) -> Result<(), Fa
     for call in 0..CALLS {
         for bytes in [0, 40, 64] {
             let mut files = committed(alloc)?;
-            files.fail(files.calls().saturating_add(call), bytes)?;
+            given(files.fail(files.calls().saturating_add(call), bytes))?;
             let (outcome, loaded) = commit_and_load(&rt, alloc, files)?;
             assert_eq!(rt; count_behind(&outcome), Some(loaded));
         }

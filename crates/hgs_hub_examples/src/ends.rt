@@ -5,6 +5,7 @@ ghost use Rattle.hgs_files.specs.Tree.{Tree};
 ghost use Rattle.hgs_hub.specs.Reader.{ties_by};
 ghost use Rattle.hgs_hub.specs.Writer.{ties_at};
 
+use crate::given::given;
 use hgs_files::ends::{Follows, Leads};
 use hgs_files::files::{Created, FileFault, Files, Reads};
 use hgs_files::path::StorePath;
@@ -29,6 +30,23 @@ impl Protocol for Free {
     ghost legal_front = { λ start log more h. tt };
 
     ghost legal_piece = { λ start log left op piece p h. tt };
+}
+
+/// The path of this name.
+pub(crate) fn store_path(alloc: Global, name: &[u8]) -> Result<StorePath, Fail> {
+    given(StorePath::new(alloc, name))
+}
+
+/// Gives a file these bytes alone.
+pub(crate) fn put(
+    alloc: Global,
+    files: &mut MemFiles,
+    name: &[u8],
+    bytes: &[u8],
+) -> Result<(), Fail> {
+    let path = store_path(alloc, name)?;
+    given(files.put(&path, bytes))?;
+    Ok(())
 }
 
 /// A writing end and a reading end of one start.
@@ -88,76 +106,92 @@ fn renamed<F: Files>(files: &mut F, from: &StorePath, to: &StorePath) -> Result<
 #[test]
 fn what_was_told_is_seen(rt: HostRuntime) -> Result<(), Fail> {
     let alloc = rt.alloc();
-    let a = StorePath::new(alloc, b"a")?;
-    let mut ends = two_ends(&rt, MemFiles::new(alloc)?)?;
-    assert_eq!(rt; ends.r.size(&a), Ok(None));
-    ends.w.append(&a, b"ab")?;
+    let a = store_path(alloc, b"a")?;
+    let files = MemFiles::new(alloc)?;
+    let mut ends = two_ends(&rt, files)?;
+    let size = ends.r.size(&a);
+    assert_eq!(rt; size, Ok(None));
+    given(ends.w.append(&a, b"ab"))?;
     let first = ends.w.front();
-    ends.w.append(&a, b"cd")?;
+    given(ends.w.append(&a, b"cd"))?;
     let second = ends.w.front();
     ends.r.learn(second);
     ends.r.learn(first);
-    assert_eq!(rt;
-        seen(&mut ends.r, alloc, &a)?.as_slice(),
-        b"abcd".as_slice()
-    );
-    assert_eq!(rt; ends.w.size(&a), Ok(Some(4)));
+    let text = given(seen(&mut ends.r, alloc, &a))?;
+    assert_eq!(rt; text.as_slice(), b"abcd".as_slice());
+    let size = ends.w.size(&a);
+    assert_eq!(rt; size, Ok(Some(4)));
     let mut files = at_rest(alloc, ends)?;
-    assert_eq!(rt; files.size(&a), Ok(Some(4)));
+    let size = files.size(&a);
+    assert_eq!(rt; size, Ok(Some(4)));
     Ok(())
 }
 
 #[test]
 fn a_refused_call_changes_nothing(rt: HostRuntime) -> Result<(), Fail> {
     let alloc = rt.alloc();
-    let a = StorePath::new(alloc, b"a")?;
-    let b = StorePath::new(alloc, b"b")?;
+    let a = store_path(alloc, b"a")?;
+    let b = store_path(alloc, b"b")?;
     let mut files = MemFiles::new(alloc)?;
-    files.put(&a, b"ab")?;
-    files.fail(1, 0)?;
-    files.fail(2, 0)?;
-    files.fail(3, 1)?;
-    files.fail(4, 0)?;
+    given(files.put(&a, b"ab"))?;
+    given(files.fail(1, 0))?;
+    given(files.fail(2, 0))?;
+    given(files.fail(3, 1))?;
+    given(files.fail(4, 0))?;
     let mut ends = two_ends(&rt, files)?;
-    assert_eq!(rt; ends.w.append(&a, b"cd"), Err(FileFault::Failed));
-    assert_eq!(rt; renamed(&mut ends.w, &a, &b), Err(FileFault::Failed));
-    assert_eq!(rt; seen(&mut ends.r, alloc, &a)?.as_slice(), b"ab".as_slice());
-    assert_eq!(rt; ends.w.append(&a, b"cd"), Err(FileFault::Failed));
-    assert_eq!(rt; seen(&mut ends.r, alloc, &a)?.as_slice(), b"abc".as_slice());
-    assert_eq!(rt; ends.w.create_new(&b, b"x"), Err(FileFault::Failed));
-    assert_eq!(rt; ends.w.create_new(&a, b"x"), Ok(Created::There));
-    assert_eq!(rt; ends.r.size(&b), Ok(None));
+    let appended = ends.w.append(&a, b"cd");
+    let name = renamed(&mut ends.w, &a, &b);
+    let before = given(seen(&mut ends.r, alloc, &a))?;
+    assert!(rt;
+        appended == Err(FileFault::Failed)
+            && name == Err(FileFault::Failed)
+            && before.as_slice() == b"ab".as_slice()
+    );
+    let appended = ends.w.append(&a, b"cd");
+    let after = given(seen(&mut ends.r, alloc, &a))?;
+    assert!(rt; appended == Err(FileFault::Failed) && after.as_slice() == b"abc".as_slice());
+    let created = ends.w.create_new(&b, b"x");
+    let stands = ends.w.create_new(&a, b"x");
+    let size = ends.r.size(&b);
+    assert!(rt;
+        created == Err(FileFault::Failed) && stands == Ok(Created::There) && size == Ok(None)
+    );
     Ok(())
 }
 
 #[test]
 fn each_call_does_what_it_says(rt: HostRuntime) -> Result<(), Fail> {
     let alloc = rt.alloc();
-    let a = StorePath::new(alloc, b"a")?;
-    let b = StorePath::new(alloc, b"b")?;
-    let mut ends = two_ends(&rt, MemFiles::new(alloc)?)?;
-    assert_eq!(rt; ends.w.create_new(&a, b"abcd"), Ok(Created::Made));
-    ends.w.cut(&a, 3)?;
-    renamed(&mut ends.w, &a, &b)?;
-    ends.w.put(&a, b"x")?;
-    ends.w.sync(&a)?;
-    ends.w.settle()?;
-    assert_eq!(rt; seen(&mut ends.r, alloc, &a)?.as_slice(), b"x".as_slice());
-    assert_eq!(rt; seen(&mut ends.r, alloc, &b)?.as_slice(), b"abc".as_slice());
-    ends.w.remove(&a)?;
-    assert_eq!(rt; ends.r.size(&a), Ok(None));
+    let a = store_path(alloc, b"a")?;
+    let b = store_path(alloc, b"b")?;
+    let files = MemFiles::new(alloc)?;
+    let mut ends = two_ends(&rt, files)?;
+    let created = ends.w.create_new(&a, b"abcd");
+    assert_eq!(rt; created, Ok(Created::Made));
+    given(ends.w.cut(&a, 3))?;
+    given(renamed(&mut ends.w, &a, &b))?;
+    given(ends.w.put(&a, b"x"))?;
+    given(ends.w.sync(&a))?;
+    given(ends.w.settle())?;
+    let first = given(seen(&mut ends.r, alloc, &a))?;
+    let second = given(seen(&mut ends.r, alloc, &b))?;
+    assert!(rt; first.as_slice() == b"x".as_slice() && second.as_slice() == b"abc".as_slice());
+    given(ends.w.remove(&a))?;
+    let size = ends.r.size(&a);
+    assert_eq!(rt; size, Ok(None));
     Ok(())
 }
 
 #[test]
 fn a_yard_keeps_its_files(rt: HostRuntime) -> Result<(), Fail> {
-    let a = StorePath::new(rt.alloc(), b"a")?;
+    let a = store_path(rt.alloc(), b"a")?;
     let mut files = MemFiles::new(rt.alloc())?;
-    files.put(&a, b"ab")?;
+    given(files.put(&a, b"ab"))?;
     let hub: Hub<Free, &HostRuntime> = Hub::new(&rt, files);
     let (files, rest) = hub.alone();
     let hub: Hub<Free, &HostRuntime> = Hub::again(files, rest);
     let (mut files, _) = hub.alone();
-    assert_eq!(rt; files.size(&a), Ok(Some(2)));
+    let size = files.size(&a);
+    assert_eq!(rt; size, Ok(Some(2)));
     Ok(())
 }

@@ -6,6 +6,8 @@ mod beside;
 #[cfg(test)]
 mod ends;
 #[cfg(test)]
+mod given;
+#[cfg(test)]
 mod race;
 #[cfg(test)]
 mod sessions;

@@ -4,7 +4,8 @@ ghost use Rattle.std.specs.Thread.{IsSync};
 ghost use Rattle.hgs_files.specs.declared.op.Op.{Op};
 ghost use Rattle.hgs_files.specs.Tree.{Tree};
 
-use crate::ends::Free;
+use crate::ends::{Free, store_path};
+use crate::given::given;
 use hgs_files::files::{Files, Reads};
 use hgs_files::path::StorePath;
 use hgs_files::yard::Yard;
@@ -90,9 +91,9 @@ fn race<W: Files + Send, F: Reads + Send, R: Threads + Sync>(
 #[test]
 fn looks_beside_a_writer_never_go_back(rt: HostRuntime) -> Result<(), Fail> {
     let alloc = rt.alloc();
-    let path = StorePath::new(alloc, b"a")?;
+    let path = store_path(alloc, b"a")?;
     let mut files = MemFiles::new(alloc)?;
-    files.put(&path, b"")?;
+    given(files.put(&path, b""))?;
     let hub: Hub<Free, HostRuntime> = Hub::new(rt, files);
     let Ok((mut w, mut rs)) = hub.start(2) else {
         panic!(rt; "no memory");
@@ -101,8 +102,8 @@ fn looks_beside_a_writer_never_go_back(rt: HostRuntime) -> Result<(), Fail> {
         panic!(rt; "no reader");
     };
     let (fine, wrong) = race(&rt, alloc, &path, &mut w, &mut one, &mut two);
-    assert!(rt; fine);
-    assert_eq!(rt; wrong, (0, 0));
-    assert_eq!(rt; w.size(&path), Ok(Some(TIMES)));
+    assert!(rt; fine && wrong == (0, 0));
+    let size = w.size(&path);
+    assert_eq!(rt; size, Ok(Some(TIMES)));
     Ok(())
 }

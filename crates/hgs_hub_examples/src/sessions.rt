@@ -3,9 +3,7 @@
 ghost use Rattle.std.specs.Prelude.{IfOk};
 ghost use Rattle.hgs_script.specs.Script.{CanBeRun};
 
-use crate::ends::Free;
-use hgs_files::files::Files;
-use hgs_files::path::StorePath;
+use crate::ends::{Free, put};
 use hgs_hub::hub::Hub;
 use hgs_mem::mem::MemFiles;
 use hgs_script::laws::read_scripts_can_be_run;
@@ -101,7 +99,7 @@ fn script_of(alloc: Global, text: &[u8]) -> Result<Script, Fail>
 // The files of a new repository.
 fn new_repository(alloc: Global) -> Result<MemFiles, Fail> {
     let mut files = MemFiles::new(alloc)?;
-    files.put(&StorePath::new(alloc, b"requires")?, REQUIRES)?;
+    put(alloc, &mut files, b"requires", REQUIRES)?;
     Ok(files)
 }
 
@@ -183,7 +181,8 @@ fn workers_run_beside_each_other(rt: HostRuntime) -> Result<(), Fail> {
     for (text, waits, wanted) in runs {
         let gate = new_gate(waits);
         let script = script_of(alloc, text)?;
-        let hub: Hub<Free, HostRuntime> = Hub::new(rt, new_repository(alloc)?);
+        let files = new_repository(alloc)?;
+        let hub: Hub<Free, HostRuntime> = Hub::new(rt, files);
         let SessionEnd { left: _, result } = session(&rt, alloc, hub, &script, &gate);
         let Ok(told) = result else {
             panic!(rt; "no result");

@@ -1,6 +1,6 @@
 -- What was read stands in the bytes.
-use Rattle.std.proofs.Common.{◌≡◌, ℕ, suc, ◌+◌, ◌<◌, ◌≤◌, ◌^◌, Bool, true, false, ◌&&◌, ◌||◌, List, [], ◌∷◌, ◌++◌, length, take, drop, get_or, Option, Some, None, Result, Ok, Err, refl, sym, ◌∙◌, ap, subst, arith, append_assoc, min, codes, drop-cons, length-append}
-use Rattle.std.specs.Prelude.{◌==◌, not, nat_le, nat_lt, slice_index, decimal, if◌then◌else◌}
+use Rattle.std.proofs.Common.{◌≡◌, ℕ, suc, ◌+◌, ◌-◌, ◌<◌, ◌≤◌, ◌^◌, Bool, true, false, ◌&&◌, ◌||◌, List, [], ◌∷◌, ◌++◌, length, take, drop, get_or, Option, Some, None, Result, Ok, Err, refl, sym, ◌∙◌, ap, subst, arith, append_assoc, min, codes, drop-cons, length-append}
+use Rattle.std.specs.Prelude.{◌==◌, not, nat_le, nat_lt, slice_get, slice_index, decimal, is_some, if◌then◌else◌, IfSome}
 use Rattle.std.specs.List.{list_all}
 use Rattle.std.specs.Str.Parse.{AllDigits, digits_value}
 use Rattle.std.proofs.lemmas.Bool.{leb-false}
@@ -8,7 +8,7 @@ use Rattle.std.proofs.lemmas.Fmt.{decimal-digits_value}
 use Rattle.std.proofs.lemmas.Str.Parse.{tells_digits, numerals_by_value}
 use Rattle.std.proofs.lemmas.List.{take-append-drop, length-take}
 use Rattle.hgs_bytes.specs.Bytes.{same, begins_with}
-use Rattle.hgs_bytes.specs.Text.{Lacks, line, split, ascends}
+use Rattle.hgs_bytes.specs.Text.{Lacks, line, line as line_of, split, ascends}
 use Rattle.hgs_bytes.specs.Theorems.ByteLemmas.{same-eq}
 use Rattle.hgs_bytes.specs.Theorems.TextLemmas.{split_parts, number_is}
 use Rattle.hgs_index.specs.Theorems.HeaderText.{line_then}
@@ -18,11 +18,11 @@ use Rattle.hgs_index.specs.declared.kinds.Which.TheVariants.{FileText, Tree}
 use Rattle.hgs_index.specs.MarkName.{is_digit}
 use Rattle.hgs_index.specs.TrackedPath.{is_tracked}
 use Rattle.hgs_model.specs.declared.files.NewFile.{NewFile}
-use Rattle.hgs_model.specs.Valid.{has_directory, new_paths}
+use Rattle.hgs_model.specs.Valid.{ends_in, has_directory, is_source, new_paths}
 use Rattle.hgs_input.specs.declared.fault.InputFault.{InputFault}
 use Rattle.hgs_input.specs.declared.fault.InputFault.TheVariants.{Limit}
-use Rattle.hgs_input.specs.Record.{flag_sign, file_text}
-use Rattle.hgs_input.specs.Read.{Rest, ◌>>=◌, place, bad_at, fault_at, line_or_cut, next_line, required_at, required, optional_at, optional, counted, behind, and_then, where_true, is_number, number_up_to, FileLine, flag_of, file_of_parts, file_of, most_file, most_files, fits_behind, allowed, file_with, file_behind, next_file}
+use Rattle.hgs_input.specs.Record.{flag_sign, copyfrom_text, file_text}
+use Rattle.hgs_input.specs.Read.{Rest, Reading, ◌>>=◌, place, bad_at, fault_at, line_or_cut, next_line, required_at, required, optional_at, optional, counted, behind, and_then, where_true, is_number, number_up_to, copyfrom_of, FileLine, flag_of, file_of_parts, file_of, most_file, most_files, fits_behind, allowed, file_with, file_line_from, file_behind, next_file}
 use Rattle.hgs_input.specs.View.{IsTree}
 use Rattle.hgs_input.proofs.NumberLemmas.{digit_in}
 use Rattle.hgs_input.proofs.PathLemmas.{begins_so}
@@ -231,11 +231,60 @@ allowed_ok at files f g e = by (fits_behind (new_paths files) f.path) (nat_lt mo
     by true false true a b c e = cc
     by true false false a b c e = (ok_is f g e, record { fits = a; small = (let k = leb-false (suc most_file) f.size b in omega (arith, k)); few = leb-false most_files (length files) c })
 
+-- ---- a source
+
+pub last_ends : (byte : ℕ) (text : List ℕ) (last : ℕ) → Some last ≡ slice_get text (length text - 1) → (last == byte) ≡ ends_in byte text
+last_ends byte [] last e = cc
+last_ends byte (b ∷ []) last e = ap (λ x. x == byte) (some_is last b e)
+last_ends byte (b ∷ c ∷ text) last e =
+    let next : suc (suc (length text)) - 1 ≡ suc (suc (length text) - 1) = omega arith in
+    last_ends byte (c ∷ text) last (e ∙ ap (slice_get (b ∷ c ∷ text)) next)
+
+-- the line of a source, where there is one, and what is left behind it
+pub record SourceFound (r : Rest) (from : Option (List ℕ)) (rest : Rest) : Type 0 where
+  pub is : r.bytes ≡ copyfrom_text from ++ rest.bytes
+  pub whole : rest.whole ≡ r.whole
+  pub valid : IfSome from (λ path. is_source path ≡ true)
+
+source_found : (r : Rest) (from : Option (List ℕ)) (rest : Rest) → optional copyfrom_of r ≡ Ok (from, rest) → SourceFound r from rest
+source_found r None rest e =
+    let k = optional_none copyfrom_of r rest e in
+    record { is = ap (λ (q : Rest). q.bytes) k; whole = ap (λ (q : Rest). q.whole) (sym k); valid = tt }
+source_found r (Some path) rest e =
+    let f = optional_some copyfrom_of r path rest e in
+    let a = and_then_some (behind (codes "copyfrom ") f.text) (λ path. where_true (is_source path) path) path f.says in
+    let w = where_some (is_source a.value) a.value path a.gives in
+    let text : f.text ≡ codes "copyfrom " ++ path = behind_some (codes "copyfrom ") f.text a.value a.is ∙ ap (λ t. codes "copyfrom " ++ t) w.1 in
+    record {
+      is = f.found.is ∙ ap (λ t. t ++ 10 ∷ rest.bytes) text ∙ sym (line_then (codes "copyfrom " ++ path) rest.bytes);
+      whole = f.found.whole;
+      valid = ap is_source (sym w.1) ∙ w.0;
+    }
+
+-- ---- the line of a file
+
+file_line_found : (wanted : Bool) (r : Rest) (line : FileLine) (rest : Rest) → file_line_from wanted r ≡ Ok (Some line, rest) → Formed file_of r line rest
+file_line_found false r line rest e = optional_some file_of r line rest e
+file_line_found true r line rest e =
+    let a = bound (required file_of r) (λ f. Ok (Some f.0, f.1)) (Some line, rest) e in
+    let same = ok_is {A = Option FileLine × Rest} (Some a.value.0, a.value.1) (Some line, rest) a.gives in
+    let is : a.value.0 ≡ line = some_is a.value.0 line (ap (λ q. q.0) same) in
+    let found : Formed file_of r a.value.0 a.value.1 = required_found file_of r a.value a.is in
+    subst (Formed file_of r line) (ap (λ q. q.1) same) (subst (λ (l : FileLine). Formed file_of r l a.value.1) is found)
+
+file_line_none : (wanted : Bool) (r rest : Rest) → file_line_from wanted r ≡ Ok (None, rest) → (wanted ≡ false) × (r ≡ rest)
+file_line_none false r rest e = (refl, optional_none file_of r rest e)
+file_line_none true r rest e =
+    let a = bound (required file_of r) (λ f. Ok (Some f.0, f.1)) (None, rest) e in
+    let d : ◌≡◌ {A = Option FileLine} (Some a.value.0) None = ap (λ q. q.0) (ok_is {A = Option FileLine × Rest} (Some a.value.0, a.value.1) (None, rest) a.gives) in
+    absurd (apart a.value.0 (sym d))
+
 -- ---- a file
 
 pub record FileFound (files : List NewFile) (r : Rest) (f : NewFile) (rest : Rest) : Type 0 where
   pub is : r.bytes ≡ file_text f ++ rest.bytes
   pub whole : rest.whole ≡ r.whole
+  pub source : IfSome f.from (λ path. is_source path ≡ true)
   pub tracked : is_tracked f.path ≡ true
   pub fits : fits_behind (new_paths files) f.path ≡ true
   pub small : length f.body ≤ most_file
@@ -244,42 +293,51 @@ pub record FileFound (files : List NewFile) (r : Rest) (f : NewFile) (rest : Res
 two_lines : (a b rest : List ℕ) → a ++ 10 ∷ (b ++ 10 ∷ rest) ≡ (line a ++ line b) ++ rest
 two_lines a b rest = sym (append_assoc (line a) (line b) rest ∙ line_then a (line b ++ rest) ∙ ap (λ t. a ++ 10 ∷ t) (line_then b rest))
 
-body_found : (files : List NewFile) (r mid : Rest) (line : FileLine) (p : List ℕ × Rest) → Formed file_of r line mid → Allowed files line → Counted line.size mid p.0 p.1 → FileFound files r (file_with line p.0) p.1
-body_found files r mid line p formed may body =
+body_found : (files : List NewFile) (r at mid : Rest) (from : Option (List ℕ)) (line : FileLine) (p : List ℕ × Rest) →
+    SourceFound r from at → Formed file_of at line mid → Allowed files line → Counted line.size mid p.0 p.1 → FileFound files r (file_with line from p.0) p.1
+body_found files r at mid from line p source formed may body =
     let said = file_said formed.text line formed.says in
     let digits : said.digits ≡ decimal line.size = number_found most_file said.digits line.size (omega arith) said.number may.small in
     let text : formed.text ≡ codes "file " ++ (flag_sign line.flag ++ 32 ∷ (decimal (length p.0) ++ 32 ∷ line.path)) =
     said.is ∙ ap (λ t. codes "file " ++ (flag_sign line.flag ++ 32 ∷ (t ++ 32 ∷ line.path))) (digits ∙ ap decimal (sym body.size)) in
     let b = body.size in
     let s = may.small in
+    let said_line = codes "file " ++ (flag_sign line.flag ++ 32 ∷ (decimal (length p.0) ++ 32 ∷ line.path)) in
+    let lines : at.bytes ≡ (line_of said_line ++ line_of p.0) ++ p.1.bytes =
+    formed.found.is ∙ ap (λ t. t ++ 10 ∷ mid.bytes) text ∙ ap (λ t. said_line ++ 10 ∷ t) body.is ∙ two_lines said_line p.0 p.1.bytes in
     record {
-      is = formed.found.is ∙ ap (λ t. t ++ 10 ∷ mid.bytes) text ∙ ap (λ t. (codes "file " ++ (flag_sign line.flag ++ 32 ∷ (decimal (length p.0) ++ 32 ∷ line.path))) ++ 10 ∷ t) body.is
-          ∙ two_lines (codes "file " ++ (flag_sign line.flag ++ 32 ∷ (decimal (length p.0) ++ 32 ∷ line.path))) p.0 p.1.bytes;
-      whole = body.whole ∙ formed.found.whole;
+      is = source.is ∙ ap (λ t. copyfrom_text from ++ t) lines ∙ sym (append_assoc (copyfrom_text from) (line_of said_line ++ line_of p.0) p.1.bytes);
+      whole = body.whole ∙ formed.found.whole ∙ source.whole;
+      source = source.valid;
       tracked = said.tracked;
       fits = may.fits;
       small = omega (arith, b, s);
       few = may.few;
     }
 
+-- what is read behind the line of a source, where there is one
+abbrev pub line_behind : List NewFile → Option (List ℕ) → Rest → Reading (Option NewFile)
+line_behind files from at = file_line_from (is_some from) at >>= λ line. file_behind (place at) files from line.0 line.1
+
 pub file_found : (files : List NewFile) (r rest : Rest) (f : NewFile) → next_file files r ≡ Ok (Some f, rest) → FileFound files r f rest
 file_found files r rest f e =
-    let a = bound (optional file_of r) (λ p. file_behind (place r) files p.0 p.1) (Some f, rest) e in
-    by a.value.0 a.value.1 a.is a.gives
+    let a = bound (optional copyfrom_of r) (λ from. line_behind files from.0 from.1) (Some f, rest) e in
+    let b = bound (file_line_from (is_some a.value.0) a.value.1) (λ line. file_behind (place a.value.1) files a.value.0 line.0 line.1) (Some f, rest) a.gives in
+    by a.value.0 a.value.1 (source_found r a.value.0 a.value.1 a.is) b.value.0 b.value.1 b.is b.gives
   where
-    by : (o : Option FileLine) (mid : Rest) → optional file_of r ≡ Ok (o, mid) → file_behind (place r) files o mid ≡ Ok (Some f, rest) → FileFound files r f rest
-    by None mid k e = let d : ◌≡◌ {A = Option NewFile} None (Some f) = ap (λ q. q.0) (ok_is {A = Option NewFile × Rest} (None, mid) (Some f, rest) e) in absurd (apart f d)
-    by (Some line) mid k e =
-        let formed = optional_some file_of r line mid k in
-        let b = bound (allowed (place r) files line) (λ g. counted g.size mid >>= λ body. Ok (Some (file_with g body.0), body.1)) (Some f, rest) e in
+    by : (from : Option (List ℕ)) (at : Rest) → SourceFound r from at → (o : Option FileLine) (mid : Rest) → file_line_from (is_some from) at ≡ Ok (o, mid) → file_behind (place at) files from o mid ≡ Ok (Some f, rest) → FileFound files r f rest
+    by from at s None mid k e = let d : ◌≡◌ {A = Option NewFile} None (Some f) = ap (λ q. q.0) (ok_is {A = Option NewFile × Rest} (None, mid) (Some f, rest) e) in absurd (apart f d)
+    by from at s (Some line) mid k e =
+        let formed = file_line_found (is_some from) at line mid k in
+        let b = bound (allowed (place at) files line) (λ g. counted g.size mid >>= λ body. Ok (Some (file_with g from body.0), body.1)) (Some f, rest) e in
         let g = b.value in
-        let may = allowed_ok (place r) files line g b.is in
-        let c = bound (counted g.size mid) (λ body. Ok (Some (file_with g body.0), body.1)) (Some f, rest) b.gives in
+        let may = allowed_ok (place at) files line g b.is in
+        let c = bound (counted g.size mid) (λ body. Ok (Some (file_with g from body.0), body.1)) (Some f, rest) b.gives in
         let p = c.value in
-        let same = ok_is {A = Option NewFile × Rest} (Some (file_with g p.0), p.1) (Some f, rest) c.gives in
-        let is : file_with line p.0 ≡ f = ap (λ (l : FileLine). file_with l p.0) may.0 ∙ some_is (file_with g p.0) f (ap (λ q. q.0) same) in
+        let same = ok_is {A = Option NewFile × Rest} (Some (file_with g from p.0), p.1) (Some f, rest) c.gives in
+        let is : file_with line from p.0 ≡ f = ap (λ (l : FileLine). file_with l from p.0) may.0 ∙ some_is (file_with g from p.0) f (ap (λ q. q.0) same) in
         let body : Counted line.size mid p.0 p.1 = subst (λ (l : FileLine). Counted l.size mid p.0 p.1) (sym may.0) (counted_found g.size mid p c.is) in
-        let found = body_found files r mid line p formed may.1 body in
+        let found = body_found files r at mid from line p s formed may.1 body in
         subst (FileFound files r f) (ap (λ q. q.1) same) (subst (λ (n : NewFile). FileFound files r n p.1) is found)
 
 -- with a file that was read, the files are a tree, and fewer bytes are left
@@ -300,24 +358,33 @@ tree_with files f h =
     let k = both (ascends (new_paths files ++ f.path ∷ [])) (not (has_directory (new_paths files ++ f.path ∷ []))) h in
     record { ordered = ap ascends (paths-push files f) ∙ k.0; apart = ap has_directory (paths-push files f) ∙ not_true (has_directory (new_paths files ++ f.path ∷ [])) k.1 }
 
+pub file_text_some : (f : NewFile) → 0 < length (file_text f)
+file_text_some f =
+    let lines = line_of (codes "file " ++ (flag_sign f.flag ++ 32 ∷ (decimal (length f.body) ++ 32 ∷ f.path))) ++ line_of f.body in
+    let size = length-append (copyfrom_text f.from) lines in
+    let some : 0 < length lines = omega arith in
+    omega (arith, size, some)
+
 pub file_more_found : (files : List NewFile) (r rest : Rest) (f : NewFile) → next_file files r ≡ Ok (Some f, rest) → FileMore files r f rest
 file_more_found files r rest f e =
     let found = file_found files r rest f e in
     let size = ap length found.is ∙ length-append (file_text f) rest.bytes in
-    let some : 0 < length (file_text f) = omega arith in
+    let some = file_text_some f in
     record { tree = tree_with files f found.fits; fewer = omega (arith, size, some) }
 
 -- where no file is next, nothing is read
 pub file_none : (files : List NewFile) (r rest : Rest) → next_file files r ≡ Ok (None, rest) → r ≡ rest
 file_none files r rest e =
-    let a = bound (optional file_of r) (λ p. file_behind (place r) files p.0 p.1) (None, rest) e in
-    by a.value.0 a.value.1 a.is a.gives
+    let a = bound (optional copyfrom_of r) (λ from. line_behind files from.0 from.1) (None, rest) e in
+    let b = bound (file_line_from (is_some a.value.0) a.value.1) (λ line. file_behind (place a.value.1) files a.value.0 line.0 line.1) (None, rest) a.gives in
+    by a.value.0 a.value.1 a.is b.value.0 b.value.1 b.is b.gives
   where
-    by : (o : Option FileLine) (mid : Rest) → optional file_of r ≡ Ok (o, mid) → file_behind (place r) files o mid ≡ Ok (None, rest) → r ≡ rest
-    by None mid k e = optional_none file_of r mid k ∙ ap (λ q. q.1) (ok_is {A = Option NewFile × Rest} (None, mid) (None, rest) e)
-    by (Some line) mid k e =
-        let b = bound (allowed (place r) files line) (λ g. counted g.size mid >>= λ body. Ok (Some (file_with g body.0), body.1)) (None, rest) e in
+    by : (from : Option (List ℕ)) (at : Rest) → optional copyfrom_of r ≡ Ok (from, at) → (o : Option FileLine) (mid : Rest) → file_line_from (is_some from) at ≡ Ok (o, mid) → file_behind (place at) files from o mid ≡ Ok (None, rest) → r ≡ rest
+    by None at s None mid k e = optional_none copyfrom_of r at s ∙ optional_none file_of at mid k ∙ ap (λ q. q.1) (ok_is {A = Option NewFile × Rest} (None, mid) (None, rest) e)
+    by (Some path) at s None mid k e = let no = (file_line_none true at mid k).0 in cc
+    by from at s (Some line) mid k e =
+        let b = bound (allowed (place at) files line) (λ g. counted g.size mid >>= λ body. Ok (Some (file_with g from body.0), body.1)) (None, rest) e in
         let g = b.value in
-        let c = bound (counted g.size mid) (λ body. Ok (Some (file_with g body.0), body.1)) (None, rest) b.gives in
-        let d : ◌≡◌ {A = Option NewFile} (Some (file_with g c.value.0)) None = ap (λ q. q.0) (ok_is {A = Option NewFile × Rest} (Some (file_with g c.value.0), c.value.1) (None, rest) c.gives) in
-        absurd (apart (file_with g c.value.0) (sym d))
+        let c = bound (counted g.size mid) (λ body. Ok (Some (file_with g from body.0), body.1)) (None, rest) b.gives in
+        let d : ◌≡◌ {A = Option NewFile} (Some (file_with g from c.value.0)) None = ap (λ q. q.0) (ok_is {A = Option NewFile × Rest} (Some (file_with g from c.value.0), c.value.1) (None, rest) c.gives) in
+        absurd (apart (file_with g from c.value.0) (sym d))

@@ -1,6 +1,6 @@
 -- What is read of a front of an input: the same as of the whole, or that it is cut.
 use Rattle.std.proofs.Common.{◌≡◌, inl, inr, ℕ, zero, suc, ◌+◌, ◌-◌, ◌<◌, ◌≤◌, Bool, true, false, List, [], ◌∷◌, ◌++◌, length, take, drop, Option, Some, None, Result, Ok, Err, refl, sym, ◌∙◌, ap, subst, arith, append_assoc, length-append, codes}
-use Rattle.std.specs.Prelude.{◌==◌, nat_le, slice_index, if◌then◌else◌}
+use Rattle.std.specs.Prelude.{◌==◌, nat_le, slice_index, is_some, unwrap_or, if◌then◌else◌}
 use Rattle.std.specs.Str.{is_utf8}
 use Rattle.std.proofs.Math.ListN.{get_or-append}
 use Rattle.std.proofs.lemmas.Bool.{le-leb, leb-true, leb-false, false_from_ne_true}
@@ -15,37 +15,37 @@ use Rattle.hgs_index.specs.declared.kinds.Which.{Which}
 use Rattle.hgs_index.specs.declared.kinds.Which.TheVariants.{FileText, Tree, Record}
 use Rattle.hgs_input.specs.Record.{most_input}
 use Rattle.hgs_input.specs.Front.{Alike}
-use Rattle.hgs_input.specs.Read.{Rest, Reading, ◌>>=◌, place, bad_at, line_or_cut, next_line, required_at, required, optional_at, optional, counted, word_of, parent_of, user_of, date_of, phase_of, bookmark_of, length_of, FileLine, file_of, more, parents_from, text_at, description_from, allowed, file_with, file_behind, next_file, files_from, nothing_behind, head_from, change_with, record_from, looked_at, read_record}
+use Rattle.hgs_input.specs.Read.{Rest, Reading, ◌>>=◌, place, bad_at, line_or_cut, next_line, required_at, required, optional_at, optional, counted, word_of, parent_of, user_of, date_of, phase_of, bookmark_of, branch_of, branch_from, copyfrom_of, length_of, FileLine, file_of, more, parents_from, text_at, description_from, allowed, file_with, file_line_from, file_behind, next_file, files_from, nothing_behind, head_from, change_with, record_from, looked_at, read_record}
 use Rattle.hgs_input.proofs.WholeLemmas.{end_from, change_from, looked-whole, looked-on, looked-front, read-looked, read-all}
-use Rattle.hgs_input.proofs.FoundLemmas.{bound, contradiction, file_more_found}
+use Rattle.hgs_input.proofs.FoundLemmas.{bound, contradiction, file_more_found, line_behind}
 use Rattle.hgs_input.proofs.ReadLemmas.{at_end}
 use Rattle.hgs_input.specs.Front.{left}
 use Rattle.hgs_input.proofs.RecordFound.{none_behind, record_found}
 
 -- ---- the front of an input, and the whole
 
-alike_read : {A : Type 0} (w : ℕ) (tail rest : List ℕ) (x : A) → Alike w tail (Ok (x, left w rest)) (Ok (x, left (w + length tail) (rest ++ tail)))
+pub alike_read : {A : Type 0} (w : ℕ) (tail rest : List ℕ) (x : A) → Alike w tail (Ok (x, left w rest)) (Ok (x, left (w + length tail) (rest ++ tail)))
 alike_read w tail rest x = inr (inr (record { value = x; rest = rest; front = refl; all = refl }))
 
-alike_fault : {A : Type 0} (w : ℕ) (tail : List ℕ) (e f : InputFault) → e ≡ f → Alike {A = A} w tail (Err e) (Err f)
+pub alike_fault : {A : Type 0} (w : ℕ) (tail : List ℕ) (e f : InputFault) → e ≡ f → Alike {A = A} w tail (Err e) (Err f)
 alike_fault w tail e f h = inr (inl (record { fault = e; front = refl; all = ap (λ x. Err x) (sym h) }))
 
 along : {A : Type 0} (w : ℕ) (tail : List ℕ) (a x b y : Reading A) → a ≡ x → b ≡ y → Alike w tail x y → Alike w tail a b
 along w tail a x b y e f h = subst (λ r. Alike w tail r b) (sym e) (subst (λ r. Alike w tail x r) (sym f) h)
 
-bind_alike : {A B : Type 0} (w : ℕ) (tail : List ℕ) (a b : Reading A) (f g : A × Rest → Reading B) → Alike w tail a b →
+pub bind_alike : {A B : Type 0} (w : ℕ) (tail : List ℕ) (a b : Reading A) (f g : A × Rest → Reading B) → Alike w tail a b →
     ((x : A) (rest : List ℕ) → a ≡ Ok (x, left w rest) → Alike w tail (f (x, left w rest)) (g (x, left (w + length tail) (rest ++ tail)))) → Alike w tail (a >>= f) (b >>= g)
 bind_alike w tail a b f g (inl h) k = inl (ap (λ r. r >>= f) h)
 bind_alike w tail a b f g (inr (inl s)) k = inr (inl (record { fault = s.fault; front = ap (λ r. r >>= f) s.front; all = ap (λ r. r >>= g) s.all }))
 bind_alike w tail a b f g (inr (inr s)) k =
     along w tail (a >>= f) (f (s.value, left w s.rest)) (b >>= g) (g (s.value, left (w + length tail) (s.rest ++ tail))) (ap (λ r. r >>= f) s.front) (ap (λ r. r >>= g) s.all) (k s.value s.rest s.front)
 
-place_alike : (w : ℕ) (tail bytes : List ℕ) → place (left w bytes) ≡ place (left (w + length tail) (bytes ++ tail))
+pub place_alike : (w : ℕ) (tail bytes : List ℕ) → place (left w bytes) ≡ place (left (w + length tail) (bytes ++ tail))
 place_alike w tail bytes = let k = length-append bytes tail in omega (arith, k)
 
 -- ---- lines and counted texts
 
-line_alike : (w : ℕ) (tail bytes : List ℕ) → Alike w tail (next_line (left w bytes)) (next_line (left (w + length tail) (bytes ++ tail)))
+pub line_alike : (w : ℕ) (tail bytes : List ℕ) → Alike w tail (next_line (left w bytes)) (next_line (left (w + length tail) (bytes ++ tail)))
 line_alike w tail bytes = by (split 10 bytes) refl
   where
     by : (s : Option (List ℕ × List ℕ)) → split 10 bytes ≡ s → Alike w tail (line_or_cut (left w bytes) s) (next_line (left (w + length tail) (bytes ++ tail)))
@@ -131,26 +131,37 @@ description_alike w tail bytes =
     (λ text last e. text_alike (place (left w rest)) (place (left v (rest ++ tail))) text w tail last (place_alike w tail rest)))
 
 -- the body behind the line of a file
-abbrev body : List ℕ → ℕ → FileLine → Reading (Option NewFile)
-body rest v f = counted f.size (left v rest) >>= λ text. Ok (Some (file_with f text.0), text.1)
+abbrev body : Option (List ℕ) → List ℕ → ℕ → FileLine → Reading (Option NewFile)
+body from rest v f = counted f.size (left v rest) >>= λ text. Ok (Some (file_with f from text.0), text.1)
+
+file_line_alike : (wanted : Bool) (w : ℕ) (tail bytes : List ℕ) → Alike w tail (file_line_from wanted (left w bytes)) (file_line_from wanted (left (w + length tail) (bytes ++ tail)))
+file_line_alike false w tail bytes = optional_alike file_of w tail bytes
+file_line_alike true w tail bytes = bind_alike w tail _ _ _ _ (required_alike file_of w tail bytes) (λ line rest e. alike_read w tail rest (Some line))
 
 file_alike : (files : List NewFile) (w : ℕ) (tail bytes : List ℕ) → Alike w tail (next_file files (left w bytes)) (next_file files (left (w + length tail) (bytes ++ tail)))
 file_alike files w tail bytes =
-    let r = left w bytes in
-    let s = left (w + length tail) (bytes ++ tail) in
-    bind_alike w tail (optional file_of r) (optional file_of s) (λ p. file_behind (place r) files p.0 p.1) (λ p. file_behind (place s) files p.0 p.1) (optional_alike file_of w tail bytes) (λ o rest e. by o rest)
+    bind_alike w tail (optional copyfrom_of (left w bytes)) (optional copyfrom_of (left (w + length tail) (bytes ++ tail))) (λ from. line_behind files from.0 from.1) (λ from. line_behind files from.0 from.1) (optional_alike copyfrom_of w tail bytes)
+    (λ from at e. behind_source from at)
   where
-    allowed_alike : (x : Result FileLine InputFault) (rest : List ℕ) → Alike w tail (x >>= body rest w) (x >>= body (rest ++ tail) (w + length tail))
-    allowed_alike (Err e) rest = alike_fault w tail e e refl
-    allowed_alike (Ok f) rest =
-        bind_alike w tail (counted f.size (left w rest)) (counted f.size (left (w + length tail) (rest ++ tail))) (λ text. Ok (Some (file_with f text.0), text.1)) (λ text. Ok (Some (file_with f text.0), text.1)) (counted_alike f.size w tail rest)
-        (λ text last e. alike_read w tail last (Some (file_with f text)))
+    allowed_alike : (from : Option (List ℕ)) (x : Result FileLine InputFault) (rest : List ℕ) → Alike w tail (x >>= body from rest w) (x >>= body from (rest ++ tail) (w + length tail))
+    allowed_alike from (Err e) rest = alike_fault w tail e e refl
+    allowed_alike from (Ok f) rest =
+        bind_alike w tail (counted f.size (left w rest)) (counted f.size (left (w + length tail) (rest ++ tail))) (λ text. Ok (Some (file_with f from text.0), text.1)) (λ text. Ok (Some (file_with f from text.0), text.1)) (counted_alike f.size w tail rest)
+        (λ text last e. alike_read w tail last (Some (file_with f from text)))
 
-    by : (o : Option FileLine) (rest : List ℕ) → Alike w tail (file_behind (place (left w bytes)) files o (left w rest)) (file_behind (place (left (w + length tail) (bytes ++ tail))) files o (left (w + length tail) (rest ++ tail)))
-    by None rest = alike_read w tail rest None
-    by (Some line) rest =
-        subst (λ p. Alike w tail (file_behind (place (left w bytes)) files (Some line) (left w rest)) (file_behind p files (Some line) (left (w + length tail) (rest ++ tail)))) (place_alike w tail bytes)
-        (allowed_alike (allowed (place (left w bytes)) files line) rest)
+    by : (from : Option (List ℕ)) (at : List ℕ) (o : Option FileLine) (rest : List ℕ) →
+        Alike w tail (file_behind (place (left w at)) files from o (left w rest)) (file_behind (place (left (w + length tail) (at ++ tail))) files from o (left (w + length tail) (rest ++ tail)))
+    by from at None rest = alike_read w tail rest None
+    by from at (Some line) rest =
+        subst (λ p. Alike w tail (file_behind (place (left w at)) files from (Some line) (left w rest)) (file_behind p files from (Some line) (left (w + length tail) (rest ++ tail)))) (place_alike w tail at)
+        (allowed_alike from (allowed (place (left w at)) files line) rest)
+
+    behind_source : (from : Option (List ℕ)) (at : List ℕ) → Alike w tail (line_behind files from (left w at)) (line_behind files from (left (w + length tail) (at ++ tail)))
+    behind_source from at =
+        let r = left w at in
+        let s = left (w + length tail) (at ++ tail) in
+        bind_alike w tail (file_line_from (is_some from) r) (file_line_from (is_some from) s) (λ p. file_behind (place r) files from p.0 p.1) (λ p. file_behind (place s) files from p.0 p.1) (file_line_alike (is_some from) w tail at)
+        (λ o rest e. by from at o rest)
 
 files_alike : (n m : ℕ) (files : List NewFile) (w : ℕ) (tail bytes : List ℕ) → length bytes ≤ n → length (bytes ++ tail) ≤ m → Alike w tail (files_from n files (left w bytes)) (files_from m files (left (w + length tail) (bytes ++ tail)))
 files_alike zero m files w tail bytes a b = inl refl
@@ -172,6 +183,9 @@ files_alike (suc n) (suc m) files w tail bytes a b =
         let y = length-append rest tail in
         k f (omega (arith, fewer, a)) (omega (arith, fewer, b, x, y))
 
+branch_alike : (w : ℕ) (tail bytes : List ℕ) → Alike w tail (branch_from (left w bytes)) (branch_from (left (w + length tail) (bytes ++ tail)))
+branch_alike w tail bytes = bind_alike w tail _ _ _ _ (optional_alike branch_of w tail bytes) (λ o rest e. alike_read w tail rest (unwrap_or o None))
+
 head_alike : (w : ℕ) (tail bytes : List ℕ) → Alike w tail (head_from (left w bytes)) (head_from (left (w + length tail) (bytes ++ tail)))
 head_alike w tail bytes =
     bind_alike w tail _ _ _ _ (required_alike (word_of (codes "commit")) w tail bytes)
@@ -180,7 +194,8 @@ head_alike w tail bytes =
     (λ user r3 e3. bind_alike w tail _ _ _ _ (required_alike date_of w tail r3)
     (λ date r4 e4. bind_alike w tail _ _ _ _ (optional_alike phase_of w tail r4)
     (λ phase r5 e5. bind_alike w tail _ _ _ _ (optional_alike bookmark_of w tail r5)
-    (λ bookmark r6 e6. alike_read w tail r6 (record { parents = parents; user = user; date = date; phase = phase; bookmark = bookmark })))))))
+    (λ bookmark r6 e6. bind_alike w tail _ _ _ _ (branch_alike w tail r6)
+    (λ branch r7 e7. alike_read w tail r7 (record { parents = parents; user = user; date = date; phase = phase; bookmark = bookmark; branch = branch }))))))))
 
 pub record_alike : (w : ℕ) (tail bytes : List ℕ) → Alike w tail (record_from (left w bytes)) (record_from (left (w + length tail) (bytes ++ tail)))
 record_alike w tail bytes =
@@ -196,13 +211,13 @@ err_ok : {B : Type 0} (e : InputFault) (y : B) → ◌≡◌ {A = Result B Input
 err_ok e y h = cc
 
 -- where the whole is read to its end, the front is cut at once or further on
-bind_cut : {A B : Type 0} (w : ℕ) (tail : List ℕ) (a b : Reading A) (f g : A × Rest → Result B InputFault) (y : B) → Alike w tail a b → (b >>= g) ≡ Ok y →
+pub bind_cut : {A B : Type 0} (w : ℕ) (tail : List ℕ) (a b : Reading A) (f g : A × Rest → Result B InputFault) (y : B) → Alike w tail a b → (b >>= g) ≡ Ok y →
     ((x : A) (rest : List ℕ) → g (x, left (w + length tail) (rest ++ tail)) ≡ Ok y → f (x, left w rest) ≡ Err (bad_at w)) → (a >>= f) ≡ Err (bad_at w)
 bind_cut w tail a b f g y (inl h) e k = ap (λ r. r >>= f) h
 bind_cut w tail a b f g y (inr (inl s)) e k = absurd (err_ok s.fault y (sym (ap (λ r. r >>= g) s.all) ∙ e))
 bind_cut w tail a b f g y (inr (inr s)) e k = ap (λ r. r >>= f) s.front ∙ k s.value s.rest (sym (ap (λ r. r >>= g) s.all) ∙ e)
 
-not_at_end : (w b : ℕ) (more rest : List ℕ) → nothing_behind (left w (rest ++ b ∷ more)) ≡ Ok tt → ⊥
+pub not_at_end : (w b : ℕ) (more rest : List ℕ) → nothing_behind (left w (rest ++ b ∷ more)) ≡ Ok tt → ⊥
 not_at_end w b more rest e =
     let none = ap length (none_behind (left w (rest ++ b ∷ more)) e).0 in
     let size = length-append rest (b ∷ more) in
@@ -234,7 +249,7 @@ front_cut front more b c e =
 
 -- ---- what stands behind a fault
 
-bad_is : (w at : ℕ) → ◌≡◌ {A = InputFault} (bad_at w) (BadInput at) → w ≡ at
+pub bad_is : (w at : ℕ) → ◌≡◌ {A = InputFault} (bad_at w) (BadInput at) → w ≡ at
 bad_is w at e = by (nat_le w most_input) refl e
   where
     by : (t : Bool) → nat_le w most_input ≡ t → ◌≡◌ {A = InputFault} (if t then BadInput w else Limit Record) (BadInput at) → w ≡ at
@@ -245,17 +260,17 @@ err_is : {B : Type 0} (e f : InputFault) → ◌≡◌ {A = Result B InputFault}
 err_is e f h = cc
 
 -- a fault other than that of an input that is cut, or longer than the limit
-record IsBefore (w : ℕ) (f : InputFault) : Type 0 where
-  cut : ◌≡◌ {A = InputFault} (bad_at w) f → ⊥
-  long : ◌≡◌ {A = InputFault} (Limit Record) f → ⊥
+pub record IsBefore (w : ℕ) (f : InputFault) : Type 0 where
+  pub cut : ◌≡◌ {A = InputFault} (bad_at w) f → ⊥
+  pub long : ◌≡◌ {A = InputFault} (Limit Record) f → ⊥
 
-bind_stay : {A B : Type 0} (w : ℕ) (tail : List ℕ) (a b : Reading A) (f g : A × Rest → Result B InputFault) (e : InputFault) → Alike w tail a b → IsBefore w e → (a >>= f) ≡ Err e →
+pub bind_stay : {A B : Type 0} (w : ℕ) (tail : List ℕ) (a b : Reading A) (f g : A × Rest → Result B InputFault) (e : InputFault) → Alike w tail a b → IsBefore w e → (a >>= f) ≡ Err e →
     ((x : A) (rest : List ℕ) → f (x, left w rest) ≡ Err e → g (x, left (w + length tail) (rest ++ tail)) ≡ Err e) → (b >>= g) ≡ Err e
 bind_stay {A} {B} w tail a b f g e (inl h) other is k = absurd (other.cut (err_is {B = B} (bad_at w) e (sym (ap (λ r. r >>= f) h) ∙ is)))
 bind_stay w tail a b f g e (inr (inl s)) other is k = ap (λ r. r >>= g) s.all ∙ sym (ap (λ r. r >>= f) s.front) ∙ is
 bind_stay w tail a b f g e (inr (inr s)) other is k = ap (λ r. r >>= g) s.all ∙ k s.value s.rest (sym (ap (λ r. r >>= f) s.front) ∙ is)
 
-nothing_stays : (w : ℕ) (e : InputFault) (tail rest : List ℕ) → IsBefore w e → nothing_behind (left w rest) ≡ Err e → nothing_behind (left (w + length tail) (rest ++ tail)) ≡ Err e
+pub nothing_stays : (w : ℕ) (e : InputFault) (tail rest : List ℕ) → IsBefore w e → nothing_behind (left w rest) ≡ Err e → nothing_behind (left (w + length tail) (rest ++ tail)) ≡ Err e
 nothing_stays w e tail rest other is = by (length rest == 0) (nat_le w most_input) refl is
   where
     by : (s t : Bool) → (length rest == 0) ≡ s → ◌≡◌ {A = Result (Unit {0}) InputFault} (if s then (if t then Ok tt else Err (Limit Record)) else Err (bad_at (place (left w rest)))) (Err e) →
@@ -276,7 +291,7 @@ end_stays w e tail bytes other is =
     bind_stay w tail (required (word_of (codes "end")) (left w bytes)) (required (word_of (codes "end")) (left (w + length tail) (bytes ++ tail))) (λ x. nothing_behind x.1) (λ x. nothing_behind x.1) e (required_alike (word_of (codes "end")) w tail bytes) other is
     (λ _ rest k. nothing_stays w e tail rest other k)
 
-then_err : {A B : Type 0} (x : Result A InputFault) (f : A → B) (e : InputFault) → (x >>= λ a. Ok (f a)) ≡ Err e → x ≡ Err e
+pub then_err : {A B : Type 0} (x : Result A InputFault) (f : A → B) (e : InputFault) → (x >>= λ a. Ok (f a)) ≡ Err e → x ≡ Err e
 then_err (Ok a) f e h = absurd (err_ok e (f a) (sym h))
 then_err {A} {B} (Err d) f e h = ap (λ z. Err z) (err_is {B = B} d e h)
 
@@ -310,7 +325,7 @@ fault_stays front more at lt is = stays front more (BadInput at) (record { cut =
     no h = cc
 
 -- the limit of one thing in a record is not that of the input
-other_limit : (w : ℕ) (which : Which) → (◌≡◌ {A = InputFault} (Limit Record) (Limit which) → ⊥) → IsBefore w (Limit which)
+pub other_limit : (w : ℕ) (which : Which) → (◌≡◌ {A = InputFault} (Limit Record) (Limit which) → ⊥) → IsBefore w (Limit which)
 other_limit w which other = record { cut = by (nat_le w most_input); long = other }
   where
     by : (t : Bool) → ◌≡◌ {A = InputFault} (if t then BadInput w else Limit Record) (Limit which) → ⊥

@@ -1,5 +1,7 @@
 pub mod FoundLemmas
 pub mod FrontLemmas
+pub mod ImportFronts
+pub mod ImportLemmas
 pub mod NumberLemmas
 pub mod PathLemmas
 pub mod ReadLemmas

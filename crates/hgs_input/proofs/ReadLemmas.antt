@@ -5,7 +5,8 @@ use Rattle.std.specs.Bool.{MatchBool}
 use Rattle.hgs_model.specs.declared.files.NewFile.{NewFile}
 use Rattle.hgs_input.specs.declared.fault.InputFault.{InputFault}
 use Rattle.hgs_bytes.specs.Text.{split}
-use Rattle.hgs_input.specs.Read.{Rest, Reading, ◌>>=◌, bad_at, place, line_or_cut, optional_at, optional, parent_of, more, parents_from, file_of, file_behind, next_file, files_from, is_memory}
+use Rattle.hgs_input.specs.Read.{Rest, Reading, ◌>>=◌, bad_at, line_or_cut, optional_at, optional, parent_of, more, parents_from, copyfrom_of, next_file, files_from, is_memory}
+use Rattle.hgs_input.proofs.FoundLemmas.{line_behind}
 
 -- the fault that the definition gives, where want of memory is free
 abbrev pub Refused : {A : Type 0} → InputFault → Result A InputFault → Type 0
@@ -15,7 +16,7 @@ free : (b : Bool) (P Q : Type 0) → (P → Q) → MatchBool b ⊤ P → MatchBo
 free true P Q f h = tt
 free false P Q f h = f h
 
-bound_refused : {A B : Type 0} (e : InputFault) (answer : Result A InputFault) (f : A → Result B InputFault) (all : Result B InputFault) → (answer >>= f) ≡ all → Refused e answer → Refused e all
+pub bound_refused : {A B : Type 0} (e : InputFault) (answer : Result A InputFault) (f : A → Result B InputFault) (all : Result B InputFault) → (answer >>= f) ≡ all → Refused e answer → Refused e all
 bound_refused e answer f all is h = free (is_memory e) (answer ≡ Err e) (all ≡ Err e) (λ k. sym is ∙ ap (λ a. a >>= f) k) h
 
 pub parent_refused : (names : List (List ℕ)) (r : Rest) (e : InputFault) (all : Reading (List (List ℕ))) → length names < 2 → parents_from (2 - length names) names r ≡ all → Refused e (optional parent_of r) → Refused e all
@@ -26,13 +27,13 @@ parent_refused names r e all few is h =
 
 -- ---- files
 
-nil_from_length : (xs : List ℕ) → length xs ≤ 0 → xs ≡ []
+pub nil_from_length : (xs : List ℕ) → length xs ≤ 0 → xs ≡ []
 nil_from_length [] h = refl
 nil_from_length (x ∷ xs) h = absurd (omega arith)
 
 -- where the bytes are at an end, the next line is cut
 pub at_end : (files : List NewFile) (r : Rest) → r.bytes ≡ [] → next_file files r ≡ Err (bad_at r.whole)
-at_end files r h = ap (λ s. (line_or_cut r s >>= λ l. optional_at r (file_of l.0) l.1) >>= λ p. file_behind (place r) files p.0 p.1) (ap (split 10) h)
+at_end files r h = ap (λ s. (line_or_cut r s >>= λ l. optional_at r (copyfrom_of l.0) l.1) >>= λ from. line_behind files from.0 from.1) (ap (split 10) h)
 
 abbrev with_file : ℕ → List NewFile → Rest → Reading (List NewFile)
 with_file n files r = next_file files r >>= λ p. more files p.0 p.1 (λ all rest. files_from n all rest)

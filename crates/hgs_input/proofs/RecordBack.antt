@@ -1,6 +1,6 @@
 -- The text of a record is read as its changeset.
 use Rattle.std.proofs.Common.{◌≡◌, ℕ, zero, suc, ◌+◌, ◌<◌, ◌≤◌, ◌^◌, Bool, true, false, ◌&&◌, ◌||◌, List, [], ◌∷◌, ◌++◌, length, take, drop, get_or, Option, Some, None, Result, Ok, Err, ℤ, refl, sym, ◌∙◌, ap, subst, arith, append_assoc, length-append, codes, unsigned_abs, min, lit<}
-use Rattle.std.specs.Prelude.{◌==◌, not, nat_le, nat_lt, slice_index, decimal, flat_map, unwrap_or, if◌then◌else◌, IfSome, IsUtf8}
+use Rattle.std.specs.Prelude.{◌==◌, not, nat_le, nat_lt, slice_index, decimal, flat_map, unwrap_or, is_some, if◌then◌else◌, IfSome, IsUtf8}
 use Rattle.std.specs.List.{AllByRecursion, list_any, list_all}
 use Rattle.std.specs.Fmt.{signed_decimal}
 use Rattle.std.specs.Str.{is_utf8}
@@ -27,23 +27,23 @@ use Rattle.hgs_model.specs.declared.files.NewFile.{NewFile}
 use Rattle.hgs_model.specs.declared.phase.Phase.{Phase}
 use Rattle.hgs_model.specs.declared.phase.Phase.TheVariants.{Public, Draft, Secret}
 use Rattle.hgs_model.specs.Phase.{phase_name}
-use Rattle.hgs_model.specs.Valid.{has_directory, new_paths, IsNewChange}
+use Rattle.hgs_model.specs.Valid.{ends_in, has_directory, is_branch_name, is_source, new_paths, IsNewChange}
 use Rattle.hgs_input.specs.declared.fault.InputFault.{InputFault}
 use Rattle.hgs_input.specs.declared.fault.InputFault.TheVariants.{Limit}
 use Rattle.hgs_index.specs.declared.kinds.Which.TheVariants.{FileText, Tree, Record}
-use Rattle.hgs_input.specs.Record.{most_input, parent_text, phase_text, bookmark_text, description_text, flag_sign, file_text, record_text}
-use Rattle.hgs_input.specs.Read.{Rest, ◌>>=◌, place, bad_at, fault_at, line_or_cut, next_line, required_at, required, optional_at, optional, counted, behind, and_then, where_true, word_of, parent_of, is_user, most_user, user_of, date_of, phase_of, bookmark_of, is_number, number_up_to, most_description, length_of, FileLine, flag_of, file_of_parts, file_of, more, parents_from, text_at, description_from, fits_behind, allowed, file_with, file_behind, most_file, most_files, next_file, files_from, nothing_behind, Head, head_from, change_with, record_from, read_record}
+use Rattle.hgs_input.specs.Record.{most_input, parent_text, phase_text, bookmark_text, branch_text, description_text, flag_sign, copyfrom_text, file_text, Wording, record_text}
+use Rattle.hgs_input.specs.Read.{Rest, ◌>>=◌, place, bad_at, fault_at, line_or_cut, next_line, required_at, required, optional_at, optional, counted, behind, and_then, where_true, word_of, parent_of, is_user, most_user, user_of, date_of, phase_of, bookmark_of, branch_of, branch_from, copyfrom_of, is_number, number_up_to, most_description, length_of, FileLine, flag_of, file_of_parts, file_of, more, parents_from, text_at, description_from, fits_behind, allowed, file_with, file_line_from, file_behind, most_file, most_files, next_file, files_from, nothing_behind, Head, head_from, change_with, record_from, read_record}
 use Rattle.hgs_input.specs.Front.{left}
 use Rattle.hgs_input.proofs.WholeLemmas.{record_then, looked-whole}
 use Rattle.hgs_input.proofs.PathLemmas.{begins_front, drop_front, take_front, any_there, any_found, or_true, both, contradiction, any-append}
-use Rattle.hgs_input.proofs.FoundLemmas.{not_true, paths-push}
+use Rattle.hgs_input.proofs.FoundLemmas.{not_true, paths-push, line_behind, file_text_some}
 
-then_ok : {A B : Type 0} (x : Result A InputFault) (a : A) (f : A → Result B InputFault) (y : Result B InputFault) → x ≡ Ok a → f a ≡ y → (x >>= f) ≡ y
+pub then_ok : {A B : Type 0} (x : Result A InputFault) (a : A) (f : A → Result B InputFault) (y : Result B InputFault) → x ≡ Ok a → f a ≡ y → (x >>= f) ≡ y
 then_ok x a f y e h = ap (λ r. r >>= f) e ∙ h
 
 -- ---- lines and counted texts
 
-line_back : (w : ℕ) (text rest : List ℕ) → Lacks 10 text → next_line (left w (line text ++ rest)) ≡ Ok (text, left w rest)
+pub line_back : (w : ℕ) (text rest : List ℕ) → Lacks 10 text → next_line (left w (line text ++ rest)) ≡ Ok (text, left w rest)
 line_back w text rest l = ap (line_or_cut (left w (line text ++ rest))) (ap (split 10) (line_then text rest) ∙ split_over 10 text rest l)
 
 required_back : {A : Type 0} (form : List ℕ → Option A) (w : ℕ) (text rest : List ℕ) (x : A) → Lacks 10 text → form text ≡ Some x → required form (left w (line text ++ rest)) ≡ Ok (x, left w rest)
@@ -98,7 +98,7 @@ and_then_back o x f y e h = ap (λ p. and_then p f) e ∙ h
 where_back : {A : Type 0} (b : Bool) (x : A) → b ≡ true → where_true b x ≡ Some x
 where_back b x e = ap (λ t. where_true t x) e
 
-lacks_none : (xs : List ℕ) → list_any (λ b. b == 10) xs ≡ false → Lacks 10 xs
+pub lacks_none : (xs : List ℕ) → list_any (λ b. b == 10) xs ≡ false → Lacks 10 xs
 lacks_none [] h = tt
 lacks_none (x ∷ xs) h = by (x == 10) refl h (lacks_none xs)
   where
@@ -234,6 +234,26 @@ bookmark_back (Some name) w rest valid other =
     optional_back bookmark_of w (codes "bookmark " ++ name) rest name (lacks-append 10 (codes "bookmark ") name (lacks_none (codes "bookmark ") refl) (name_lacks name valid))
     (and_then_back (behind (codes "bookmark ") (codes "bookmark " ++ name)) name (λ n. where_true (is_mark_name n) n) (Some name) (behind_back (codes "bookmark ") name) (where_back (is_mark_name name) name valid))
 
+branch_lacks : (name : List ℕ) → is_branch_name name ≡ true → Lacks 10 name
+branch_lacks name h =
+    let a = both (is_mark_name name && not (list_any (λ b. b == 92) name)) (not (same name (codes "default"))) h in
+    name_lacks name (both (is_mark_name name) (not (list_any (λ b. b == 92) name)) a.0).0
+
+branch_said : (name : List ℕ) → is_branch_name name ≡ true → (if same name (codes "default") then Some None else where_true (is_branch_name name) (Some name)) ≡ Some (Some name)
+branch_said name h =
+    let a = both (is_mark_name name && not (list_any (λ b. b == 92) name)) (not (same name (codes "default"))) h in
+    ap (λ t. if t then Some None else where_true (is_branch_name name) (Some name)) (not_true (same name (codes "default")) a.1) ∙ where_back (is_branch_name name) (Some name) h
+
+branch_back : (says : Bool) (o : Option (List ℕ)) (w : ℕ) (rest : List ℕ) → IfSome o (λ name. is_branch_name name ≡ true) → optional branch_of (left w rest) ≡ Ok (None, left w rest) → branch_from (left w (branch_text says o ++ rest)) ≡ Ok (o, left w rest)
+branch_back false None w rest valid other = then_ok (optional branch_of (left w rest)) (None, left w rest) (λ b. Ok (unwrap_or b.0 None, b.1)) (Ok (None, left w rest)) other refl
+branch_back true None w rest valid other =
+    then_ok (optional branch_of (left w (line (codes "branch default") ++ rest))) (Some None, left w rest) (λ b. Ok (unwrap_or b.0 None, b.1)) (Ok (None, left w rest))
+    (optional_back branch_of w (codes "branch default") rest None (lacks_none (codes "branch default") refl) refl) refl
+branch_back says (Some name) w rest valid other =
+    then_ok (optional branch_of (left w (line (codes "branch " ++ name) ++ rest))) (Some (Some name), left w rest) (λ b. Ok (unwrap_or b.0 None, b.1)) (Ok (Some name, left w rest))
+    (optional_back branch_of w (codes "branch " ++ name) rest (Some name) (lacks-append 10 (codes "branch ") name (lacks_none (codes "branch ") refl) (branch_lacks name valid))
+    (and_then_back (behind (codes "branch ") (codes "branch " ++ name)) name (λ n. if same n (codes "default") then Some None else where_true (is_branch_name n) (Some n)) (Some (Some name)) (behind_back (codes "branch ") name) (branch_said name valid))) refl
+
 -- ---- lengths
 
 digits_pass : (ds : List ℕ) → AllDigits 10 ds → list_all is_digit ds ≡ true
@@ -350,17 +370,32 @@ allowed_back at files f fits small few =
     ∙ ap (λ t. if t then Err (fault_at at (Limit FileText)) else if nat_le most_files (length files) then Err (fault_at at (Limit Tree)) else Ok f) a
     ∙ ap (λ t. if t then Err (fault_at at (Limit Tree)) else Ok f) b
 
-file_back : (files : List NewFile) (f : NewFile) (w : ℕ) (rest : List ℕ) → is_tracked f.path ≡ true → fits_behind (new_paths files) f.path ≡ true → length f.body ≤ most_file → length files < most_files →
+source_back : (from : Option (List ℕ)) (w : ℕ) (rest : List ℕ) → IfSome from (λ path. is_source path ≡ true) → optional copyfrom_of (left w rest) ≡ Ok (None, left w rest) → optional copyfrom_of (left w (copyfrom_text from ++ rest)) ≡ Ok (from, left w rest)
+source_back None w rest valid other = other
+source_back (Some path) w rest valid other =
+    let tracked = (both (is_tracked path) (not (ends_in 1 path)) valid).0 in
+    optional_back copyfrom_of w (codes "copyfrom " ++ path) rest path (lacks-append 10 (codes "copyfrom ") path (lacks_none (codes "copyfrom ") refl) (tracked_lacks path tracked))
+    (and_then_back (behind (codes "copyfrom ") (codes "copyfrom " ++ path)) path (λ n. where_true (is_source n) n) (Some path) (behind_back (codes "copyfrom ") path) (where_back (is_source path) path valid))
+
+line_from_back : (wanted : Bool) (w : ℕ) (f : FileLine) (rest : List ℕ) → f.size ≤ most_file → is_tracked f.path ≡ true → file_line_from wanted (left w (line (file_line f) ++ rest)) ≡ Ok (Some f, left w rest)
+line_from_back false w f rest small tracked = optional_back file_of w (file_line f) rest f (line_lacks f small tracked) (file_line_back f small tracked)
+line_from_back true w f rest small tracked =
+    then_ok (required file_of (left w (line (file_line f) ++ rest))) (f, left w rest) (λ f. Ok (Some f.0, f.1)) (Ok (Some f, left w rest))
+    (required_back file_of w (file_line f) rest f (line_lacks f small tracked) (file_line_back f small tracked)) refl
+
+file_back : (files : List NewFile) (f : NewFile) (w : ℕ) (rest : List ℕ) → IfSome f.from (λ path. is_source path ≡ true) → is_tracked f.path ≡ true → fits_behind (new_paths files) f.path ≡ true → length f.body ≤ most_file → length files < most_files →
     next_file files (left w (file_text f ++ rest)) ≡ Ok (Some f, left w rest)
-file_back files f w rest tracked fits small few =
+file_back files f w rest source tracked fits small few =
     let said : FileLine = record { flag = f.flag; size = length f.body; path = f.path } in
     let behind_line = line f.body ++ rest in
-    let r = left w (line (file_line said) ++ behind_line) in
-    ap (λ b. next_file files (left w b)) (append_assoc (line (file_line said)) (line f.body) rest)
-    ∙ then_ok (optional file_of r) (Some said, left w behind_line) (λ p. file_behind (place r) files p.0 p.1) (Ok (Some f, left w rest))
-    (optional_back file_of w (file_line said) behind_line said (line_lacks said small tracked) (file_line_back said small tracked))
-    (then_ok (allowed (place r) files said) said (λ g. counted g.size (left w behind_line) >>= λ body. Ok (Some (file_with g body.0), body.1)) (Ok (Some f, left w rest)) (allowed_back (place r) files said fits small few)
-    (then_ok (counted (length f.body) (left w behind_line)) (f.body, left w rest) (λ body. Ok (Some (file_with said body.0), body.1)) (Ok (Some f, left w rest)) (counted_back w f.body rest) refl))
+    let lines = line (file_line said) ++ behind_line in
+    let r = left w lines in
+    let other = optional_other copyfrom_of w (file_line said) behind_line (line_lacks said small tracked) refl in
+    ap (λ b. next_file files (left w b)) (append_assoc (copyfrom_text f.from) (line (file_line said) ++ line f.body) rest ∙ ap (λ t. copyfrom_text f.from ++ t) (append_assoc (line (file_line said)) (line f.body) rest))
+    ∙ then_ok (optional copyfrom_of (left w (copyfrom_text f.from ++ lines))) (f.from, r) (λ from. line_behind files from.0 from.1) (Ok (Some f, left w rest)) (source_back f.from w lines source other)
+    (then_ok (file_line_from (is_some f.from) r) (Some said, left w behind_line) (λ p. file_behind (place r) files f.from p.0 p.1) (Ok (Some f, left w rest)) (line_from_back (is_some f.from) w said behind_line small tracked)
+    (then_ok (allowed (place r) files said) said (λ g. counted g.size (left w behind_line) >>= λ body. Ok (Some (file_with g f.from body.0), body.1)) (Ok (Some f, left w rest)) (allowed_back (place r) files said fits small few)
+    (then_ok (counted (length f.body) (left w behind_line)) (f.body, left w rest) (λ body. Ok (Some (file_with said f.from body.0), body.1)) (Ok (Some f, left w rest)) (counted_back w f.body rest) refl)))
 
 -- ---- the files
 
@@ -387,23 +422,33 @@ fits_so paths path more a d =
     let apart = directory_front (paths ++ path ∷ []) more (ap has_directory is ∙ d) in
     ap (λ t. t && not (has_directory (paths ++ path ∷ []))) ordered ∙ ap not apart
 
+-- what stands here is no file's
+record NoFile (w : ℕ) (rest : List ℕ) : Type 0 where
+  source : optional copyfrom_of (left w rest) ≡ Ok (None, left w rest)
+  line : optional file_of (left w rest) ≡ Ok (None, left w rest)
+
+none_next : (files : List NewFile) (w : ℕ) (rest : List ℕ) → NoFile w rest → next_file files (left w rest) ≡ Ok (None, left w rest)
+none_next files w rest other =
+    then_ok (optional copyfrom_of (left w rest)) (None, left w rest) (λ from. line_behind files from.0 from.1) (Ok (None, left w rest)) other.source
+    (then_ok (optional file_of (left w rest)) (None, left w rest) (λ p. file_behind (place (left w rest)) files None p.0 p.1) (Ok (None, left w rest)) other.line refl)
+
 files_back : (n : ℕ) (files new : List NewFile) (w : ℕ) (rest : List ℕ) → length new < n → length files + length new ≤ 20000 → list_all is_tracked (new_paths new) ≡ true →
-    ascends (new_paths files ++ new_paths new) ≡ true → has_directory (new_paths files ++ new_paths new) ≡ false → AllByRecursion (λ (f : NewFile). length f.body ≤ 16777216) new →
-    optional file_of (left w rest) ≡ Ok (None, left w rest) → files_from n files (left w (flat_map file_text new ++ rest)) ≡ Ok (files ++ new, left w rest)
-files_back zero files new w rest room few tracked a d small other = absurd (omega (arith, room))
-files_back (suc n) files [] w rest room few tracked a d small other =
+    ascends (new_paths files ++ new_paths new) ≡ true → has_directory (new_paths files ++ new_paths new) ≡ false → AllByRecursion (λ (f : NewFile). IfSome f.from (λ path. is_source path ≡ true)) new →
+    AllByRecursion (λ (f : NewFile). length f.body ≤ 16777216) new → NoFile w rest → files_from n files (left w (flat_map file_text new ++ rest)) ≡ Ok (files ++ new, left w rest)
+files_back zero files new w rest room few tracked a d sources small other = absurd (omega (arith, room))
+files_back (suc n) files [] w rest room few tracked a d sources small other =
     then_ok (next_file files (left w rest)) (None, left w rest) (λ p. more files p.0 p.1 (λ all rest. files_from n all rest)) (Ok (files ++ [], left w rest))
-    (then_ok (optional file_of (left w rest)) (None, left w rest) (λ p. file_behind (place (left w rest)) files p.0 p.1) (Ok (None, left w rest)) other refl)
+    (none_next files w rest other)
     (ap (λ t. Ok (t, left w rest)) (sym (append-nil files)))
-files_back (suc n) files (f ∷ new) w rest room few tracked a d small other =
+files_back (suc n) files (f ∷ new) w rest room few tracked a d sources small other =
     let behind_f = flat_map file_text new ++ rest in
     let t = both (is_tracked f.path) (list_all is_tracked (new_paths new)) tracked in
     let paths = ap (λ ps. ps ++ new_paths new) (paths-push files f) ∙ append_assoc (new_paths files) (f.path ∷ []) (new_paths new) in
     let count = length_push files f in
     ap (λ b. files_from (suc n) files (left w b)) (append_assoc (file_text f) (flat_map file_text new) rest)
     ∙ then_ok (next_file files (left w (file_text f ++ behind_f))) (Some f, left w behind_f) (λ p. more files p.0 p.1 (λ all rest. files_from n all rest)) (Ok (files ++ f ∷ new, left w rest))
-    (file_back files f w behind_f t.0 (fits_so (new_paths files) f.path (new_paths new) a d) small.0 (omega (arith, few)))
-    (files_back n (files ++ f ∷ []) new w rest (omega (arith, room)) (omega (arith, few, count)) t.1 (ap ascends paths ∙ a) (ap has_directory paths ∙ d) small.1 other
+    (file_back files f w behind_f sources.0 t.0 (fits_so (new_paths files) f.path (new_paths new) a d) small.0 (omega (arith, few)))
+    (files_back n (files ++ f ∷ []) new w rest (omega (arith, room)) (omega (arith, few, count)) t.1 (ap ascends paths ∙ a) (ap has_directory paths ∙ d) sources.1 small.1 other
     ∙ ap (λ t. Ok (t, left w rest)) (append_assoc files (f ∷ []) new))
 
 -- ---- the whole
@@ -416,24 +461,34 @@ before_description form w text rest most e =
     let lacks = lacks-append 10 (codes "desc ") (decimal (length text)) (lacks_none (codes "desc ") refl) (decimal_lacks 10 (length text) (lit< tt) (omega (arith, most))) in
     subst (λ b. optional form (left w b) ≡ Ok (None, left w b)) (sym (append_assoc (line head) (line text) rest)) (optional_other form w head (line text ++ rest) lacks e)
 
-before_bookmark : (o : Option (List ℕ)) (w : ℕ) (text rest : List ℕ) → IfSome o (λ name. is_mark_name name ≡ true) → length text ≤ 65536 →
-    optional phase_of (left w (bookmark_text o ++ (description_text text ++ rest))) ≡ Ok (None, left w (bookmark_text o ++ (description_text text ++ rest)))
-before_bookmark None w text rest valid most = before_description phase_of w text rest most refl
-before_bookmark (Some name) w text rest valid most =
-    optional_other phase_of w (codes "bookmark " ++ name) (description_text text ++ rest) (lacks-append 10 (codes "bookmark ") name (lacks_none (codes "bookmark ") refl) (name_lacks name valid)) refl
+-- and so does that of a branch
+before_branch : {A : Type 0} (form : List ℕ → Option A) (says : Bool) (o : Option (List ℕ)) (w : ℕ) (text rest : List ℕ) → IfSome o (λ name. is_branch_name name ≡ true) → length text ≤ 65536 →
+    ((name : List ℕ) → form (codes "branch " ++ name) ≡ None) → form (codes "desc " ++ decimal (length text)) ≡ None →
+    optional form (left w (branch_text says o ++ (description_text text ++ rest))) ≡ Ok (None, left w (branch_text says o ++ (description_text text ++ rest)))
+before_branch form false None w text rest valid most other none = before_description form w text rest most none
+before_branch form true None w text rest valid most other none = optional_other form w (codes "branch default") (description_text text ++ rest) (lacks_none (codes "branch default") refl) (other (codes "default"))
+before_branch form says (Some name) w text rest valid most other none =
+    optional_other form w (codes "branch " ++ name) (description_text text ++ rest) (lacks-append 10 (codes "branch ") name (lacks_none (codes "branch ") refl) (branch_lacks name valid)) (other name)
+
+before_bookmark : (says : Bool) (o branch : Option (List ℕ)) (w : ℕ) (text rest : List ℕ) → IfSome o (λ name. is_mark_name name ≡ true) → IfSome branch (λ name. is_branch_name name ≡ true) → length text ≤ 65536 →
+    optional phase_of (left w (bookmark_text o ++ (branch_text says branch ++ (description_text text ++ rest)))) ≡ Ok (None, left w (bookmark_text o ++ (branch_text says branch ++ (description_text text ++ rest))))
+before_bookmark says None branch w text rest valid named most = before_branch phase_of says branch w text rest named most (λ name. refl) refl
+before_bookmark says (Some name) branch w text rest valid named most =
+    optional_other phase_of w (codes "bookmark " ++ name) (branch_text says branch ++ (description_text text ++ rest)) (lacks-append 10 (codes "bookmark ") name (lacks_none (codes "bookmark ") refl) (name_lacks name valid)) refl
 
 -- what the head of a changeset's record is read as
-abbrev head_of : Bool → NewChange → Head
-head_of says c = record { parents = c.parents; user = c.user; date = record { seconds = c.seconds; offset = c.offset; extras = [] }; phase = phase_option says c.phase; bookmark = c.bookmark }
+abbrev head_of : Wording → NewChange → Head
+head_of says c = record { parents = c.parents; user = c.user; date = record { seconds = c.seconds; offset = c.offset; extras = [] }; phase = phase_option says.draft c.phase; bookmark = c.bookmark; branch = c.branch }
 
-head_back : (says : Bool) (c : NewChange) (w : ℕ) (rest : List ℕ) → IsNewChange c →
+head_back : (says : Wording) (c : NewChange) (w : ℕ) (rest : List ℕ) → IsNewChange c →
     head_from (left w (line (codes "commit") ++ (flat_map parent_text c.parents ++ (line (codes "user " ++ c.user) ++ (line (codes "date " ++ date_text c.seconds c.offset [])
-    ++ (phase_text says c.phase ++ (bookmark_text c.bookmark ++ (description_text c.description ++ rest))))))))
+    ++ (phase_text says.draft c.phase ++ (bookmark_text c.bookmark ++ (branch_text says.default c.branch ++ (description_text c.description ++ rest)))))))))
     ≡ Ok (head_of says c, left w (description_text c.description ++ rest))
 head_back says c w rest h =
-    let r6 = description_text c.description ++ rest in
+    let r7 = description_text c.description ++ rest in
+    let r6 = branch_text says.default c.branch ++ r7 in
     let r5 = bookmark_text c.bookmark ++ r6 in
-    let r4 = phase_text says c.phase ++ r5 in
+    let r4 = phase_text says.draft c.phase ++ r5 in
     let r3 = line (codes "date " ++ date_text c.seconds c.offset []) ++ r4 in
     let r2 = line (codes "user " ++ c.user) ++ r3 in
     let r1 = flat_map parent_text c.parents ++ r2 in
@@ -442,38 +497,39 @@ head_back says c w rest h =
     then_ok (parents_from 2 [] (left w r1)) (c.parents, left w r2) _ _ (parents_back 2 [] c.parents w r2 h.parents h.names no_parent)
     (then_ok (required user_of (left w r2)) (c.user, left w r3) _ _ (user_back w c.user r3 h.user_utf8 h.user_least h.user_most h.user_line)
     (then_ok (required date_of (left w r3)) (record { seconds = c.seconds; offset = c.offset; extras = [] }, left w r4) _ _ (date_back w c.seconds c.offset r4 h.seconds h.offset)
-    (then_ok (optional phase_of (left w r4)) (phase_option says c.phase, left w r5) _ _ (phase_back says c.phase w r5 (before_bookmark c.bookmark w c.description rest h.bookmark h.description_most))
-    (then_ok (optional bookmark_of (left w r5)) (c.bookmark, left w r6) _ _ (bookmark_back c.bookmark w r6 h.bookmark (before_description bookmark_of w c.description rest h.description_most refl)) refl))))
+    (then_ok (optional phase_of (left w r4)) (phase_option says.draft c.phase, left w r5) _ _ (phase_back says.draft c.phase w r5 (before_bookmark says.default c.bookmark c.branch w c.description rest h.bookmark h.branch h.description_most))
+    (then_ok (optional bookmark_of (left w r5)) (c.bookmark, left w r6) _ _ (bookmark_back c.bookmark w r6 h.bookmark (before_branch bookmark_of says.default c.branch w c.description rest h.branch h.description_most (λ name. refl) refl))
+    (then_ok (branch_from (left w r6)) (c.branch, left w r7) _ _ (branch_back says.default c.branch w r7 h.branch (before_description branch_of w c.description rest h.description_most refl)) refl)))))
 
 more_bytes : (files : List NewFile) (rest : List ℕ) → 0 < length rest → length files < length (flat_map file_text files ++ rest)
 more_bytes [] rest h = h
 more_bytes (f ∷ files) rest h =
     let k = more_bytes files rest h in
     let a = ap length (append_assoc (file_text f) (flat_map file_text files) rest) ∙ length-append (file_text f) (flat_map file_text files ++ rest) in
-    let b : 0 < length (file_text f) = omega arith in
+    let b = file_text_some f in
     omega (arith, k, a, b)
 
-pub record_front_back : (says : Bool) (c : NewChange) (w : ℕ) (behind : List ℕ) → IsNewChange c → record_from (left w (record_text says c ++ behind)) ≡ Ok (c, left w behind)
+pub record_front_back : (says : Wording) (c : NewChange) (w : ℕ) (behind : List ℕ) → IsNewChange c → record_from (left w (record_text says c ++ behind)) ≡ Ok (c, left w behind)
 record_front_back says c w behind h =
     let r3 = line (codes "end") ++ behind in
     let r2 = flat_map file_text c.files ++ r3 in
     let r1 = description_text c.description ++ r2 in
     let count = h.count in
     let size = length-append (line (codes "end")) behind in
-    let no_file : optional file_of (left w r3) ≡ Ok (None, left w r3) = optional_other file_of w (codes "end") behind (lacks_none (codes "end") refl) refl in
+    let no_file : NoFile w r3 = record { source = optional_other copyfrom_of w (codes "end") behind (lacks_none (codes "end") refl) refl; line = optional_other file_of w (codes "end") behind (lacks_none (codes "end") refl) refl } in
     ap (λ b. record_from (left w b)) (record_then says c behind)
     ∙ then_ok (head_from (left w (record_lines says c r1))) (head_of says c, left w r1) _ _ (head_back says c w r2 h)
     (then_ok (description_from (left w r1)) (c.description, left w r2) _ _ (description_back w c.description r2 h.description h.description_most)
-    (then_ok (files_from (length r2) [] (left w r2)) (c.files, left w r3) _ _ (files_back (length r2) [] c.files w r3 (more_bytes c.files r3 (omega (arith, size))) (omega (arith, count)) h.paths h.ordered h.apart h.bodies no_file)
+    (then_ok (files_from (length r2) [] (left w r2)) (c.files, left w r3) _ _ (files_back (length r2) [] c.files w r3 (more_bytes c.files r3 (omega (arith, size))) (omega (arith, count)) h.paths h.ordered h.apart h.sources h.bodies no_file)
     (then_ok (required (word_of (codes "end")) (left w r3)) (tt, left w behind) (λ x. Ok (change_with (head_of says c) c.description c.files, x.1)) _ (required_back (word_of (codes "end")) w (codes "end") behind tt (lacks_none (codes "end") refl) (word_back (codes "end")))
-    (ap (λ p. Ok (record c { phase = p }, left w behind)) (phase_is says c.phase)))))
+    (ap (λ p. Ok (record c { phase = p }, left w behind)) (phase_is says.draft c.phase)))))
   where
-    record_lines : Bool → NewChange → List ℕ → List ℕ
+    record_lines : Wording → NewChange → List ℕ → List ℕ
     record_lines says c rest =
         line (codes "commit") ++ (flat_map parent_text c.parents ++ (line (codes "user " ++ c.user) ++ (line (codes "date " ++ date_text c.seconds c.offset [])
-        ++ (phase_text says c.phase ++ (bookmark_text c.bookmark ++ rest)))))
+        ++ (phase_text says.draft c.phase ++ (bookmark_text c.bookmark ++ (branch_text says.default c.branch ++ rest))))))
 
-pub record_back : (says : Bool) (c : NewChange) → IsNewChange c → length (record_text says c) ≤ most_input → read_record (record_text says c) ≡ Ok c
+pub record_back : (says : Wording) (c : NewChange) → IsNewChange c → length (record_text says c) ≤ most_input → read_record (record_text says c) ≡ Ok c
 record_back says c h small =
     let text = record_text says c in
     let w = length text in

@@ -22,13 +22,13 @@ use Rattle.hgs_model.specs.declared.files.NewFile.{NewFile}
 use Rattle.hgs_model.specs.declared.phase.Phase.{Phase}
 use Rattle.hgs_model.specs.declared.phase.Phase.TheVariants.{Public, Draft, Secret}
 use Rattle.hgs_model.specs.Phase.{phase_name, phase_named}
-use Rattle.hgs_model.specs.Valid.{new_paths, IsNewChange}
+use Rattle.hgs_model.specs.Valid.{is_branch_name, is_source, new_paths, IsNewChange}
 use Rattle.hgs_input.specs.declared.fault.InputFault.{InputFault}
 use Rattle.hgs_input.specs.declared.fault.InputFault.TheVariants.{Limit}
 use Rattle.hgs_index.specs.declared.kinds.Which.TheVariants.{Record}
-use Rattle.hgs_input.specs.Record.{most_input, parent_text, phase_text, bookmark_text, description_text, file_text, record_text, IsRecord}
+use Rattle.hgs_input.specs.Record.{most_input, parent_text, phase_text, bookmark_text, branch_text, description_text, file_text, Wording, record_text, IsRecord}
 use Rattle.hgs_input.specs.Front.{IsRecordBefore}
-use Rattle.hgs_input.specs.Read.{Rest, ◌>>=◌, place, bad_at, required, optional, counted, behind, and_then, where_true, word_of, parent_of, is_user, most_user, user_of, date_of, phase_of, bookmark_of, number_up_to, most_description, length_of, more, parents_from, text_at, description_from, next_file, files_from, nothing_behind, Head, head_from, change_with, record_from, looked_at, start_of, read_record}
+use Rattle.hgs_input.specs.Read.{Rest, ◌>>=◌, place, bad_at, required, optional, counted, behind, and_then, where_true, word_of, parent_of, is_user, most_user, user_of, date_of, phase_of, bookmark_of, branch_of, branch_from, number_up_to, most_description, length_of, more, parents_from, text_at, description_from, next_file, files_from, nothing_behind, Head, head_from, change_with, record_from, looked_at, start_of, read_record}
 use Rattle.hgs_input.specs.View.{IsTree}
 use Rattle.hgs_input.proofs.WholeLemmas.{record_then, looked-length, looked-whole}
 use Rattle.hgs_input.proofs.FoundLemmas.{bound, ok_is, some_is, contradiction, and_then_some, where_some, both, not_true, LineFound, required_found, optional_some, optional_none, counted_found, behind_some, number_found as count_found, FileFound, file_found, file_none, tree_with, paths-push}
@@ -47,7 +47,7 @@ before_both r mid rest a b f g = record { is = f.is ∙ ap (λ t. a ++ t) g.is �
 before_none : (r rest : Rest) → r ≡ rest → Before r [] rest
 before_none r rest e = record { is = ap (λ (q : Rest). q.bytes) e; whole = ap (λ (q : Rest). q.whole) (sym e) }
 
-before_same : (r rest : Rest) (a b : List ℕ) → a ≡ b → Before r a rest → Before r b rest
+pub before_same : (r rest : Rest) (a b : List ℕ) → a ≡ b → Before r a rest → Before r b rest
 before_same r rest a b e f = record { is = f.is ∙ ap (λ t. t ++ rest.bytes) e; whole = f.whole }
 
 -- ---- words and names
@@ -229,6 +229,38 @@ bookmark_found r (Some name) rest e =
     let text : f.text ≡ codes "bookmark " ++ name = behind_some (codes "bookmark ") f.text a.value a.is ∙ ap (λ t. codes "bookmark " ++ t) w.1 in
     record { before = before_same r rest (line f.text) (bookmark_text (Some name)) (ap line text) (before_line r f.text rest f.found); valid = ap is_mark_name (sym w.1) ∙ w.0 }
 
+-- the line of a branch, where there is one, and whether it is that of `default`
+pub record BranchFound (r : Rest) (o : Option (List ℕ)) (rest : Rest) : Type 0 where
+  pub default : Bool
+  pub before : Before r (branch_text default o) rest
+  pub valid : IfSome o (λ name. is_branch_name name ≡ true)
+
+branch_said : (r : Rest) (name : List ℕ) (o : Option (List ℕ)) (rest : Rest) → Before r (line (codes "branch " ++ name)) rest
+    → (if same name (codes "default") then Some None else where_true (is_branch_name name) (Some name)) ≡ Some o → BranchFound r o rest
+branch_said r name o rest before e = by (same name (codes "default")) refl e
+  where
+    by : (t : Bool) → same name (codes "default") ≡ t → (if t then Some None else where_true (is_branch_name name) (Some name)) ≡ Some o → BranchFound r o rest
+    by true a k =
+        let none : BranchFound r None rest = record { default = true; before = before_same r rest _ _ (ap (λ n. line (codes "branch " ++ n)) (same-eq name (codes "default") a)) before; valid = tt } in
+        subst (λ o. BranchFound r o rest) (some_is None o k) none
+    by false a k =
+        let w = where_some (is_branch_name name) (Some name) o k in
+        let named : BranchFound r (Some name) rest = record { default = false; before = before; valid = w.0 } in
+        subst (λ o. BranchFound r o rest) w.1 named
+
+pub branch_found : (r : Rest) (p : Option (List ℕ) × Rest) → branch_from r ≡ Ok p → BranchFound r p.0 p.1
+branch_found r p e =
+    let b = bound (optional branch_of r) (λ b. Ok (unwrap_or b.0 None, b.1)) p e in
+    let P : Option (List ℕ) × Rest → Type 0 = λ q. BranchFound r q.0 q.1 in
+    subst P (ok_is (unwrap_or b.value.0 None, b.value.1) p b.gives) (by b.value.0 b.value.1 b.is)
+  where
+    by : (o : Option (Option (List ℕ))) (rest : Rest) → optional branch_of r ≡ Ok (o, rest) → BranchFound r (unwrap_or o None) rest
+    by None rest k = record { default = false; before = before_none r rest (optional_none branch_of r rest k); valid = tt }
+    by (Some o) rest k =
+        let f = optional_some branch_of r o rest k in
+        let a = and_then_some (behind (codes "branch ") f.text) (λ name. if same name (codes "default") then Some None else where_true (is_branch_name name) (Some name)) o f.says in
+        branch_said r a.value o rest (before_same r rest (line f.text) _ (ap line (behind_some (codes "branch ") f.text a.value a.is)) (before_line r f.text rest f.found)) a.gives
+
 -- ---- the description
 
 pub record DescriptionFound (r : Rest) (text : List ℕ) (rest : Rest) : Type 0 where
@@ -282,6 +314,7 @@ pub record AreFiles (files : List NewFile) : Type 0 where
   pub few : length files ≤ 20000
   pub tracked : list_all is_tracked (new_paths files) ≡ true
   pub tree : IsTree files
+  pub sources : AllByRecursion (λ (f : NewFile). IfSome f.from (λ path. is_source path ≡ true)) files
   pub small : AllByRecursion (λ (f : NewFile). length f.body ≤ 16777216) files
 
 all_tracked : (paths : List (List ℕ)) (path : List ℕ) → list_all is_tracked paths ≡ true → is_tracked path ≡ true → list_all is_tracked (paths ++ path ∷ []) ≡ true
@@ -291,7 +324,7 @@ all_tracked (p ∷ paths) path h k =
     ap (λ t. t && list_all is_tracked (paths ++ path ∷ [])) b.0 ∙ all_tracked paths path b.1 k
 
 no_files : AreFiles []
-no_files = record { few = omega arith; tracked = refl; tree = record { ordered = refl; apart = refl }; small = tt }
+no_files = record { few = omega arith; tracked = refl; tree = record { ordered = refl; apart = refl }; sources = tt; small = tt }
 
 files_with : (files : List NewFile) (r : Rest) (f : NewFile) (rest : Rest) → AreFiles files → FileFound files r f rest → AreFiles (files ++ f ∷ [])
 files_with files r f rest h g =
@@ -301,6 +334,7 @@ files_with files r f rest h g =
       few = omega (arith, few, count);
       tracked = ap (list_all is_tracked) (paths-push files f) ∙ all_tracked (new_paths files) f.path h.tracked g.tracked;
       tree = tree_with files f g.fits;
+      sources = all-append (λ (f : NewFile). IfSome f.from (λ path. is_source path ≡ true)) files (f ∷ []) h.sources (g.source, tt);
       small = all-append (λ (f : NewFile). length f.body ≤ 16777216) files (f ∷ []) h.small (g.small, tt);
     }
 
@@ -345,13 +379,14 @@ none_behind r e = by (length r.bytes == 0) (nat_le r.whole most_input) refl refl
 -- ---- the whole
 
 -- what a head says, up to its texts
-abbrev head_text : Head → List ℕ
-head_text h =
+abbrev head_text : Bool → Head → List ℕ
+head_text default h =
     line (codes "commit") ++ (flat_map parent_text h.parents ++ (line (codes "user " ++ h.user) ++ (line (codes "date " ++ date_text h.date.seconds h.date.offset [])
-    ++ (phase_text (is_some h.phase) (unwrap_or h.phase Draft) ++ bookmark_text h.bookmark))))
+    ++ (phase_text (is_some h.phase) (unwrap_or h.phase Draft) ++ (bookmark_text h.bookmark ++ branch_text default h.branch)))))
 
 pub record HeadFound (r : Rest) (h : Head) (rest : Rest) : Type 0 where
-  pub before : Before r (head_text h) rest
+  pub default : Bool
+  pub before : Before r (head_text default h) rest
   pub parents : length h.parents ≤ 2
   pub names : AllByRecursion (Lacks 10) h.parents
   pub user_utf8 : IsUtf8 h.user
@@ -361,6 +396,7 @@ pub record HeadFound (r : Rest) (h : Head) (rest : Rest) : Type 0 where
   pub seconds : unsigned_abs h.date.seconds ≤ most_seconds
   pub offset : unsigned_abs h.date.offset ≤ most_offset
   pub bookmark : IfSome h.bookmark (λ name. is_mark_name name ≡ true)
+  pub branch : IfSome h.branch (λ name. is_branch_name name ≡ true)
 
 -- the parts of a head, one after another
 record HeadParts (r : Rest) (h : Head) (rest : Rest) : Type 0 where
@@ -369,12 +405,14 @@ record HeadParts (r : Rest) (h : Head) (rest : Rest) : Type 0 where
   pub r3 : Rest
   pub r4 : Rest
   pub r5 : Rest
+  pub r6 : Rest
   pub begin : required (word_of (codes "commit")) r ≡ Ok (tt, r1)
   pub parents : parents_from 2 [] r1 ≡ Ok (h.parents, r2)
   pub user : required user_of r2 ≡ Ok (h.user, r3)
   pub date : required date_of r3 ≡ Ok (h.date, r4)
   pub phase : optional phase_of r4 ≡ Ok (h.phase, r5)
-  pub bookmark : optional bookmark_of r5 ≡ Ok (h.bookmark, rest)
+  pub bookmark : optional bookmark_of r5 ≡ Ok (h.bookmark, r6)
+  pub branch : branch_from r6 ≡ Ok (h.branch, rest)
 
 head_parts : (r : Rest) (p : Head × Rest) → head_from r ≡ Ok p → HeadParts r p.0 p.1
 head_parts r p e =
@@ -384,20 +422,23 @@ head_parts r p e =
     let d = bound (required date_of c.value.1) _ p c.gives in
     let f = bound (optional phase_of d.value.1) _ p d.gives in
     let g = bound (optional bookmark_of f.value.1) _ p f.gives in
-    let made : Head = record { parents = b.value.0; user = c.value.0; date = d.value.0; phase = f.value.0; bookmark = g.value.0 } in
+    let i = bound (branch_from g.value.1) _ p g.gives in
+    let made : Head = record { parents = b.value.0; user = c.value.0; date = d.value.0; phase = f.value.0; bookmark = g.value.0; branch = i.value.0 } in
     let P : Head × Rest → Type 0 = λ q. HeadParts r q.0 q.1 in
-    subst P (ok_is (made, g.value.1) p g.gives) (record {
+    subst P (ok_is (made, i.value.1) p i.gives) (record {
       r1 = a.value.1;
       r2 = b.value.1;
       r3 = c.value.1;
       r4 = d.value.1;
       r5 = f.value.1;
+      r6 = g.value.1;
       begin = a.is;
       parents = b.is;
       user = c.is;
       date = d.is;
       phase = f.is;
       bookmark = g.is;
+      branch = i.is;
     })
 
 pub head_found : (r : Rest) (p : Head × Rest) → head_from r ≡ Ok p → HeadFound r p.0 p.1
@@ -408,8 +449,10 @@ head_found r p e =
     let user = user_found k.r2 (h.user, k.r3) k.user in
     let date = date_line_found k.r3 (h.date, k.r4) k.date in
     let phase = phase_found k.r4 h.phase k.r5 k.phase in
-    let bookmark = bookmark_found k.r5 h.bookmark p.1 k.bookmark in
-    let from_phase = before_both k.r4 k.r5 p.1 _ _ phase bookmark.before in
+    let bookmark = bookmark_found k.r5 h.bookmark k.r6 k.bookmark in
+    let branch = branch_found k.r6 (h.branch, p.1) k.branch in
+    let from_bookmark = before_both k.r5 k.r6 p.1 _ _ bookmark.before branch.before in
+    let from_phase = before_both k.r4 k.r5 p.1 _ _ phase from_bookmark in
     let from_date = before_both k.r3 k.r4 p.1 _ _ date.before from_phase in
     let from_user = before_both k.r2 k.r3 p.1 _ _ user.before from_date in
     let names : Before k.r1 (flat_map parent_text h.parents) k.r2 = before_same k.r1 k.r2 _ _ (ap (flat_map parent_text) (sym parents.is)) parents.before in
@@ -417,6 +460,7 @@ head_found r p e =
     let few = parents.few in
     let count = ap length parents.is in
     record {
+      default = branch.default;
       before = before_both r k.r1 p.1 _ _ (word_found (codes "commit") r (tt, k.r1) k.begin) from_parents;
       parents = omega (arith, few, count);
       names = subst (AllByRecursion (Lacks 10)) (sym parents.is) parents.names_lack;
@@ -427,23 +471,26 @@ head_found r p e =
       seconds = date.seconds;
       offset = date.offset;
       bookmark = bookmark.valid;
+      branch = branch.valid;
     }
 
 -- the text of a head and what follows, as the text of a record with something behind it
-head_then : (h : Head) (d : List ℕ) (files : List NewFile) (behind : List ℕ) →
-    head_text h ++ (description_text d ++ (flat_map file_text files ++ (line (codes "end") ++ behind))) ≡ record_text (is_some h.phase) (change_with h d files) ++ behind
-head_then h d files behind =
+head_then : (default : Bool) (h : Head) (d : List ℕ) (files : List NewFile) (behind : List ℕ) →
+    head_text default h ++ (description_text d ++ (flat_map file_text files ++ (line (codes "end") ++ behind))) ≡ record_text (record { draft = is_some h.phase; default = default }) (change_with h d files) ++ behind
+head_then default h d files behind =
     let rest = description_text d ++ (flat_map file_text files ++ (line (codes "end") ++ behind)) in
+    let marks = bookmark_text h.bookmark ++ branch_text default h.branch in
     let phase = phase_text (is_some h.phase) (unwrap_or h.phase Draft) in
     let date = line (codes "date " ++ date_text h.date.seconds h.date.offset []) in
     let user = line (codes "user " ++ h.user) in
     let names = flat_map parent_text h.parents in
-    append_assoc (line (codes "commit")) (names ++ (user ++ (date ++ (phase ++ bookmark_text h.bookmark)))) rest
-    ∙ ap (λ t. line (codes "commit") ++ t) (append_assoc names (user ++ (date ++ (phase ++ bookmark_text h.bookmark))) rest
-    ∙ ap (λ t. names ++ t) (append_assoc user (date ++ (phase ++ bookmark_text h.bookmark)) rest
-    ∙ ap (λ t. user ++ t) (append_assoc date (phase ++ bookmark_text h.bookmark) rest
-    ∙ ap (λ t. date ++ t) (append_assoc phase (bookmark_text h.bookmark) rest))))
-    ∙ sym (record_then (is_some h.phase) (change_with h d files) behind)
+    append_assoc (line (codes "commit")) (names ++ (user ++ (date ++ (phase ++ marks)))) rest
+    ∙ ap (λ t. line (codes "commit") ++ t) (append_assoc names (user ++ (date ++ (phase ++ marks))) rest
+    ∙ ap (λ t. names ++ t) (append_assoc user (date ++ (phase ++ marks)) rest
+    ∙ ap (λ t. user ++ t) (append_assoc date (phase ++ marks) rest
+    ∙ ap (λ t. date ++ t) (append_assoc phase marks rest
+    ∙ ap (λ t. phase ++ t) (append_assoc (bookmark_text h.bookmark) (branch_text default h.branch) rest)))))
+    ∙ sym (record_then (record { draft = is_some h.phase; default = default }) (change_with h d files) behind)
 
 -- the parts of a record, one after another
 record RecordParts (r : Rest) (c : NewChange) (rest : Rest) : Type 0 where
@@ -490,9 +537,10 @@ record_before r p e =
     let files = files_found (length k.r2.bytes) [] k.r2 (k.files, k.r3) no_files k.files_are in
     let tail = word_found (codes "end") k.r3 (tt, p.1) k.end_is in
     let texts : Before k.r2 (flat_map file_text k.files) k.r3 = before_same k.r2 k.r3 _ _ (ap (flat_map file_text) (sym files.is)) files.before in
-    let is : r.bytes ≡ record_text (is_some h.phase) (change_with h k.description k.files) ++ p.1.bytes =
-    head.before.is ∙ ap (λ t. head_text h ++ t) (description.before.is ∙ ap (λ t. description_text k.description ++ t) (texts.is ∙ ap (λ t. flat_map file_text k.files ++ t) tail.is))
-    ∙ head_then h k.description k.files p.1.bytes in
+    let says : Wording = record { draft = is_some h.phase; default = head.default } in
+    let is : r.bytes ≡ record_text says (change_with h k.description k.files) ++ p.1.bytes =
+    head.before.is ∙ ap (λ t. head_text head.default h ++ t) (description.before.is ∙ ap (λ t. description_text k.description ++ t) (texts.is ∙ ap (λ t. flat_map file_text k.files ++ t) tail.is))
+    ∙ head_then head.default h k.description k.files p.1.bytes in
     let valid : IsNewChange (change_with h k.description k.files) = record {
       parents = head.parents;
       names = head.names;
@@ -503,16 +551,18 @@ record_before r p e =
       seconds = head.seconds;
       offset = head.offset;
       bookmark = head.bookmark;
+      branch = head.branch;
       description = description.utf8;
       description_most = description.most;
       count = files.are.few;
       paths = files.are.tracked;
       ordered = files.are.tree.ordered;
       apart = files.are.tree.apart;
+      sources = files.are.sources;
       bodies = files.are.small;
     } in
     let whole : p.1.whole ≡ r.whole = tail.whole ∙ texts.whole ∙ description.before.whole ∙ head.before.whole in
-    subst (λ (c : NewChange). IsRecordBefore r c p.1) k.change (record { says_draft = is_some h.phase; text = is; valid = valid; whole = whole })
+    subst (λ (c : NewChange). IsRecordBefore r c p.1) k.change (record { says = says; text = is; valid = valid; whole = whole })
 
 pub record_found : (bytes : List ℕ) (c : NewChange) → read_record bytes ≡ Ok c → IsRecord bytes c
 record_found bytes c e =
@@ -520,8 +570,8 @@ record_found bytes c e =
     let b = bound (nothing_behind a.value.1) (λ _. Ok a.value.0) c a.gives in
     let found = record_before (start_of bytes) a.value a.is in
     let none = none_behind a.value.1 b.is in
-    let is : looked_at bytes ≡ record_text found.says_draft a.value.0 = found.text ∙ ap (λ t. record_text found.says_draft a.value.0 ++ t) none.0 ∙ append-nil (record_text found.says_draft a.value.0) in
+    let is : looked_at bytes ≡ record_text found.says a.value.0 = found.text ∙ ap (λ t. record_text found.says a.value.0 ++ t) none.0 ∙ append-nil (record_text found.says a.value.0) in
     let room : length (looked_at bytes) ≤ most_input = subst (λ n. n ≤ most_input) found.whole none.1 in
     let few = looked-length bytes room in
-    let whole : IsRecord (looked_at bytes) a.value.0 = record { says_draft = found.says_draft; text = is; valid = found.valid; size = room } in
+    let whole : IsRecord (looked_at bytes) a.value.0 = record { says = found.says; text = is; valid = found.valid; size = room } in
     subst (λ (d : NewChange). IsRecord bytes d) (ok_is a.value.0 c b.gives) (subst (λ b. IsRecord b a.value.0) (looked-whole bytes (omega (arith, few))) whole)

@@ -1,13 +1,13 @@
 -- A record and the end of the input in one, and what is looked at of an input.
 use Rattle.std.proofs.Common.{◌≡◌, ℕ, zero, suc, ◌+◌, ◌-◌, ◌≤◌, List, [], ◌∷◌, ◌++◌, length, take, Result, Ok, Err, refl, sym, ◌∙◌, ap, arith, append_assoc}
-use Rattle.std.specs.Prelude.{codes, flat_map, Bool}
+use Rattle.std.specs.Prelude.{codes, flat_map}
 use Rattle.std.proofs.lemmas.List.{take_all, take-append-le, length-take}
 use Rattle.hgs_model.specs.declared.command.NewChange.{NewChange}
 use Rattle.hgs_model.specs.declared.files.NewFile.{NewFile}
 use Rattle.hgs_input.specs.declared.fault.InputFault.{InputFault}
 use Rattle.hgs_bytes.specs.Text.{line}
 use Rattle.hgs_index.specs.ChangeText.{date_text}
-use Rattle.hgs_input.specs.Record.{most_input, parent_text, phase_text, bookmark_text, description_text, file_text, record_text}
+use Rattle.hgs_input.specs.Record.{most_input, parent_text, phase_text, bookmark_text, branch_text, description_text, file_text, Wording, record_text}
 use Rattle.hgs_input.specs.Read.{Rest, Reading, ◌>>=◌, required, word_of, Head, head_from, description_from, files_from, nothing_behind, change_with, record_from, looked_at, start_of, read_record}
 
 -- the last line, and nothing behind it
@@ -84,25 +84,28 @@ read-all bytes all e = read-looked bytes ∙ ap (λ b. change_from (record { who
 
 -- ---- a record with something behind it
 
-pub record_then : (says : Bool) (c : NewChange) (behind : List ℕ) → record_text says c ++ behind ≡
+pub record_then : (says : Wording) (c : NewChange) (behind : List ℕ) → record_text says c ++ behind ≡
     line (codes "commit") ++ (flat_map parent_text c.parents ++ (line (codes "user " ++ c.user) ++ (line (codes "date " ++ date_text c.seconds c.offset [])
-    ++ (phase_text says c.phase ++ (bookmark_text c.bookmark ++ (description_text c.description ++ (flat_map file_text c.files ++ (line (codes "end") ++ behind))))))))
+    ++ (phase_text says.draft c.phase ++ (bookmark_text c.bookmark ++ (branch_text says.default c.branch ++ (description_text c.description ++ (flat_map file_text c.files ++ (line (codes "end") ++ behind)))))))))
 record_then says c behind =
     let end = line (codes "end") in
     let files = flat_map file_text c.files in
     let description = description_text c.description in
     let bookmark = bookmark_text c.bookmark in
-    let phase = phase_text says c.phase in
+    let branch = branch_text says.default c.branch in
+    let phase = phase_text says.draft c.phase in
     let date = line (codes "date " ++ date_text c.seconds c.offset []) in
     let user = line (codes "user " ++ c.user) in
     let names = flat_map parent_text c.parents in
     let from_description : (description ++ (files ++ end)) ++ behind ≡ description ++ (files ++ (end ++ behind)) =
     append_assoc description (files ++ end) behind ∙ ap (λ t. description ++ t) (append_assoc files end behind) in
-    let from_phase : (phase ++ (bookmark ++ (description ++ (files ++ end)))) ++ behind ≡ phase ++ (bookmark ++ (description ++ (files ++ (end ++ behind)))) =
-    append_assoc phase (bookmark ++ (description ++ (files ++ end))) behind
-    ∙ ap (λ t. phase ++ t) (append_assoc bookmark (description ++ (files ++ end)) behind ∙ ap (λ t. bookmark ++ t) from_description) in
-    append_assoc (line (codes "commit")) (names ++ (user ++ (date ++ (phase ++ (bookmark ++ (description ++ (files ++ end))))))) behind
-    ∙ ap (λ t. line (codes "commit") ++ t) (append_assoc names (user ++ (date ++ (phase ++ (bookmark ++ (description ++ (files ++ end)))))) behind
-    ∙ ap (λ t. names ++ t) (append_assoc user (date ++ (phase ++ (bookmark ++ (description ++ (files ++ end))))) behind
-    ∙ ap (λ t. user ++ t) (append_assoc date (phase ++ (bookmark ++ (description ++ (files ++ end)))) behind
+    let from_bookmark : (bookmark ++ (branch ++ (description ++ (files ++ end)))) ++ behind ≡ bookmark ++ (branch ++ (description ++ (files ++ (end ++ behind)))) =
+    append_assoc bookmark (branch ++ (description ++ (files ++ end))) behind
+    ∙ ap (λ t. bookmark ++ t) (append_assoc branch (description ++ (files ++ end)) behind ∙ ap (λ t. branch ++ t) from_description) in
+    let from_phase : (phase ++ (bookmark ++ (branch ++ (description ++ (files ++ end))))) ++ behind ≡ phase ++ (bookmark ++ (branch ++ (description ++ (files ++ (end ++ behind))))) =
+    append_assoc phase (bookmark ++ (branch ++ (description ++ (files ++ end)))) behind ∙ ap (λ t. phase ++ t) from_bookmark in
+    append_assoc (line (codes "commit")) (names ++ (user ++ (date ++ (phase ++ (bookmark ++ (branch ++ (description ++ (files ++ end)))))))) behind
+    ∙ ap (λ t. line (codes "commit") ++ t) (append_assoc names (user ++ (date ++ (phase ++ (bookmark ++ (branch ++ (description ++ (files ++ end))))))) behind
+    ∙ ap (λ t. names ++ t) (append_assoc user (date ++ (phase ++ (bookmark ++ (branch ++ (description ++ (files ++ end)))))) behind
+    ∙ ap (λ t. user ++ t) (append_assoc date (phase ++ (bookmark ++ (branch ++ (description ++ (files ++ end))))) behind
     ∙ ap (λ t. date ++ t) from_phase)))

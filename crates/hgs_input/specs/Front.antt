@@ -1,9 +1,9 @@
 -- What stands in front of an input, and what is read of a front.
-use Rattle.std.specs.Prelude.{◌≡◌, ◌⊎◌, ◌+◌, ℕ, Bool, List, ◌++◌, length, Ok, Err}
+use Rattle.std.specs.Prelude.{◌≡◌, ◌⊎◌, ◌+◌, ℕ, List, ◌++◌, length, Ok, Err}
 use Rattle.hgs_model.specs.declared.command.NewChange.{NewChange}
 use Rattle.hgs_model.specs.Valid.{IsNewChange}
 use Rattle.hgs_input.specs.declared.fault.InputFault.{InputFault}
-use Rattle.hgs_input.specs.Record.{record_text}
+use Rattle.hgs_input.specs.Record.{Wording, record_text}
 use Rattle.hgs_input.specs.Read.{Rest, Reading, bad_at}
 
 -- what is left of an input
@@ -12,8 +12,8 @@ left w bytes = record { whole = w; bytes = bytes }
 
 -- a record of this changeset stands in front, and this is left behind it
 pub record IsRecordBefore (r : Rest) (c : NewChange) (rest : Rest) : Type 0 where
-  pub says_draft : Bool
-  pub text : r.bytes ≡ record_text says_draft c ++ rest.bytes
+  pub says : Wording
+  pub text : r.bytes ≡ record_text says c ++ rest.bytes
   pub valid : IsNewChange c
   pub whole : rest.whole ≡ r.whole
 

@@ -1,5 +1,5 @@
 -- What an input is read as: the changeset of a record, or the first fault.
-use Rattle.std.specs.Prelude.{ℕ, zero, suc, ◌+◌, ◌-◌, Bool, true, false, ◌&&◌, ◌||◌, ◌==◌, not, nat_le, nat_lt, List, [], ◌∷◌, ◌++◌, length, take, drop, slice_index, min, Option, Some, None, Result, Ok, Err, codes, if◌then◌else◌, unwrap_or}
+use Rattle.std.specs.Prelude.{ℕ, zero, suc, ◌+◌, ◌-◌, Bool, true, false, ◌&&◌, ◌||◌, ◌==◌, not, nat_le, nat_lt, List, [], ◌∷◌, ◌++◌, length, take, drop, slice_index, min, Option, Some, None, is_some, Result, Ok, Err, codes, if◌then◌else◌, unwrap_or}
 use Rattle.std.specs.List.{list_any, list_all}
 use Rattle.std.specs.Str.{is_utf8}
 use Rattle.std.specs.Str.Parse.{digits_value}
@@ -16,7 +16,7 @@ use Rattle.hgs_model.specs.declared.files.NewFile.{NewFile}
 use Rattle.hgs_model.specs.declared.phase.Phase.{Phase}
 use Rattle.hgs_model.specs.declared.phase.Phase.TheVariants.{Draft}
 use Rattle.hgs_model.specs.Phase.{phase_named}
-use Rattle.hgs_model.specs.Valid.{has_directory, new_paths}
+use Rattle.hgs_model.specs.Valid.{has_directory, is_branch_name, is_source, new_paths}
 use Rattle.hgs_input.specs.declared.fault.InputFault.{InputFault}
 use Rattle.hgs_input.specs.declared.fault.InputFault.TheVariants.{BadInput, Limit, Memory}
 use Rattle.hgs_input.specs.Record.{most_input}
@@ -131,6 +131,13 @@ phase_of line = and_then (behind (codes "phase ") line) phase_named
 abbrev pub bookmark_of : List ℕ → Option (List ℕ)
 bookmark_of line = and_then (behind (codes "bookmark ") line) (λ name. where_true (is_mark_name name) name)
 
+-- the branch that a line names; `default` is that of a changeset that names none
+abbrev pub branch_of : List ℕ → Option (Option (List ℕ))
+branch_of line = and_then (behind (codes "branch ") line) (λ name. if same name (codes "default") then Some None else where_true (is_branch_name name) (Some name))
+
+abbrev pub copyfrom_of : List ℕ → Option (List ℕ)
+copyfrom_of line = and_then (behind (codes "copyfrom ") line) (λ path. where_true (is_source path) path)
+
 -- decimal digits without a needless zero
 abbrev pub is_number : List ℕ → Bool
 is_number text = not (length text == 0) && list_all is_digit text && (length text == 1 || not (slice_index text 0 == 48))
@@ -192,16 +199,24 @@ allowed at files f =
     else if nat_le most_files (length files) then Err (fault_at at (Limit Tree))
     else Ok f
 
-abbrev pub file_with : FileLine → List ℕ → NewFile
-file_with f body = record { path = f.path; flag = f.flag; body = body }
+abbrev pub file_with : FileLine → Option (List ℕ) → List ℕ → NewFile
+file_with f from body = record { path = f.path; flag = f.flag; from = from; body = body }
 
-abbrev pub file_behind : ℕ → List NewFile → Option FileLine → Rest → Reading (Option NewFile)
-file_behind at files None r = Ok (None, r)
-file_behind at files (Some line) r = allowed at files line >>= λ f. counted f.size r >>= λ body. Ok (Some (file_with f body.0), body.1)
+-- the line of a file where it is next, and it has to be behind the line of a source
+abbrev pub file_line_from : Bool → Rest → Reading (Option FileLine)
+file_line_from true r = required file_of r >>= λ f. Ok (Some f.0, f.1)
+file_line_from false r = optional file_of r
 
--- the next file behind these, where a line of a file is next
+abbrev pub file_behind : ℕ → List NewFile → Option (List ℕ) → Option FileLine → Rest → Reading (Option NewFile)
+file_behind at files from None r = Ok (None, r)
+file_behind at files from (Some line) r = allowed at files line >>= λ f. counted f.size r >>= λ body. Ok (Some (file_with f from body.0), body.1)
+
+-- the next file behind these, where the line of a source or that of a file is next
 abbrev pub next_file : List NewFile → Rest → Reading (Option NewFile)
-next_file files r = optional file_of r >>= λ p. file_behind (place r) files p.0 p.1
+next_file files r = do
+  from ← optional copyfrom_of r
+  line ← file_line_from (is_some from.0) from.1
+  file_behind (place from.1) files from.0 line.0 line.1
 
 -- these files and those behind them; n is no less than the number of bytes that are left
 abbrev pub files_from : ℕ → List NewFile → Rest → Reading (List NewFile)
@@ -219,6 +234,11 @@ pub record Head : Type 0 where
   pub date : When
   pub phase : Option Phase
   pub bookmark : Option (List ℕ)
+  pub branch : Option (List ℕ)
+
+-- the branch, where a line names one
+abbrev pub branch_from : Rest → Reading (Option (List ℕ))
+branch_from r = optional branch_of r >>= λ b. Ok (unwrap_or b.0 None, b.1)
 
 abbrev pub head_from : Rest → Reading Head
 head_from r = do
@@ -228,7 +248,8 @@ head_from r = do
   date ← required date_of user.1
   phase ← optional phase_of date.1
   bookmark ← optional bookmark_of phase.1
-  Ok (record { parents = parents.0; user = user.0; date = date.0; phase = phase.0; bookmark = bookmark.0 }, bookmark.1)
+  branch ← branch_from bookmark.1
+  Ok (record { parents = parents.0; user = user.0; date = date.0; phase = phase.0; bookmark = bookmark.0; branch = branch.0 }, branch.1)
 
 -- a changeset is a draft where its record does not say a phase
 abbrev pub change_with : Head → List ℕ → List NewFile → NewChange
@@ -239,6 +260,7 @@ change_with h description files = record {
   offset = h.date.offset;
   phase = unwrap_or h.phase Draft;
   bookmark = h.bookmark;
+  branch = h.branch;
   description = description;
   files = files;
 }

@@ -1,5 +1,5 @@
 -- The record of a new changeset: the text that a commit reads.
-use Rattle.std.specs.Prelude.{◌≡◌, ◌≤◌, ℕ, Bool, false, List, [], ◌∷◌, ◌++◌, length, Option, Some, None, codes, decimal, flat_map}
+use Rattle.std.specs.Prelude.{◌≡◌, ◌≤◌, ℕ, Bool, false, List, [], ◌∷◌, ◌++◌, length, Option, Some, None, codes, decimal, flat_map, if◌then◌else◌}
 use Rattle.hgs_bytes.specs.Text.{line}
 use Rattle.hgs_index.specs.declared.kinds.Flag.{Flag}
 use Rattle.hgs_index.specs.declared.kinds.Flag.TheVariants.{Plain, Exec, Link}
@@ -27,6 +27,11 @@ abbrev pub bookmark_text : Option (List ℕ) → List ℕ
 bookmark_text None = []
 bookmark_text (Some name) = line (codes "bookmark " ++ name)
 
+-- the line of a branch; that of `default` may be left out
+abbrev pub branch_text : Bool → Option (List ℕ) → List ℕ
+branch_text says None = if says then line (codes "branch default") else []
+branch_text says (Some name) = line (codes "branch " ++ name)
+
 -- the length in a line, and as many bytes with an LF behind them
 abbrev pub description_text : List ℕ → List ℕ
 description_text text = line (codes "desc " ++ decimal (length text)) ++ line text
@@ -37,19 +42,29 @@ flag_sign Plain = codes "-"
 flag_sign Exec = codes "x"
 flag_sign Link = codes "l"
 
--- flag, length and path in a line, and as many bytes with an LF behind them
-abbrev pub file_text : NewFile → List ℕ
-file_text f = line (codes "file " ++ (flag_sign f.flag ++ 32 ∷ (decimal (length f.body) ++ 32 ∷ f.path))) ++ line f.body
+-- the line of the file that a file is a copy of
+abbrev pub copyfrom_text : Option (List ℕ) → List ℕ
+copyfrom_text None = []
+copyfrom_text (Some path) = line (codes "copyfrom " ++ path)
 
--- the record of a changeset, with the line of a draft's phase or without it
-abbrev pub record_text : Bool → NewChange → List ℕ
-record_text says_draft c =
+-- the line of its source, where it has one; flag, length and path in a line, and as many bytes with an LF behind them
+abbrev pub file_text : NewFile → List ℕ
+file_text f = copyfrom_text f.from ++ (line (codes "file " ++ (flag_sign f.flag ++ 32 ∷ (decimal (length f.body) ++ 32 ∷ f.path))) ++ line f.body)
+
+-- which lines a record has that may be left out: that of a draft's phase, and that of the branch `default`
+pub record Wording : Type 0 where
+  pub draft : Bool
+  pub default : Bool
+
+-- the record of a changeset
+abbrev pub record_text : Wording → NewChange → List ℕ
+record_text says c =
     line (codes "commit") ++ (flat_map parent_text c.parents ++ (line (codes "user " ++ c.user) ++ (line (codes "date " ++ date_text c.seconds c.offset [])
-    ++ (phase_text says_draft c.phase ++ (bookmark_text c.bookmark ++ (description_text c.description ++ (flat_map file_text c.files ++ line (codes "end"))))))))
+    ++ (phase_text says.draft c.phase ++ (bookmark_text c.bookmark ++ (branch_text says.default c.branch ++ (description_text c.description ++ (flat_map file_text c.files ++ line (codes "end")))))))))
 
 -- the bytes are a record of this changeset, and no more than an input may have
 pub record IsRecord (bytes : List ℕ) (c : NewChange) : Type 0 where
-  pub says_draft : Bool
-  pub text : bytes ≡ record_text says_draft c
+  pub says : Wording
+  pub text : bytes ≡ record_text says c
   pub valid : IsNewChange c
   pub size : length bytes ≤ most_input

@@ -26,7 +26,7 @@ common (x ∷ a) [] = 0
 common (x ∷ a) (y ∷ b) = if x == y then suc (common a b) else 0
 
 abbrev pub view_head : CodeHead → Head
-view_head h = record { parents = h.parents; user = h.user.now; date = view_when h.date; phase = h.phase; bookmark = option_map (λ x. x.now) h.bookmark }
+view_head h = record { parents = h.parents; user = h.user.now; date = view_when h.date; phase = h.phase; bookmark = option_map (λ x. x.now) h.bookmark; branch = option_map (λ x. x.now) h.branch }
 
 -- files whose paths ascend, and none of whose paths is a directory of another
 pub record IsTree (files : List NewFile) : Type 0 where

@@ -2,12 +2,12 @@
 ghost use Rattle.std.specs.Prelude.{[]};
 ghost use Rattle.std.specs.Option.{option_map};
 ghost use Rattle.hgs_changelog.specs.View.{view_when};
-ghost use Rattle.hgs_input.specs.Read.{required, optional, word_of, parent_of, parents_from, user_of, date_of, phase_of, bookmark_of, head_from};
+ghost use Rattle.hgs_input.specs.Read.{required, optional, word_of, parent_of, parents_from, user_of, date_of, phase_of, bookmark_of, branch_from, head_from};
 ghost use Rattle.hgs_input.specs.View.{Reads, view_head};
 
 use crate::fault::InputFault;
 use crate::input::{Input, bad_at};
-use crate::line::{behind, bookmark_from, date_from, phase_from, user_from};
+use crate::line::{behind, bookmark_from, branch_from, date_from, phase_from, user_from};
 use hgs_bytes::bytes::Bytes;
 use hgs_bytes::names::Names;
 use hgs_bytes::parts::equal;
@@ -23,6 +23,7 @@ pub(crate) struct Head<'a> {
     pub date: When,
     pub phase: Option<Phase>,
     pub bookmark: Option<&'a [u8]>,
+    pub branch: Option<&'a [u8]>,
 }
 
 impl<'a> Input<'a> {
@@ -107,6 +108,17 @@ impl<'a> Input<'a> {
         Ok(Some(name))
     }
 
+    fn branch(&mut self) -> Result<Option<&'a [u8]>, InputFault>
+        ensures { Reads (option_map (λ x. x.now)) result self.new (branch_from self.old) }
+    {
+        let (line, rest) = self.line()?;
+        let Some(branch) = branch_from(line) else {
+            return Ok(None);
+        };
+        *self = rest;
+        Ok(branch)
+    }
+
     /// Reads all that stands before the description.
     pub(crate) fn head(&mut self, alloc: Global) -> Result<Head<'a>, InputFault>
         ensures { Reads view_head result self.new (head_from self.old) }
@@ -117,12 +129,14 @@ impl<'a> Input<'a> {
         let date = self.date(alloc)?;
         let phase = self.phase()?;
         let bookmark = self.bookmark()?;
+        let branch = self.branch()?;
         Ok(Head {
             parents,
             user,
             date,
             phase,
             bookmark,
+            branch,
         })
     }
 }

@@ -4,6 +4,7 @@
 mod apart;
 pub mod fault;
 mod head;
+pub mod import;
 pub mod input;
 pub mod laws;
 pub mod line;

@@ -3,8 +3,9 @@ ghost use Rattle.std.specs.Prelude.{◌≡◌, ◌==◌, IfOk};
 ghost use Rattle.std.specs.List.{list_any};
 ghost use Rattle.std.specs.Option.{option_map};
 ghost use Rattle.hgs_changelog.specs.View.{view_when};
-ghost use Rattle.hgs_input.specs.Read.{behind, is_user, user_of, date_of, phase_of, bookmark_of, length_of, flag_of, file_of, file_of_parts};
+ghost use Rattle.hgs_input.specs.Read.{behind, is_user, user_of, date_of, phase_of, bookmark_of, branch_of, copyfrom_of, length_of, flag_of, file_of, file_of_parts};
 ghost use Rattle.hgs_index.specs.TrackedPath.{is_tracked};
+ghost use Rattle.hgs_model.specs.Valid.{ends_in, is_branch_name, is_source};
 ghost use Rattle.hgs_input.specs.View.{view_line};
 
 use crate::number::number_up_to;
@@ -38,6 +39,16 @@ fn has_nul(text: &[u8]) -> bool
     ensures { result ≡ list_any (λ b. b == 0) text.now }
 {
     text.iter().any(|byte| *byte == 0)
+}
+
+// Whether this is the last byte.
+fn ends_in(byte: u8, text: &[u8]) -> bool
+    ensures { result ≡ ends_in byte text.now }
+{
+    match text.last() {
+        Some(last) => *last == byte,
+        None => false,
+    }
 }
 
 fn is_user(user: &[u8]) -> bool
@@ -81,6 +92,46 @@ pub(crate) fn bookmark_from(line: &[u8]) -> Option<&[u8]>
 {
     let name = behind(line, b"bookmark ")?;
     if is_mark_name(name) { Some(name) } else { None }
+}
+
+fn has_backslash(text: &[u8]) -> bool
+    ensures { result ≡ list_any (λ b. b == 92) text.now }
+{
+    text.iter().any(|byte| *byte == b'\\')
+}
+
+fn is_branch_name(name: &[u8]) -> bool
+    ensures { result ≡ is_branch_name name.now }
+{
+    is_mark_name(name) && !has_backslash(name) && !equal(name, b"default")
+}
+
+/// The branch that a line names; `default` is that of a changeset that names none.
+pub(crate) fn branch_from(line: &[u8]) -> Option<Option<&[u8]>>
+    ensures { option_map (option_map (λ x. x.now)) result ≡ branch_of line.now }
+{
+    let name = behind(line, b"branch ")?;
+    if equal(name, b"default") {
+        Some(None)
+    } else if is_branch_name(name) {
+        Some(Some(name))
+    } else {
+        None
+    }
+}
+
+// Whether a file of this path can be copied: an LF stands behind the path in the copy's metadata block.
+fn is_source(path: &[u8]) -> bool
+    ensures { result ≡ is_source path.now }
+{
+    is_tracked(path) && !ends_in(1, path)
+}
+
+pub(crate) fn source_from(line: &[u8]) -> Option<&[u8]>
+    ensures { option_map (λ x. x.now) result ≡ copyfrom_of line.now }
+{
+    let path = behind(line, b"copyfrom ")?;
+    if is_source(path) { Some(path) } else { None }
 }
 
 /// The length of a description.

@@ -7,6 +7,7 @@ ghost use Rattle.hgs_input.specs.View.{Reads, view_head};
 use crate::fault::InputFault;
 use crate::head::Head;
 use crate::input::Input;
+use crate::tree::copied;
 use hgs_bytes::bytes::Bytes;
 use hgs_model::command::NewChange;
 use hgs_model::files::NewFiles;
@@ -22,17 +23,14 @@ fn change_with(
 ) -> Result<NewChange, AllocError>
     ensures { IfOk result (λ c. c ≡ change_with (view_head head.entry) description.now files) }
 {
-    let bookmark = match head.bookmark {
-        Some(name) => Some(Bytes::from_slice(alloc, name)?),
-        None => None,
-    };
     Ok(NewChange {
         parents: head.parents,
         user: Bytes::from_slice(alloc, head.user)?,
         seconds: head.date.seconds,
         offset: head.date.offset,
         phase: head.phase.unwrap_or(Phase::Draft),
-        bookmark,
+        bookmark: copied(alloc, head.bookmark)?,
+        branch: copied(alloc, head.branch)?,
         description: Bytes::from_slice(alloc, description)?,
         files,
     })
@@ -54,8 +52,8 @@ impl<'a> Input<'a> {
 /// The changeset of a record, or the first fault of the input.
 ///
 /// The record has, each with an LF: `commit`; up to two lines `parent NAME`; `user TEXT`; `date SECONDS OFFSET`; where it
-/// says them `phase PHASE` and `bookmark NAME`; `desc LEN`, and so many bytes of text; for each file of the tree `file FLAG
-/// LEN PATH`, and so many bytes; `end`, with nothing behind it.
+/// says them `phase PHASE`, `bookmark NAME` and `branch NAME`; `desc LEN`, and so many bytes of text; for each file of the
+/// tree, where it is a copy `copyfrom PATH`, then `file FLAG LEN PATH`, and so many bytes; `end`, with nothing behind it.
 ///
 /// Of an input that is longer than the limit, 268,435,456 bytes, the first byte past it is the last that is looked at: what
 /// breaks the form before it is told, else the limit.

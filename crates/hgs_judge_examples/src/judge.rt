@@ -1,6 +1,7 @@
 //! Files that Mercurial wrote and values of its formats.
 ghost use Rattle.std.specs.Prelude.{false};
 
+use crate::given::given;
 use hgs_files::path::StorePath;
 use hgs_index::kinds::Flag;
 use hgs_index::node::Node;
@@ -38,19 +39,22 @@ fn word(parents: (Option<u32>, Option<u32>), found: Found, listed: bool) -> Word
 #[test]
 fn reads_up_to_the_first_fault(rt: HostRuntime) -> Result<(), Fail> {
     let alloc = rt.alloc();
-    let whole = read(alloc, &INDEX, b"")?;
-    assert_eq!(rt; whole.log.len(), 1);
-    assert!(rt; !whole.broken);
-    assert!(rt; whole.has_data_rest(b"x"));
-    assert!(rt; !whole.has_index_rest(&INDEX));
-    assert_eq!(rt; whole.place(&Node(EMPTY)), Some(0));
-    assert_eq!(rt; whole.links(alloc)?.as_slice(), [0].as_slice());
-    assert_eq!(rt; whole.text(0, b"").len(), 0);
+    let whole = given(read(alloc, &INDEX, b""))?;
+    assert!(rt;
+        whole.log.len() == 1
+            && !whole.broken
+            && whole.has_data_rest(b"x")
+            && !whole.has_index_rest(&INDEX)
+            && whole.place(&Node(EMPTY)) == Some(0)
+    );
+    let links = given(whole.links(alloc))?;
+    assert_eq!(rt; links.as_slice(), [0].as_slice());
+    let text = whole.text(0, b"");
+    assert_eq!(rt; text.len(), 0);
     let mut index = INDEX;
     index[35] = 0;
-    let broken = read(alloc, &index, b"")?;
-    assert_eq!(rt; broken.log.len(), 0);
-    assert!(rt; broken.broken);
+    let broken = given(read(alloc, &index, b""))?;
+    assert!(rt; broken.log.len() == 0 && broken.broken);
     Ok(())
 }
 
@@ -61,19 +65,16 @@ fn judges_a_path(rt: HostRuntime) -> Result<(), Fail> {
     let first = word(NO_PARENTS, there, true);
     let removed = word((Some(0), None), Found::Nothing, false);
     let lost = word(NO_PARENTS, Found::File(Node([7; 20]), Flag::Plain), true);
-    let found = judge_path(alloc, &INDEX, b"", &[first, removed, lost])?;
-    assert_eq!(rt; found.count, 1);
-    assert_eq!(rt;
-        found.listed_wrongly.as_slice(),
-        [false, true, false].as_slice()
+    let found = given(judge_path(alloc, &INDEX, b"", &[first, removed, lost]))?;
+    assert!(rt;
+        found.count == 1
+            && found.listed_wrongly.as_slice() == [false, true, false].as_slice()
+            && found.lacking.as_slice() == [false, false, true].as_slice()
     );
-    assert_eq!(rt; found.lacking.as_slice(), [false, false, true].as_slice());
     for kinds in found.kinds.iter() {
-        assert!(rt; !kinds.is_unneeded);
-        assert!(rt; !kinds.is_misplaced);
-        assert!(rt; !kinds.is_wrongly_made);
+        assert!(rt; !kinds.is_unneeded && !kinds.is_misplaced && !kinds.is_wrongly_made);
     }
-    let needless = judge_path(alloc, &INDEX, b"", &[lost])?;
+    let needless = given(judge_path(alloc, &INDEX, b"", &[lost]))?;
     for kinds in needless.kinds.iter() {
         assert!(rt; kinds.is_unneeded);
     }
@@ -95,36 +96,36 @@ fn judges_revisions(rt: HostRuntime) -> Result<(), Fail> {
             rule: Rule::Keeps(0),
         }),
     ];
-    let kinds = judge(alloc, &parents, &[2, 2], &namings)?;
+    let kinds = given(judge(alloc, &parents, &[2, 2], &namings))?;
     let mut misplaced = Vec::new(alloc);
     let mut wrong = Vec::new(alloc);
     for kind in kinds.iter() {
         misplaced.push(kind.is_misplaced)?;
         wrong.push(kind.is_wrongly_made)?;
     }
-    assert_eq!(rt; misplaced.as_slice(), [false, true].as_slice());
-    assert_eq!(rt; wrong.as_slice(), [false, true].as_slice());
+    assert!(rt;
+        misplaced.as_slice() == [false, true].as_slice()
+            && wrong.as_slice() == [false, true].as_slice()
+    );
     Ok(())
 }
 
 fn finding(alloc: Global, rev: Option<u32>, kind: u8) -> Result<Finding, Fail> {
-    Ok(Finding {
-        path: StorePath::new(alloc, b"store/00changelog.i")?,
-        rev,
-        kind,
-    })
+    let path = given(StorePath::new(alloc, b"store/00changelog.i"))?;
+    Ok(Finding { path, rev, kind })
 }
 
 #[test]
 fn orders_findings(rt: HostRuntime) -> Result<(), Fail> {
     let alloc = rt.alloc();
     let mut findings = Vec::new(alloc);
-    findings.push(finding(alloc, Some(2), 17)?)?;
-    findings.push(finding(alloc, Some(0), 9)?)?;
-    findings.push(finding(alloc, None, 12)?)?;
-    findings.push(finding(alloc, Some(0), 9)?)?;
+    for (rev, kind) in [(Some(2), 17), (Some(0), 9), (None, 12), (Some(0), 9)] {
+        let found = finding(alloc, rev, kind)?;
+        findings.push(found)?;
+    }
+    let ordered = given(in_order(findings))?;
     let mut kinds = Vec::new(alloc);
-    for found in in_order(findings)?.iter() {
+    for found in ordered.iter() {
         kinds.push(found.kind)?;
     }
     assert_eq!(rt; kinds.as_slice(), [12, 9, 17].as_slice());

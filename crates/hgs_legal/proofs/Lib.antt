@@ -17,3 +17,4 @@ pub mod ChainLemmas
 pub mod Growing
 pub mod EndLemmas
 pub mod FrontLemmas
+pub mod BehindLemmas

@@ -2,12 +2,22 @@
 use Rattle.std.specs.Prelude.{ℕ, ◌-◌, List, [], ◌∷◌, Bool, true, false, length, take, Some, None, if◌then◌else◌}
 use Rattle.hgs_files.specs.declared.op.Op.{Op}
 use Rattle.hgs_files.specs.Tree.{Tree}
+use Rattle.hgs_model.specs.declared.command.Command.{Command}
+use Rattle.hgs_model.specs.declared.command.Command.TheVariants.{Commit, Import, Mark, Move, Unmark}
 use Rattle.hgs_model.specs.Repo.{Repo}
 use Rattle.hgs_stands.specs.Open.{IsOpen}
 use Rattle.hgs_stands.specs.Stands.{Stands}
 use Rattle.hgs_ops.specs.Operations.{strays}
 use Rattle.hgs_ops.specs.Shown.{lacks_bookmarks, lacks_dirstate}
 use Rattle.hgs_legal.specs.LegalLog.{Doing, Idle, Refused, Preparing, Published, State, last_repo}
+
+-- whether a command adds changesets: their working parent and bookmarks are renamed behind the publishing operation
+abbrev pub adds_changesets : Command → Bool
+adds_changesets (Commit n) = true
+adds_changesets (Import changes) = true
+adds_changesets (Move rev phase force) = false
+adds_changesets (Mark name rev) = false
+adds_changesets (Unmark name) = false
 
 -- the operations that a published transaction has still to do
 abbrev pub left_of : Doing → List Op

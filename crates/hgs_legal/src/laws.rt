@@ -13,9 +13,10 @@ ghost use Rattle.hgs_stands.specs.Places.{bookmarks_path, dirstate_path, roots_p
 ghost use Rattle.hgs_stands.specs.Shows.{Shows};
 ghost use Rattle.hgs_stands.specs.Stands.{HoldsChangesets, IsClean, Stands};
 ghost use Rattle.hgs_ops.specs.Operations.{lock_path, operations, removals, strays, wlock_path};
+ghost use Rattle.hgs_ops.specs.Shown.{lacks_bookmarks, lacks_dirstate};
 ghost use Rattle.hgs_ops.specs.Stops.{IsBetween};
-ghost use Rattle.hgs_legal.specs.LegalLog.{Goes, Idle, IsLegal, IsRun, IsTurn, Run, State, Turn, last_repo, lock_removals, state_at, through_publishing};
-ghost use Rattle.hgs_legal.specs.Numbers.{StopsAt, acknowledged_of, b_of, n_of, repo_at, w_of};
+ghost use Rattle.hgs_legal.specs.LegalLog.{Goes, Idle, IsLegal, IsRun, IsTurn, Published, Run, State, Turn, last_repo, lock_removals, state_at, through_publishing, through_removal};
+ghost use Rattle.hgs_legal.specs.Numbers.{StopsAt, acknowledged_of, adds_changesets, b_of, n_of, repo_at, w_of};
 ghost use Rattle.hgs_legal.specs.Pieces.{Early, Front, LeavesJournal, Piece, Pieces};
 ghost use Rattle.hgs_stands.specs.Open.{IsOpen};
 ghost use Rattle.hgs_legal.specs.Recovers.{Recovers};
@@ -69,6 +70,13 @@ pub fn numbers_rise()
     ensures order { (s : State) → (b_of s ≤ w_of s) × (w_of s ≤ n_of s) }
     ensures rise { (s : State) (log : List Op) (s' : State) → Run s log s' → (b_of s ≤ b_of s') × (w_of s ≤ w_of s') × (n_of s ≤ n_of s') }
     ensures stay { (s : State) (log : List Op) (s' : State) (i : ℕ) → Run s log s' → i ≤ n_of s → repo_at s' i ≡ repo_at s i }
+{}
+
+/// The last published transaction's working parents and bookmarks are behind where it is a commit or an import whose renames
+/// are still to do: both right behind its publishing operation, and neither where it is another command.
+pub fn renames_come_behind()
+    ensures published { (s : State) (op : Op) (s' : State) → Goes s op s' → n_of s < n_of s' → (x : Turn) × (s'.published ≡ s.published ++ x ∷ []) × (s'.doing ≡ Published x (through_removal x.ops)) }
+    ensures left { (t : Tree) (r : Repo) (x : Turn) → IsTurn t r x → (lacks_dirstate (through_removal x.ops) ≡ adds_changesets x.command) × (lacks_bookmarks (through_removal x.ops) ≡ adds_changesets x.command) }
 {}
 
 /// Wherever a legal log stops, its tree stands for the repository after the acknowledged transactions, or is open for it: it

@@ -1,6 +1,6 @@
 -- The plans that are assembled can be carried out.
 use Rattle.std.proofs.Common.{◌≡◌, ℕ, Bool, true, false, cond, List, [], ◌∷◌, ◌++◌, length, map, take, drop, reverse, refl, sym, ◌∙◌, ap, subst, arith, append_assoc, length-append}
-use Rattle.std.specs.Prelude.{Option, Some, None, IsSome, unwrap_or, flat_map, ◌||◌, ◌==◌, if◌then◌else◌}
+use Rattle.std.specs.Prelude.{Option, Some, None, IsSome, unwrap_or, flat_map, ◌||◌, ◌==◌, if◌then◌else◌, codes}
 use Rattle.std.specs.List.{AllByRecursion, list_any}
 use Rattle.std.proofs.Math.Seq.{drop-append_seam, take-append_seam}
 use Rattle.std.proofs.lemmas.List.{map-append}
@@ -13,11 +13,11 @@ use Rattle.hgs_journal.specs.declared.journal.JournalLine.{JournalLine}
 use Rattle.hgs_journal.specs.Names.{backups_path, in_store, journal_path, new_name, place}
 use Rattle.hgs_journal.specs.Texts.{backups_text, journal_text}
 use Rattle.hgs_journal.specs.Undo.{undo_backup, undo_backups, undo_line, undo_list, undo_with}
-use Rattle.hgs_ops.specs.Operations.{removals}
+use Rattle.hgs_ops.specs.Operations.{new_changelog_path, removals}
 use Rattle.hgs_ops.specs.Replaced.{backup_put, new_put, new_rename}
 use Rattle.hgs_transaction.specs.declared.assemble.Plan.{Plan}
 use Rattle.hgs_transaction.specs.declared.parts.Change.{Change}
-use Rattle.hgs_transaction.specs.declared.parts.Change.TheVariants.{Append, Replace}
+use Rattle.hgs_transaction.specs.declared.parts.Change.TheVariants.{Append, Replace, MakeIndex, RenameIndex}
 use Rattle.hgs_transaction.specs.declared.parts.Parts.{Parts}
 use Rattle.hgs_transaction.specs.declared.parts.ReplacedFile.{ReplacedFile}
 use Rattle.hgs_transaction.specs.declared.parts.ReplacedFile.TheVariants.{PhaseRoots, Dirstate, Bookmarks}
@@ -25,7 +25,7 @@ use Rattle.hgs_transaction.specs.declared.parts.Replacing.{Replacing}
 use Rattle.hgs_transaction.specs.Assembled.{IsPlanOf, before_commit, before_publishing, ops_of, preparing, texts_put}
 use Rattle.hgs_transaction.specs.Parts.{all_changes, backup_of, change_op, file_name, is_plain, kept_of, length_before, lines_of, replacement_of, replacings_of}
 use Rattle.hgs_machine.specs.Planned.{HasSource, IsPlanned, Publishes, SourcesStand}
-use Rattle.hgs_machine.specs.Sound.{AreOnce, AreSound, IsPublished}
+use Rattle.hgs_machine.specs.Sound.{AreMadeFirst, AreOnce, AreSound, IsPublished}
 use Rattle.hgs_machine.proofs.Lists.{at-place}
 use Rattle.hgs_machine.proofs.Trees.{after_all-append, same_path-refl}
 
@@ -91,11 +91,43 @@ after-rename : (x : Replacing) (files : List Replacing) (t : Tree) (to : List �
 after-rename x files t to None some e h = absurd (let no : ⊥ = cc in no)
 after-rename x files t to (Some bytes) some e h = there-renamed x files t to bytes e h
 
-changes-stand : (changes : List Change) (t : Tree) → AreOnce (replacings_of changes) → AreThere (replacings_of changes) t → SourcesStand (map change_op changes) t
-changes-stand [] t once h = tt
-changes-stand (Append a ∷ changes) t once h = (tt, changes-stand changes (apply (AppendOp a.path a.bytes) t) once (there-written (replacings_of changes) t a.path _ h))
-changes-stand (Replace x ∷ changes) t once h =
-    (h.0, changes-stand changes (apply (new_rename (replacement_of x)) t) once.1 (after-rename x (replacings_of changes) t (place (is_plain x.file) (file_name x.file)) (t (source_of x)) h.0 once.0 h.1))
+is-made : (t : Tree) (path bytes : List ℕ) → IsSome (with_file t path (Some bytes) path)
+is-made t path bytes = rw (same_path-refl path) refl
+
+-- the new index of the changelog is no new text of a file that is replaced
+index-apart : (f : ReplacedFile) → (same_path (place (is_plain f) (new_name (file_name f))) new_changelog_path ≡ false) × (same_path new_changelog_path (place (is_plain f) (new_name (file_name f))) ≡ false)
+index-apart PhaseRoots = (refl, refl)
+index-apart Dirstate = (refl, refl)
+index-apart Bookmarks = (refl, refl)
+
+-- it stays where another file is renamed
+index-stays : (x : Replacing) (t : Tree) (to : List ℕ) (file : Option (List ℕ)) → IsSome (t new_changelog_path) → IsSome (renamed t (source_of x) to file new_changelog_path)
+index-stays x t to None h = h
+index-stays x t to (Some bytes) h = written (with_file t (source_of x) None) to new_changelog_path bytes (gone-elsewhere (same_path (source_of x) new_changelog_path) (t new_changelog_path) (index-apart x.file).0 h)
+
+-- and the new texts stay where it is renamed
+there-published : (files : List Replacing) (t : Tree) (to : List ℕ) (file : Option (List ℕ)) → AreThere files t → AreThere files (renamed t new_changelog_path to file)
+there-published files t to None h = h
+there-published [] t to (Some bytes) h = tt
+there-published (x ∷ files) t to (Some bytes) h =
+    (written (with_file t new_changelog_path None) to (source_of x) bytes (gone-elsewhere (same_path new_changelog_path (source_of x)) (t (source_of x)) (index-apart x.file).1 h.0), there-published files t to (Some bytes) h.1)
+
+changes-stand : (changes : List Change) (t : Tree) (made : Bool) → AreOnce (replacings_of changes) → AreMadeFirst made changes → (made ≡ true → IsSome (t new_changelog_path)) → AreThere (replacings_of changes) t → SourcesStand (map change_op changes) t
+changes-stand [] t made once first stands h = tt
+changes-stand (Append a ∷ changes) t made once first stands h =
+    let u = apply (AppendOp a.path a.bytes) t in
+    (tt, changes-stand changes u made once first (λ e. written t a.path new_changelog_path _ (stands e)) (there-written (replacings_of changes) t a.path _ h))
+changes-stand (Replace x ∷ changes) t made once first stands h =
+    let to = place (is_plain x.file) (file_name x.file) in
+    (h.0, changes-stand changes (apply (new_rename (replacement_of x)) t) made once.1 first (λ e. index-stays x t to (t (source_of x)) (stands e)) (after-rename x (replacings_of changes) t to (t (source_of x)) h.0 once.0 h.1))
+changes-stand (MakeIndex bytes ∷ changes) t made once first stands h =
+    (tt, changes-stand changes (apply (Create new_changelog_path bytes) t) true once first (λ e. is-made t new_changelog_path bytes) (there-written (replacings_of changes) t new_changelog_path bytes h))
+changes-stand (RenameIndex before ∷ changes) t made once first stands h =
+    let u = apply (change_op (RenameIndex before)) t in
+    (stands first.0, changes-stand changes u false once first.1 no (there-published (replacings_of changes) t (in_store (codes "00changelog.i")) (t new_changelog_path) h))
+  where
+    no : {A : Type 0} → false ≡ true → A
+    no e = absurd (let never : ⊥ = cc in never)
 
 -- ---- what is prepared
 
@@ -144,9 +176,6 @@ there-through : (files : List Replacing) (ops : List Op) (t : Tree) → AllByRec
 there-through [] ops t h k = tt
 there-through (x ∷ files) ops t h k = (kept-through ops t (source_of x) h k.0, there-through files ops t h k.1)
 
-is-made : (t : Tree) (path bytes : List ℕ) → IsSome (with_file t path (Some bytes) path)
-is-made t path bytes = rw (same_path-refl path) refl
-
 texts-there : (files : List Replacing) (t : Tree) → AreThere files (after_all (map (λ (x : Replacing). new_put (replacement_of x)) files) t)
 texts-there [] t = tt
 texts-there (x ∷ files) t =
@@ -171,13 +200,16 @@ prepared-there p t =
     (subst (AreThere files) (sym (after_all-append backups texts t)) (texts-there files (after_all backups t))))
 
 removals-stand : (t : Tree) → SourcesStand (Remove journal_path ∷ removals) t
-removals-stand t = (tt, (tt, (tt, (tt, (tt, (tt, (tt, (tt, (tt, (tt, (tt, tt)))))))))))
+removals-stand t = (tt, (tt, (tt, (tt, (tt, (tt, (tt, (tt, (tt, (tt, (tt, (tt, tt))))))))))))
 
-all-stand : (p : Parts) (t : Tree) → AreOnce (replacings_of (all_changes p)) → SourcesStand (ops_of p) t
-all-stand p t once =
+all-stand : (p : Parts) (t : Tree) → AreOnce (replacings_of (all_changes p)) → AreMadeFirst false (all_changes p) → SourcesStand (ops_of p) t
+all-stand p t once first =
     sources-append (before_commit p) (Remove journal_path ∷ removals) t
-    (sources-append (preparing p) (map change_op (all_changes p)) t (creations-stand (preparing p) t (prepared-create p)) (changes-stand (all_changes p) (after_all (preparing p) t) once (prepared-there p t)))
+    (sources-append (preparing p) (map change_op (all_changes p)) t (creations-stand (preparing p) t (prepared-create p)) (changes-stand (all_changes p) (after_all (preparing p) t) false once first none (prepared-there p t)))
     (removals-stand (after_all (before_commit p) t))
+  where
+    none : {A : Type 0} → false ≡ true → A
+    none e = absurd (let never : ⊥ = cc in never)
 
 -- ---- undoing
 
@@ -237,6 +269,8 @@ publishes-there : (t u : Tree) (p : Parts) (change : Change) (before : ℕ) → 
 publishes-there t u p (Append a) before h e tree =
     (h.0, ap (λ (v : Tree). length (bytes_at v a.path)) tree ∙ ap (λ f. length (unwrap_or f [])) (untouched-all (before_publishing p) t a.path h.2) ∙ sym h.1 ∙ sym e)
 publishes-there t u p (Replace x) before h e tree = tt
+publishes-there t u p (MakeIndex bytes) before h e tree = elim h [ ]
+publishes-there t u p (RenameIndex old) before h e tree = tt
 
 -- ---- the whole
 
@@ -267,6 +301,6 @@ is-planned t p plan sound h =
           (ap (λ n. drop n plan.ops.items) h.publish ∙ ap (λ (l : List Op). drop (length (before_publishing p)) l) (h.ops ∙ split) ∙ drop-append_seam (before_publishing p) (behind ++ Remove journal_path ∷ removals));
       publishes = publishes-there t (after_all (take plan.publish plan.ops.items) t) p p.publishing plan.before sound.publishing h.before
           (ap (λ (l : List Op). after_all l t) (ap (λ n. take n plan.ops.items) h.publish ∙ ap (λ (l : List Op). take (length (before_publishing p)) l) (h.ops ∙ split) ∙ take-append_seam (before_publishing p) (behind ++ Remove journal_path ∷ removals)));
-      sources = subst (λ (l : List Op). SourcesStand l t) (sym h.ops) (all-stand p t sound.once);
+      sources = subst (λ (l : List Op). SourcesStand l t) (sym h.ops) (all-stand p t sound.once sound.made);
       undo_sources = λ u. subst (λ (l : List Op). SourcesStand l u) (sym h.undo) (undo-stands (lines_of (all_changes p)) (map backup_of (replacings_of (all_changes p))) (map kept_of (replacings_of (all_changes p))) u);
     }

@@ -35,9 +35,9 @@ pub commit-within : (t : Tree) (p : Plan) → IsPlanned t p → p.commit < lengt
 commit-within t p h = slice_get_within p.ops.items p.commit (Remove journal_path) (at-commit t p h)
 
 -- how many operations a plan has
-pub so-many : (t : Tree) (p : Plan) → IsPlanned t p → length p.ops.items ≡ p.commit + 11
+pub so-many : (t : Tree) (p : Plan) → IsPlanned t p → length p.ops.items ≡ p.commit + 12
 so-many t p h =
-    let rest : length (drop p.commit p.ops.items) ≡ 11 = ap (λ (l : List Op). length l) h.commit in
+    let rest : length (drop p.commit p.ops.items) ≡ 12 = ap (λ (l : List Op). length l) h.commit in
     let size = length-drop p.commit p.ops.items in
     let within = commit-within t p h in
     omega arith
@@ -48,8 +48,8 @@ removals-behind t p h = drop-add p.ops.items p.commit 1 ∙ ap (λ (l : List Op)
 pub locks-behind : (t : Tree) (p : Plan) → IsPlanned t p → drop (stray_end p) p.ops.items ≡ lock_removals
 locks-behind t p h =
     let many = so-many t p h in
-    let place : stray_end p ≡ p.commit + 9 = omega arith in
-    ap (λ n. drop n p.ops.items) place ∙ drop-add p.ops.items p.commit 9 ∙ ap (λ (l : List Op). drop 9 l) h.commit
+    let place : stray_end p ≡ p.commit + 10 = omega arith in
+    ap (λ n. drop n p.ops.items) place ∙ drop-add p.ops.items p.commit 10 ∙ ap (λ (l : List Op). drop 10 l) h.commit
 
 pub to-commit : (t : Tree) (p : Plan) → IsPlanned t p → take (p.commit + 1) p.ops.items ≡ take p.commit p.ops.items ++ Remove journal_path ∷ []
 to-commit t p h = take-more p.ops.items p.commit (Remove journal_path) (at-commit t p h)

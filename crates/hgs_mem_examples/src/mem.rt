@@ -1,4 +1,5 @@
 // What each call does, and where it is made to fail or to stop after none, one and all of its bytes.
+ghost use Rattle.std.specs.Prelude.{◌≡◌, Ok, IfOk};
 ghost use Rattle.hgs_files.specs.declared.op.Op.{Op};
 ghost use Rattle.hgs_files.specs.Files.{MayDo};
 
@@ -32,19 +33,28 @@ struct Paths {
     c: StorePath,
 }
 
+/// What a call gives. The test fails where it gives nothing: to take its fault along, by a `?` alone, takes long to prove.
+fn given<T, E: Drop>(answer: Result<T, E>) -> Result<T, Fail>
+    ensures { IfOk result (λ value. answer ≡ Ok value) }
+{
+    match answer {
+        Ok(value) => Ok(value),
+        Err(_) => Err(Fail::new("a call failed")),
+    }
+}
+
 fn three_paths(alloc: Global) -> Result<Paths, Fail> {
-    Ok(Paths {
-        a: StorePath::new(alloc, b"a")?,
-        b: StorePath::new(alloc, b"b")?,
-        c: StorePath::new(alloc, b"c")?,
-    })
+    let a = given(StorePath::new(alloc, b"a"))?;
+    let b = given(StorePath::new(alloc, b"b"))?;
+    let c = given(StorePath::new(alloc, b"c"))?;
+    Ok(Paths { a, b, c })
 }
 
 /// Files at rest, with `ab` at `a` and `xyz` at `b`.
 fn two_files(alloc: Global, paths: &Paths) -> Result<MemFiles, Fail> {
-    let mut files = MemFiles::new(alloc)?;
-    files.put(&paths.a, b"ab")?;
-    files.put(&paths.b, b"xyz")?;
+    let mut files = given(MemFiles::new(alloc))?;
+    given(files.put(&paths.a, b"ab"))?;
+    given(files.put(&paths.b, b"xyz"))?;
     Ok(files.restart())
 }
 
@@ -88,10 +98,10 @@ fn look_and_do(
 /// Adds the name and the bytes of a file, if it stands.
 fn add_shown<R: Reads>(files: &mut R, path: &StorePath, text: &mut Vec<u8>) -> Result<(), Fail> {
     if files.size(path)?.is_some() {
-        text.extend_from_slice(path.bytes())?;
-        text.push(b'=')?;
-        files.read(path, 0, 9, text)?;
-        text.push(b' ')?;
+        given(text.extend_from_slice(path.bytes()))?;
+        given(text.push(b'='))?;
+        given(files.read(path, 0, 9, text))?;
+        given(text.push(b' '))?;
     }
     Ok(())
 }
@@ -159,44 +169,72 @@ fn outcome(alloc: Global, paths: &Paths, call: Call, end: End) -> Result<(bool, 
         End::Stops(_) => files.restart(),
         _ => files,
     };
-    Ok((done, shown(&mut files, paths, alloc)?))
+    let text = shown(&mut files, paths, alloc)?;
+    Ok((done, text))
+}
+
+const ENDS: [End; 7] = [
+    End::Whole,
+    End::Fails(0),
+    End::Fails(1),
+    End::Fails(3),
+    End::Stops(0),
+    End::Stops(1),
+    End::Stops(3),
+];
+
+/// The files behind a call that ends so.
+fn wanted(row: [&'static str; 4], end: End) -> &'static str {
+    let [none, one, all, whole] = row;
+    match end {
+        End::Whole => whole,
+        End::Fails(0) | End::Stops(0) => none,
+        End::Fails(1) | End::Stops(1) => one,
+        End::Fails(_) | End::Stops(_) => all,
+    }
+}
+
+/// Whether a call that ends so was done just where it ends whole, with these files behind it.
+fn is_so(alloc: Global, paths: &Paths, call: Call, end: End, files: &str) -> Result<bool, Fail> {
+    let (done, text) = outcome(alloc, paths, call, end)?;
+    Ok(done == matches!(end, End::Whole) && text.as_slice() == files.as_bytes())
 }
 
 #[test]
 fn each_call_ends_as_it_is_told(rt: HostRuntime) -> Result<(), Fail> {
     let paths = three_paths(rt.alloc())?;
-    for (call, [none, one, all, whole]) in ROWS {
-        for (end, want) in [
-            (End::Whole, whole),
-            (End::Fails(0), none),
-            (End::Fails(1), one),
-            (End::Fails(3), all),
-            (End::Stops(0), none),
-            (End::Stops(1), one),
-            (End::Stops(3), all),
-        ] {
-            let (done, text) = outcome(rt.alloc(), &paths, call, end)?;
-            assert_eq!(rt; text.as_slice(), want.as_bytes(), "{call:?} {end:?}");
-            assert_eq!(rt; done, matches!(end, End::Whole), "{call:?} {end:?}");
+    for (call, row) in ROWS {
+        for end in ENDS {
+            let is_so = is_so(rt.alloc(), &paths, call, end, wanted(row, end))?;
+            assert!(rt; is_so, "{call:?} {end:?}");
         }
     }
     Ok(())
 }
 
+/// Whether a removal, a new text and a look each fail.
+fn each_fails(files: &mut MemFiles, paths: &Paths) -> bool {
+    files.remove(&paths.b) == Err(FileFault::Failed)
+        && files.put(&paths.a, b"later") == Err(FileFault::Failed)
+        && files.size(&paths.a) == Err(FileFault::Failed)
+}
+
+/// Whether calls behind a stop fail, are not counted after a restart, and leave the files as they were.
+fn is_nothing_done(alloc: Global) -> Result<bool, Fail> {
+    let paths = three_paths(alloc)?;
+    let mut files = two_files(alloc, &paths)?;
+    files.stop(0, 0);
+    let fails = each_fails(&mut files, &paths);
+    let mut files = files.restart();
+    let calls = files.calls();
+    let text = shown(&mut files, &paths, alloc)?;
+    Ok(fails && calls == 0 && text.as_slice() == SAME.as_bytes())
+}
+
 #[test]
 fn nothing_is_done_behind_a_stop(rt: HostRuntime) -> Result<(), Fail> {
-    let paths = three_paths(rt.alloc())?;
-    let mut files = two_files(rt.alloc(), &paths)?;
-    files.stop(0, 0);
-    assert_eq!(rt; files.remove(&paths.b), Err(FileFault::Failed));
-    assert_eq!(rt; files.put(&paths.a, b"later"), Err(FileFault::Failed));
-    assert_eq!(rt; files.size(&paths.a), Err(FileFault::Failed));
-    let mut files = files.restart();
-    assert_eq!(rt; files.calls(), 0);
-    assert_eq!(rt;
-        shown(&mut files, &paths, rt.alloc())?.as_slice(),
-        SAME.as_bytes()
-    );
+    let is_so = is_nothing_done(rt.alloc())?;
+    assert!(rt; is_so);
     Ok(())
 }
 
@@ -207,19 +245,32 @@ fn make_new<F: Files>(files: &mut F, path: &StorePath) -> Result<Created, FileFa
     files.create_new(path, b"first")
 }
 
-#[test]
-fn pieces_join_and_files_are_made_once(rt: HostRuntime) -> Result<(), Fail> {
-    let paths = three_paths(rt.alloc())?;
-    let mut files = MemFiles::new(rt.alloc())?;
-    files.pieces(2);
+/// Appends in pieces, and makes a file twice: it fails where that does not say so.
+fn append_and_make(files: &mut MemFiles, paths: &Paths) -> Result<(), FileFault> {
     files.append(&paths.b, b"abcde")?;
     files.append(&paths.b, b"")?;
-    assert_eq!(rt; make_new(&mut files, &paths.a), Ok(Created::Made));
-    assert_eq!(rt; make_new(&mut files, &paths.a), Ok(Created::There));
-    assert_eq!(rt;
-        shown(&mut files, &paths, rt.alloc())?.as_slice(),
-        b"a=first b=abcde ".as_slice()
-    );
+    let first = make_new(files, &paths.a)?;
+    let second = make_new(files, &paths.a)?;
+    if first == Created::Made && second == Created::There {
+        Ok(())
+    } else {
+        Err(FileFault::Failed)
+    }
+}
+
+/// The files behind pieces that were joined and a file that was made.
+fn joined_and_made(alloc: Global) -> Result<Vec<u8>, Fail> {
+    let paths = three_paths(alloc)?;
+    let mut files = given(MemFiles::new(alloc))?;
+    files.pieces(2);
+    given(append_and_make(&mut files, &paths))?;
+    shown(&mut files, &paths, alloc)
+}
+
+#[test]
+fn pieces_join_and_files_are_made_once(rt: HostRuntime) -> Result<(), Fail> {
+    let text = joined_and_made(rt.alloc())?;
+    assert!(rt; text.as_slice() == b"a=first b=abcde ".as_slice());
     Ok(())
 }
 
@@ -231,19 +282,38 @@ fn give<S: Sink>(sink: &mut S, bytes: &[u8]) -> Result<u64, IoFault> {
     sink.write(bytes)
 }
 
-#[test]
-fn streams_fail_at_the_named_call(rt: HostRuntime) -> Result<(), Fail> {
-    let mut source = MemSource::new(rt.alloc(), b"abc")?;
-    let mut sink = MemSink::new(rt.alloc());
+/// What four reads of a source answer of which the second is to fail, and two writes of what they gave, the first of which is.
+fn streamed(
+    source: &mut MemSource,
+    sink: &mut MemSink,
+    alloc: Global,
+) -> [Result<u64, IoFault>; 6] {
     source.fail(1);
     sink.fail(0);
-    let mut into = Vec::new(rt.alloc());
-    for want in [Ok(2), Err(IoFault::Failed), Ok(1), Ok(0)] {
-        assert_eq!(rt; take(&mut source, &mut into), want);
-    }
-    for want in [Err(IoFault::Failed), Ok(3)] {
-        assert_eq!(rt; give(&mut sink, into.as_slice()), want);
-    }
-    assert_eq!(rt; sink.bytes(), b"abc".as_slice());
+    let mut into = Vec::new(alloc);
+    let first = take(source, &mut into);
+    let second = take(source, &mut into);
+    let third = take(source, &mut into);
+    let fourth = take(source, &mut into);
+    let refused = give(sink, into.as_slice());
+    let written = give(sink, into.as_slice());
+    [first, second, third, fourth, refused, written]
+}
+
+const STREAMED: [Result<u64, IoFault>; 6] = [
+    Ok(2),
+    Err(IoFault::Failed),
+    Ok(1),
+    Ok(0),
+    Err(IoFault::Failed),
+    Ok(3),
+];
+
+#[test]
+fn streams_fail_at_the_named_call(rt: HostRuntime) -> Result<(), Fail> {
+    let mut source = given(MemSource::new(rt.alloc(), b"abc"))?;
+    let mut sink = MemSink::new(rt.alloc());
+    let answers = streamed(&mut source, &mut sink, rt.alloc());
+    assert!(rt; answers == STREAMED && sink.bytes() == b"abc".as_slice());
     Ok(())
 }

@@ -1,5 +1,5 @@
 -- What an accepted command answers.
-use Rattle.std.proofs.Common.{◌≡◌, ℕ, zero, suc, ◌<◌, List, [], ◌∷◌, ◌++◌, Bool, true, false, ◌&&◌, not, length, refl, sym, ◌∙◌, ap, arith}
+use Rattle.std.proofs.Common.{◌≡◌, ℕ, zero, suc, ◌<◌, List, [], ◌∷◌, ◌++◌, Bool, true, false, ◌&&◌, not, length, refl, sym, ◌∙◌, ap, subst, arith, length-append}
 use Rattle.std.specs.Prelude.{Option, Some, None, Result, Ok, Err, slice_get, slice_index, slice_index_or, nat_lt, ◌==◌}
 use Rattle.hgs_index.specs.Node.{null_node}
 use Rattle.hgs_index.specs.Revision.{nodes, node_after, standing, with_revision_at}
@@ -9,9 +9,9 @@ use Rattle.hgs_model.specs.History.{History, history, changeset_nodes, changeset
 use Rattle.hgs_model.specs.IsRepo.{IsRepo}
 use Rattle.hgs_model.specs.Names.{named, bookmark_named}
 use Rattle.hgs_model.specs.Phase.{phase_number}
-use Rattle.hgs_model.specs.Step.{Next, Answer, or_unknown, guard, done_at, with_mark, without_mark, points_at, moved_phases, step, step_move, step_mark, step_unmark, step_commit, named_all, as_parents, new_changeset, nothing_changed, unchanged_from, refused_where, with_new, ◌>>=◌}
+use Rattle.hgs_model.specs.Step.{Next, Answer, or_unknown, guard, done_at, with_mark, without_mark, points_at, moved_phases, step, step_move, step_mark, step_unmark, step_commit, named_all, as_parents, copies_hold, new_changeset, nothing_changed, unchanged_from, refused_where, step_import, steps_from, with_new, ◌>>=◌}
 use Rattle.hgs_model.specs.declared.command.Command.{Command}
-use Rattle.hgs_model.specs.declared.command.Command.TheVariants.{Commit, Move, Mark, Unmark}
+use Rattle.hgs_model.specs.declared.command.Command.TheVariants.{Commit, Import, Move, Mark, Unmark}
 use Rattle.hgs_model.specs.declared.command.NewChange.{NewChange}
 use Rattle.hgs_model.specs.declared.command.Refusal.{Refusal}
 use Rattle.hgs_model.specs.declared.command.Refusal.TheVariants.{NeedsForce, NothingChanged}
@@ -103,10 +103,15 @@ commit-did r n next e = by (named_all r n.parents) refl e
     behind revs a None c h = record { revs = revs; named_are = a; changed = c; is = sym (ok-next next (done_at (with_new r (added r n revs) n) (length r.changesets)) next h) }
     behind revs a (Some rev) c h = err-next (NothingChanged rev) next h
 
+    copied : (revs : List ℕ) → named_all r n.parents ≡ Ok revs → (held : Result (Unit {0}) Refusal)
+        → (held >>= λ copied. refused_where (nothing_changed r (added r n revs)) >>= λ unchanged. Ok (done_at (with_new r (added r n revs) n) (length r.changesets))) ≡ Ok next → Committed r n next
+    copied revs a (Err w) h = err-next w next h
+    copied revs a (Ok it) h = behind revs a (nothing_changed r (added r n revs)) refl h
+
     by : (all : Result (List ℕ) Refusal) → named_all r n.parents ≡ all
-        → (all >>= λ revs. refused_where (nothing_changed r (added r n revs)) >>= λ unchanged. Ok (done_at (with_new r (added r n revs) n) (length r.changesets))) ≡ Ok next → Committed r n next
+        → (all >>= λ revs. copies_hold (history r.changesets) (as_parents revs) n.files >>= λ copied. refused_where (nothing_changed r (added r n revs)) >>= λ unchanged. Ok (done_at (with_new r (added r n revs) n) (length r.changesets))) ≡ Ok next → Committed r n next
     by (Err w) a h = err-next w next h
-    by (Ok revs) a h = behind revs a (nothing_changed r (added r n revs)) refl h
+    by (Ok revs) a h = copied revs a (copies_hold (history r.changesets) (as_parents revs) n.files) h
 
 -- a changeset that no other equals gives one more node, that of its text and parents
 pub new-nodes : (changesets : List Changeset) (c : Changeset) → standing (history changesets).changelog (changeset_revision (history changesets) c).text c.parents ≡ None
@@ -176,18 +181,48 @@ told-there r found made next answer is same below t =
     ∙ ap (λ l. Some (slice_index_or (changeset_nodes l) t.rev null_node)) (sym (same t.rev))
     ∙ ap (λ (p : Next). Some p.1.node) (sym t.is)
 
-pub answers-there : (r next : Repo) (command : Command) (answer : Answer) → IsRepo r → step r command ≡ Ok (next, answer) → slice_get (changeset_nodes next.changesets) answer.rev ≡ Some answer.node
-answers-there r next (Commit n) answer is e =
+-- each changeset has a node of its own
+abbrev HaveNodes : Repo → Type 0
+HaveNodes r = length (changeset_nodes r.changesets) ≡ length r.changesets
+
+-- the node that a commit answers is there, and each changeset has a node again
+commit-there : (r : Repo) (n : NewChange) (next : Repo) (answer : Answer) → HaveNodes r → step_commit r n ≡ Ok (next, answer) → (slice_get (changeset_nodes next.changesets) answer.rev ≡ Some answer.node) × HaveNodes next
+commit-there r n next answer long e =
     let d = commit-did r n (next, answer) e in
     let c = added r n d.revs in
     let other = first-none (unchanged_from r.changesets c.parents.0 c.parents.1 c.tree) _ d.changed in
-    let node = node_after (changeset_nodes r.changesets) (changeset_revision (history r.changesets) c) in
-    ap (λ (p : Next). slice_get (changeset_nodes p.0.changesets) p.1.rev) d.is
-    ∙ ap (λ l. slice_get l (length r.changesets)) (new-nodes r.changesets c other)
-    ∙ last-get (changeset_nodes r.changesets) node (length r.changesets) (sym (length-changeset_nodes r is))
-    ∙ ap (λ x. Some x) (sym (last-index (changeset_nodes r.changesets) node (length r.changesets) (sym (length-changeset_nodes r is))))
-    ∙ ap (λ l. Some (slice_index_or l (length r.changesets) null_node)) (sym (new-nodes r.changesets c other))
-    ∙ ap (λ (p : Next). Some p.1.node) (sym d.is)
+    let node = node_after (changeset_nodes r.changesets) (changeset_revision (history r.changesets) c) in (
+      ap (λ (p : Next). slice_get (changeset_nodes p.0.changesets) p.1.rev) d.is
+          ∙ ap (λ l. slice_get l (length r.changesets)) (new-nodes r.changesets c other)
+          ∙ last-get (changeset_nodes r.changesets) node (length r.changesets) (sym long)
+          ∙ ap (λ x. Some x) (sym (last-index (changeset_nodes r.changesets) node (length r.changesets) (sym long)))
+          ∙ ap (λ l. Some (slice_index_or l (length r.changesets) null_node)) (sym (new-nodes r.changesets c other))
+          ∙ ap (λ (p : Next). Some p.1.node) (sym d.is),
+      subst HaveNodes (sym (ap (λ (p : Next). p.0) d.is))
+          (omega (arith, long, ap length (new-nodes r.changesets c other), length-append (changeset_nodes r.changesets) (node ∷ []), length-append r.changesets (c ∷ []))),
+    )
+
+-- so do the steps of an import
+steps-there : (next : Next) (changes : List NewChange) (done : Next) → slice_get (changeset_nodes next.0.changesets) next.1.rev ≡ Some next.1.node → HaveNodes next.0 → steps_from next changes ≡ Ok done → slice_get (changeset_nodes done.0.changesets) done.1.rev ≡ Some done.1.node
+steps-there next [] done there long e = subst (λ (p : Next). slice_get (changeset_nodes p.0.changesets) p.1.rev ≡ Some p.1.node) (ok-next next next done e) there
+steps-there next (n ∷ changes) done there long e = by (λ after now more h. steps-there after changes done now more h) (step_commit next.0 n) refl e
+  where
+    by : ((after : Next) → slice_get (changeset_nodes after.0.changesets) after.1.rev ≡ Some after.1.node → HaveNodes after.0 → steps_from after changes ≡ Ok done → slice_get (changeset_nodes done.0.changesets) done.1.rev ≡ Some done.1.node)
+        → (o : Result Next Refusal) → step_commit next.0 n ≡ o → (o >>= λ after. steps_from after changes) ≡ Ok done → slice_get (changeset_nodes done.0.changesets) done.1.rev ≡ Some done.1.node
+    by rec (Err w) c h = err-next w done h
+    by rec (Ok after) c h = let d = commit-there next.0 n after.0 after.1 long c in rec after d.0 d.1 h
+
+import-there : (r : Repo) (changes : List NewChange) (done : Next) → HaveNodes r → step_import r changes ≡ Ok done → slice_get (changeset_nodes done.0.changesets) done.1.rev ≡ Some done.1.node
+import-there r [] done long e = err-next (NothingChanged 0) done e
+import-there r (n ∷ changes) done long e = by (step_commit r n) refl e
+  where
+    by : (o : Result Next Refusal) → step_commit r n ≡ o → (o >>= λ next. steps_from next changes) ≡ Ok done → slice_get (changeset_nodes done.0.changesets) done.1.rev ≡ Some done.1.node
+    by (Err w) c h = err-next w done h
+    by (Ok next) c h = let d = commit-there r n next.0 next.1 long c in steps-there next changes done d.0 d.1 h
+
+pub answers-there : (r next : Repo) (command : Command) (answer : Answer) → IsRepo r → step r command ≡ Ok (next, answer) → slice_get (changeset_nodes next.changesets) answer.rev ≡ Some answer.node
+answers-there r next (Commit n) answer is e = (commit-there r n next answer (length-changeset_nodes r is) e).0
+answers-there r next (Import changes) answer is e = import-there r changes (next, answer) (length-changeset_nodes r is) e
 answers-there r next (Move name phase force) answer is e =
     told-there r (named r name) (λ rev. record r { phases = moved_phases r rev (phase_number phase) }) next answer is (λ rev. refl) (λ rev n. named-below r name rev is n) (move-told r name (phase_number phase) force (next, answer) e)
 answers-there r next (Mark mark name) answer is e =

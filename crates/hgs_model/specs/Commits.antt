@@ -19,7 +19,7 @@ told (Err e) = None
 
 -- a file `a` of this flag, with this body
 abbrev pub file_a : Flag → List ℕ → NewFile
-file_a flag body = record { path = codes "a"; flag = flag; body = body }
+file_a flag body = record { path = codes "a"; flag = flag; from = None; body = body }
 
 abbrev pub line_a : NewFile
 line_a = one_line (codes "a") (codes "a")
@@ -42,7 +42,7 @@ marked_a = commit_on (codes "." ∷ []) (file_a Plain (1 ∷ 10 ∷ codes "q") �
 
 -- a commit of `a` and another `b`, that sets a bookmark
 abbrev pub with_bookmark : Command
-with_bookmark = Commit (record { parents = codes "." ∷ []; user = codes "test"; seconds = pos 0; offset = pos 0; phase = Draft; bookmark = Some (codes "main"); description = []; files = line_a ∷ one_line (codes "b") (codes "c") ∷ [] })
+with_bookmark = Commit (record { parents = codes "." ∷ []; user = codes "test"; seconds = pos 0; offset = pos 0; phase = Draft; bookmark = Some (codes "main"); branch = None; description = []; files = line_a ∷ one_line (codes "b") (codes "c") ∷ [] })
 
 -- `f` with `1`; on it `f` with `2`, and beside that a file `g`
 abbrev pub forked : Repo

@@ -1,6 +1,7 @@
 pub mod Held
 pub mod Commits
 pub mod History
+pub mod Imports
 pub mod IsRepo
 pub mod Names
 pub mod Phase

@@ -11,11 +11,11 @@ use Rattle.hgs_model.specs.Step.{Next, step}
 
 -- a file of one line
 abbrev pub one_line : List ℕ → List ℕ → NewFile
-one_line path text = record { path = path; flag = Plain; body = text ++ 10 ∷ [] }
+one_line path text = record { path = path; flag = Plain; from = None; body = text ++ 10 ∷ [] }
 
 -- a commit of these files on these parents, without a description
 abbrev pub commit_on : List (List ℕ) → List NewFile → Command
-commit_on parents files = Commit (record { parents = parents; user = codes "test"; seconds = pos 0; offset = pos 0; phase = Draft; bookmark = None; description = []; files = files })
+commit_on parents files = Commit (record { parents = parents; user = codes "test"; seconds = pos 0; offset = pos 0; phase = Draft; bookmark = None; branch = None; description = []; files = files })
 
 -- the repository after a command, as it was where the command is refused
 abbrev pub after : Repo → Result Next Refusal → Repo
@@ -39,8 +39,8 @@ merged = done empty_repo (
 -- the first changeset of a file `a`, and a second with a file `b` on it
 abbrev pub two_changesets : Repo
 two_changesets = done empty_repo (
-    Commit (record { parents = []; user = codes "test"; seconds = pos 0; offset = pos 0; phase = Draft; bookmark = None; description = codes "a"; files = one_line (codes "a") (codes "a") ∷ [] })
-    ∷ Commit (record { parents = codes "tip" ∷ []; user = codes "test"; seconds = pos 60; offset = pos 0; phase = Draft; bookmark = None; description = codes "b"; files = one_line (codes "a") (codes "a") ∷ one_line (codes "b") (codes "b") ∷ [] })
+    Commit (record { parents = []; user = codes "test"; seconds = pos 0; offset = pos 0; phase = Draft; bookmark = None; branch = None; description = codes "a"; files = one_line (codes "a") (codes "a") ∷ [] })
+    ∷ Commit (record { parents = codes "tip" ∷ []; user = codes "test"; seconds = pos 60; offset = pos 0; phase = Draft; bookmark = None; branch = None; description = codes "b"; files = one_line (codes "a") (codes "a") ∷ one_line (codes "b") (codes "b") ∷ [] })
     ∷ []
     )
 

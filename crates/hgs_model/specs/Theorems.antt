@@ -2,9 +2,11 @@
 -- that a contract cites.
 pub mod BeforeLemmas
 pub mod BookmarkLemmas
+pub mod CopyLemmas
 pub mod CountLemmas
 pub mod HeldLemmas
 pub mod HistoryLemmas
+pub mod ImportLemmas
 pub mod ListLemmas
 pub mod ListedLemmas
 pub mod NameLemmas
@@ -16,3 +18,4 @@ pub mod ReachedLemmas
 pub mod RowLemmas
 pub mod StepLemmas
 pub mod UsedLemmas
+pub mod ValidLemmas

@@ -1,4 +1,5 @@
 //! Commands, and why one is refused.
+use crate::changes::NewChanges;
 use crate::files::NewFiles;
 use crate::phase::Phase;
 use hgs_bytes::bytes::Bytes;
@@ -19,6 +20,8 @@ pub struct NewChange {
     pub phase: Phase,
     /// The bookmark that is set on it.
     pub bookmark: Option<Bytes>,
+    /// The branch that it is on; without one it is on `default`.
+    pub branch: Option<Bytes>,
     pub description: Bytes,
     pub files: NewFiles,
 }
@@ -27,6 +30,8 @@ pub struct NewChange {
 #[derive(Debug, Drop)]
 pub enum Command {
     Commit(NewChange),
+    /// Changesets one after another, all of them or none.
+    Import(NewChanges),
     Move {
         rev: Bytes,
         phase: Phase,
@@ -42,11 +47,17 @@ pub enum Command {
 }
 
 /// Why a command is refused. A number is that of a changeset.
-#[derive(Clone, Copy, Debug, PartialEq, Eq, Error)]
+#[derive(Debug, Drop, Error)]
 pub enum Refusal {
     /// A name names nothing, or the bookmark to be deleted is not there.
     #[error("unknown revision")]
     UnknownRevision,
+    /// The source of a copy is no file of the first parent.
+    #[error("unknown path")]
+    UnknownPath,
+    /// A copy has the path of a file of a parent: this one.
+    #[error("a copy over a file of a parent")]
+    CopyOver(Bytes),
     /// The changeset's phase would rise.
     #[error("the phase of changeset {0} rises only by force")]
     NeedsForce(u32),

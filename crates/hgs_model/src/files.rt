@@ -11,6 +11,8 @@ use std::marker::Model;
 pub struct NewFile {
     pub path: Bytes,
     pub flag: Flag,
+    /// The file of the first parent that it is a copy of.
+    pub from: Option<Bytes>,
     pub body: Bytes,
 }
 

@@ -7,11 +7,13 @@
 
 pub mod ancestor;
 pub mod answers;
+pub mod changes;
 pub mod command;
 pub mod commits;
 pub mod examples;
 pub mod files;
 pub mod history_laws;
+pub mod imports;
 pub mod laws;
 pub mod names;
 pub mod phase;

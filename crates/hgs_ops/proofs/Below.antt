@@ -8,7 +8,7 @@ use Rattle.hgs_files.specs.Log.{IsDone}
 use Rattle.hgs_files.specs.Tree.{Tree, after_all, apply, bytes_at}
 use Rattle.hgs_journal.specs.declared.backups.BackupLine.{BackupLine}
 use Rattle.hgs_journal.specs.declared.journal.JournalLine.{JournalLine}
-use Rattle.hgs_journal.specs.Begun.{IsAllowed, IsPrepared, LeadsBack, bytes_before}
+use Rattle.hgs_journal.specs.Begun.{IsAllowed, IsPrepared, LeadsBack, bytes_before, is_free}
 use Rattle.hgs_journal.specs.Covers.{HasOwnStrays, Restores, is_loose, undo_ops}
 use Rattle.hgs_journal.specs.Names.{journal_path}
 use Rattle.hgs_journal.specs.Texts.{journal_text}
@@ -21,6 +21,7 @@ pub record Below : Type 0 where
   pub fronts : (strays : List (List ℕ)) (journal : List JournalLine) (backups : List BackupLine) (t q : Tree) (front back : List ℕ) → HasOwnStrays strays → IsPrepared strays journal backups t q → journal_text journal ≡ front ++ back → (first : List JournalLine) × (more : List JournalLine) × (journal ≡ first ++ more) × LeadsBack strays first backups (apply (Create journal_path front) t) q
   pub whole : (strays : List (List ℕ)) (journal : List JournalLine) (backups : List BackupLine) (t q : Tree) → HasOwnStrays strays → IsPrepared strays journal backups t q → LeadsBack strays journal backups (apply (Create journal_path (journal_text journal)) t) q
   pub changed : (strays : List (List ℕ)) (t q : Tree) (journal : List JournalLine) (backups : List BackupLine) (ops done left : List Op) → HasOwnStrays strays → LeadsBack strays journal backups t q → AllByRecursion (IsAllowed journal backups) ops → IsDone ops done left → LeadsBack strays journal backups (after_all done t) q
+  pub free : (strays : List (List ℕ)) (t u q : Tree) (journal : List JournalLine) (backups : List BackupLine) → LeadsBack strays journal backups t q → ((path : List ℕ) → is_free strays backups path ≡ false → u path ≡ t path) → LeadsBack strays journal backups u q
   pub leads : (strays : List (List ℕ)) (t q : Tree) (journal : List JournalLine) (backups : List BackupLine) → HasOwnStrays strays → LeadsBack strays journal backups t q → Restores strays (after_all (undo_ops t journal backups) t) q
   pub kept : (strays : List (List ℕ)) (t q : Tree) (journal : List JournalLine) (backups : List BackupLine) → LeadsBack strays journal backups t q → undo_ops t journal backups ≡ undo_list journal backups (bytes_before q backups)
   pub parts : (strays : List (List ℕ)) (t q : Tree) (journal : List JournalLine) (backups : List BackupLine) (done left : List Op) → HasOwnStrays strays → LeadsBack strays journal backups t q → IsDone (undo_ops t journal backups) done left → LeadsBack strays journal backups (after_all done t) q ⊎ ((left ≡ []) × Restores strays (after_all done t) q)

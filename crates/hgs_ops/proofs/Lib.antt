@@ -14,3 +14,5 @@ pub mod Settling
 pub mod SampleLemmas
 pub mod NextLemmas
 pub mod StayingFiles
+pub mod ImportParts
+pub mod ImportSteps

@@ -69,7 +69,7 @@ touched-not q (Create path bytes) e = ap not e
 touched-not q (Sync path) e = refl
 touched-not q Settle e = refl
 
-all-not : (q : List ℕ) (ops : List Op) → touched q ops ≡ false → list_all (within (λ p. not (same p q))) ops ≡ true
+pub all-not : (q : List ℕ) (ops : List Op) → touched q ops ≡ false → list_all (within (λ p. not (same p q))) ops ≡ true
 all-not q [] e = refl
 all-not q (op ∷ ops) e = and-both _ _ (touched-not q op (or-left _ _ e)) (all-not q ops (or-right (touches q op) _ e))
 

@@ -1,11 +1,11 @@
 -- One transaction, in parts: wherever it is stopped the tree stands for one of its two repositories, or can be taken back to
 -- the first, and undoing it leads there.
-use Rattle.std.proofs.Common.{◌≡◌, ◌⊎◌, ℕ, List, [], ◌∷◌, ◌++◌, Bool, true, false, ◌||◌, map, drop, refl, sym, ◌∙◌, ap, subst, inl, inr, append_assoc}
-use Rattle.std.specs.Prelude.{length, unwrap_or}
+use Rattle.std.proofs.Common.{◌≡◌, ◌⊎◌, ℕ, List, [], ◌∷◌, ◌++◌, Bool, true, false, cond, ◌||◌, not, map, drop, refl, sym, ◌∙◌, ap, subst, inl, inr, append_assoc}
+use Rattle.std.specs.Prelude.{Some, is_some, length, unwrap_or}
 use Rattle.std.specs.List.{AllByRecursion, list_any}
 use Rattle.std.proofs.lemmas.List.Elements.{filter_map-append}
 use Rattle.hgs_bytes.specs.Bytes.{same, among}
-use Rattle.hgs_bytes.specs.Theorems.ByteLemmas.{same-refl}
+use Rattle.hgs_bytes.specs.Theorems.ByteLemmas.{same-eq, same-refl}
 use Rattle.hgs_files.specs.declared.op.Op.{Op}
 use Rattle.hgs_files.specs.declared.op.Op.TheVariants.{Append, Cut, Rename, Remove, Create, Sync, Settle}
 use Rattle.hgs_files.specs.Log.{IsDone}
@@ -15,33 +15,38 @@ use Rattle.hgs_files.specs.Theorems.StopLemmas.{IsInPart, done-in-part}
 use Rattle.hgs_files.specs.Theorems.TreeLemmas.{after_all-append}
 use Rattle.hgs_journal.specs.declared.backups.BackupLine.{BackupLine}
 use Rattle.hgs_journal.specs.declared.journal.JournalLine.{JournalLine}
-use Rattle.hgs_journal.specs.Begun.{HasOffset, IsAllowed, IsPrepared, LeadsBack, bytes_before}
+use Rattle.hgs_journal.specs.Begun.{HasOffset, IsAllowed, IsPrepared, LeadsBack, bytes_before, is_free}
 use Rattle.hgs_journal.specs.Covers.{Covers, Restores, undo_ops, is_loose, journal_paths, no_repeat}
-use Rattle.hgs_journal.specs.Names.{in_store, journal_path, place}
+use Rattle.hgs_journal.specs.Names.{backup_name, in_store, journal_path, place}
 use Rattle.hgs_journal.specs.Texts.{IsJournalLine, journal_text}
 use Rattle.hgs_journal.specs.Undo.{undo_list}
 use Rattle.hgs_model.specs.Repo.{Repo}
 use Rattle.hgs_stands.specs.Open.{IsOpen}
+use Rattle.hgs_stands.specs.Places.{changelog_index}
 use Rattle.hgs_stands.specs.Stands.{IsClean, Stands}
-use Rattle.hgs_ops.specs.Operations.{journal_line_of, journal_lines, lock_path, preparations, removals, strays, wlock_path}
+use Rattle.hgs_ops.specs.Operations.{journal_line_of, journal_lines, lock_path, new_changelog_path, preparations, removals, strays, wlock_path}
 use Rattle.hgs_ops.specs.Replaced.{Replacement, backup_line_of, standing_file}
 use Rattle.hgs_ops.specs.Stops.{IsBetween}
 use Rattle.hgs_ops.proofs.Below.{Below}
+use Rattle.hgs_ops.proofs.ImportParts.{ComesTo}
 use Rattle.hgs_ops.proofs.JournalLemmas.{IsGood, IsOneFile, backups-kept, list-stands, offsets, or-true, paths-fail, place_of_file, places-same, prep-loose, prep-stays, replaced-all, small-unnamed, small_paths}
 use Rattle.hgs_ops.proofs.Parts.{done-split, done-within}
 use Rattle.hgs_ops.specs.Theorems.Replace.{gone-none}
 use Rattle.hgs_ops.proofs.SmallFiles.{IsOne, is-one}
 use Rattle.hgs_ops.proofs.SmallFiles.IsOne.{phaseroots, dirstate, bookmarks}
-use Rattle.hgs_ops.specs.Theorems.Touch.{never, or-both, touched-within, untouched}
+use Rattle.hgs_ops.specs.Theorems.Touch.{away, bool, bytes-same, never, or-both, touched-within, untouched}
 
--- What the laws of a journal ask of a transaction: it appends to paths that a journal may name, and renames new texts to
--- the files that it replaces, each once; behind the publishing operation it appends to nothing.
-pub record IsPlan (t : Tree) (files : List Replacement) (changes : List Op) (publish : Op) (renames : List Op) : Type 0 where
+-- What the laws of a journal ask of a transaction, whose journal names what is appended to in some operations: what is done of
+-- it comes to appends to paths that a journal may name, and renames of new texts to the files that it replaces, each once,
+-- and these append to nothing else.
+pub record IsPlan (t : Tree) (files : List Replacement) (named changes : List Op) (publish : Op) (renames : List Op) : Type 0 where
   pub ones : AllByRecursion IsOneFile files
   pub once : no_repeat (map place_of_file files) ≡ true
-  pub good : AllByRecursion (IsGood files) (changes ++ publish ∷ renames)
-  pub none : journal_lines t renames ≡ []
-  pub spelled : AllByRecursion IsJournalLine (journal_lines t (changes ++ publish ∷ []))
+  pub ops : List Op
+  pub good : AllByRecursion (IsGood files) ops
+  pub lines : journal_lines t ops ≡ journal_lines t named
+  pub spelled : AllByRecursion IsJournalLine (journal_lines t named)
+  pub comes : (u : Tree) → bytes_at u changelog_index ≡ bytes_at t changelog_index → (done left : List Op) → IsDone (changes ++ publish ∷ renames) done left → ComesTo ops u done
 
 lines-one : (t : Tree) (op : Op) (ops : List Op) → journal_lines t ops ≡ [] → journal_lines t (op ∷ ops) ≡ journal_lines t (op ∷ [])
 lines-one t (Append path bytes) ops e = ap (λ l. record { name = drop 6 path; offset = length (bytes_at t path) } ∷ l) e
@@ -51,6 +56,23 @@ lines-one t (Remove path) ops e = e
 lines-one t (Create path bytes) ops e = e
 lines-one t (Sync path) ops e = e
 lines-one t Settle ops e = e
+
+-- the lines of operations behind which nothing is appended
+pub lines-through : (t : Tree) (changes : List Op) (publish : Op) (renames : List Op) → journal_lines t renames ≡ [] → journal_lines t (changes ++ publish ∷ renames) ≡ journal_lines t (changes ++ publish ∷ [])
+lines-through t changes publish renames none = filter_map-append (journal_line_of t) changes (publish ∷ renames) ∙ ap (λ l. journal_lines t changes ++ l) (lines-one t publish renames none) ∙ sym (filter_map-append (journal_line_of t) changes (publish ∷ []))
+
+-- no backup is the new index of the changelog
+new-unneeded : (t : Tree) (files : List Replacement) → AllByRecursion IsOneFile files → among new_changelog_path (map (λ (l : BackupLine). place l.plain l.backup) (map (backup_line_of t) files)) ≡ false
+new-unneeded t [] all = refl
+new-unneeded t (x ∷ files) all = or-both _ _ (by (is-one x.plain x.file all.0) (is_some (standing_file t x))) (new-unneeded t files all.1)
+  where
+    by : {p : Bool} {file : List ℕ} → IsOne p file → (b : Bool) → same new_changelog_path (place p (cond b (backup_name file) [])) ≡ false
+    by phaseroots true = refl
+    by phaseroots false = refl
+    by dirstate true = refl
+    by dirstate false = refl
+    by bookmarks true = refl
+    by bookmarks false = refl
 
 small-one : (p : Bool) (x : List ℕ) → IsOne p x → among (place p x) small_paths ≡ true
 small-one p x phaseroots = refl
@@ -65,12 +87,12 @@ kept-bytes : (t : Tree) (files : List Replacement) → bytes_before t (map (back
 kept-bytes t [] = refl
 kept-bytes t (x ∷ files) = ap (λ l. unwrap_or (standing_file t x) [] ∷ l) (kept-bytes t files)
 
-module _ (below : Below) (t : Tree) (who : List ℕ) (files : List Replacement) (changes : List Op) (publish : Op) (renames : List Op) (plan : IsPlan t files changes publish renames) (r : Repo) (s : Stands t r) where
+module _ (below : Below) (t : Tree) (who : List ℕ) (files : List Replacement) (named changes : List Op) (publish : Op) (renames : List Op) (plan : IsPlan t files named changes publish renames) (r : Repo) (s : Stands t r) where
   abbrev all_ops : List Op
   all_ops = changes ++ publish ∷ renames
 
   abbrev lines : List JournalLine
-  lines = journal_lines t (changes ++ publish ∷ [])
+  lines = journal_lines t named
 
   abbrev list : List BackupLine
   list = map (backup_line_of t) files
@@ -90,11 +112,8 @@ module _ (below : Below) (t : Tree) (who : List ℕ) (files : List Replacement) 
   abbrev undo : List Op
   undo = undo_list lines list (old_bytes t files)
 
-  lines-are : journal_lines t all_ops ≡ lines
-  lines-are = filter_map-append (journal_line_of t) changes (publish ∷ renames) ∙ ap (λ l. journal_lines t changes ++ l) (lines-one t publish renames plan.none) ∙ sym (filter_map-append (journal_line_of t) changes (publish ∷ []))
-
   unnamed : (p : List ℕ) → among p small_paths ≡ true → among p (journal_paths lines) ≡ false
-  unnamed p e = ap (λ l. among p (journal_paths l)) (sym lines-are) ∙ small-unnamed t files all_ops p e plan.good
+  unnamed p e = ap (λ l. among p (journal_paths l)) (sym plan.lines) ∙ small-unnamed t files plan.ops p e plan.good
 
   none-named : (xs : List Replacement) → AllByRecursion IsOneFile xs → list_any (λ path. among path (journal_paths lines)) (map place_of_file xs) ≡ false
   none-named [] all = refl
@@ -103,8 +122,8 @@ module _ (below : Below) (t : Tree) (who : List ℕ) (files : List Replacement) 
   ready : IsPrepared strays lines list t0 t
   ready = record {
     lines = plan.spelled;
-    offsets = subst (AllByRecursion (HasOffset t)) lines-are (offsets t files all_ops plan.good);
-    apart = ap (λ l. list_any (λ path. is_loose strays path || same path journal_path) (journal_paths l)) (sym lines-are) ∙ paths-fail t files (λ path. is_loose strays path || same path journal_path) all_ops (λ path g. g.kept) plan.good;
+    offsets = subst (AllByRecursion (HasOffset t)) plan.lines (offsets t files plan.ops plan.good);
+    apart = ap (λ l. list_any (λ path. is_loose strays path || same path journal_path) (journal_paths l)) (sym plan.lines) ∙ paths-fail t files (λ path. is_loose strays path || same path journal_path) plan.ops (λ path g. g.kept) plan.good;
     unnamed = ap (list_any (λ path. among path (journal_paths lines))) (places-same t files) ∙ none-named files plan.ones;
     list_stands = list-stands t who files plan.ones plan.once;
     replaced = replaced-all t files plan.ones;
@@ -129,7 +148,21 @@ module _ (below : Below) (t : Tree) (who : List ℕ) (files : List Replacement) 
   -- whatever part is done behind the whole journal, the tree leads back
   pub changes-lead-back : (done left : List Op) → IsDone all_ops done left → LeadsBack strays lines list (after_all done t1) t
   changes-lead-back done left h =
-      below.changed strays t1 t lines list all_ops done left refl (below.whole strays lines list t0 t refl ready) (allowed-of all_ops plan.good (λ path e. ap (λ l. among path (journal_paths l)) (sym lines-are) ∙ e)) h
+      let index : bytes_at t1 changelog_index ≡ bytes_at t changelog_index = bytes-same t t1 changelog_index (away t0 journal_path changelog_index (Some text) refl ∙ prep-stays t who files plan.ones plan.once changelog_index refl) in
+      let d = plan.comes t1 index done left h in
+      below.free strays (after_all d.other t1) (after_all done t1) t lines list
+      (below.changed strays t1 t lines list plan.ops d.other d.rest refl (below.whole strays lines list t0 t refl ready) (allowed-of plan.ops plan.good (λ path e. ap (λ l. among path (journal_paths l)) (sym plan.lines) ∙ e)) d.is_done)
+      (λ p bound. d.agree p (not-new p bound))
+    where
+      -- what undoing needs is not the new index
+      free-new : is_free strays list new_changelog_path ≡ true
+      free-new = ap not (new-unneeded t files plan.ones)
+
+      not-new : (p : List ℕ) → is_free strays list p ≡ false → same new_changelog_path p ≡ false
+      not-new p bound = elim (bool (same new_changelog_path p)) [
+        | inl e ↦ never (sym free-new ∙ ap (is_free strays list) (same-eq new_changelog_path p e) ∙ bound)
+        | inr e ↦ e
+      ]
 
   -- before the journal the tree stands for the repository
   pub before-stands : (done left : List Op) → IsDone prep done left → Stands (after_all done t) r

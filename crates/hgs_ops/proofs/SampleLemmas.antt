@@ -13,7 +13,7 @@ use Rattle.hgs_files.specs.Tree.{after_all, bytes_at}
 use Rattle.hgs_index.specs.declared.kinds.Flag.TheVariants.{Plain}
 use Rattle.hgs_index.specs.Either.{chunk_bytes}
 use Rattle.hgs_index.specs.Inline.{chunks_apart}
-use Rattle.hgs_model.specs.declared.command.Command.TheVariants.{Commit}
+use Rattle.hgs_model.specs.declared.command.Command.TheVariants.{Commit, Import}
 use Rattle.hgs_model.specs.History.{history, log_with_file, no_history}
 use Rattle.hgs_model.specs.Repo.{TreeFile, empty_repo}
 use Rattle.hgs_model.specs.Step.{answer_at, step}
@@ -26,10 +26,10 @@ use Rattle.hgs_stands.specs.Places.{fncache_path, requires_path}
 use Rattle.hgs_stands.specs.Samples.{first_draft}
 use Rattle.hgs_stands.specs.Stands.{IsClean, Stands}
 use Rattle.hgs_stands.specs.Theorems.EmptyLemmas.{empty-stands}
-use Rattle.hgs_ops.specs.Growth.{begins_inline}
+use Rattle.hgs_ops.specs.Growth.{begins_inline, growing_chunks}
 use Rattle.hgs_ops.specs.Operations.{operations, transaction_of}
 use Rattle.hgs_ops.specs.Samples.{after_delete, after_first, after_publish, after_set, bare, delete_here, first_change, one_draft, one_marked, one_public, one_unmarked, publish_here, requires_text, set_here}
-use Rattle.hgs_ops.specs.Unhindered.{AreNewRevisions, IsReady}
+use Rattle.hgs_ops.specs.Unhindered.{AreNewRevisions, HavePlaces, IsReady, IsUnhindered}
 use Rattle.hgs_ops.specs.Theorems.Touch.{and-both, and-left, and-right, never}
 use Rattle.hgs_ops.proofs.TransactionLemmas.{transaction-leads}
 
@@ -58,12 +58,14 @@ first-valid = record {
   seconds = most 0 _ refl;
   offset = most 0 _ refl;
   bookmark = tt;
+  branch = tt;
   description = IsUtf8-from_ascii (codes "a") (ascii-bytes (codes "a") refl);
   description_most = most 1 65536 refl;
   count = most 1 20000 refl;
   paths = refl;
   ordered = refl;
   apart = refl;
+  sources = (tt, tt);
   bodies = (most 2 16777216 refl, tt);
 }
 
@@ -112,24 +114,26 @@ few path = by (same requires_path path)
     by true = small 33 (2 ^ 64) refl
     by false = small 0 (2 ^ 64) refl
 
-pub first-ready : IsReady bare empty_repo (Commit first_change) one_draft
-first-ready = (
-  record {
-    room = record { changesets = most 0 1000000 refl; changelog = most 0 _ refl; manifest = most 0 _ refl; filelogs = λ path used. no-chunks path (begins_inline ((history one_draft.changesets).filelog path)) };
-    separate = refl;
-    changelog = new-changelog;
-    manifest = new-manifest;
-    filelogs = new-filelogs;
-    names = λ path other a b. apart path other (same-eq path (codes "a") (or-none (same path (codes "a")) a)) (same-eq other (codes "a") (or-none (same other (codes "a")) (or-none _ b)));
-    listed = λ names read name path ext a b e. never (sym (ap (among name) (empty names read) ∙ a));
-    free = λ path ext a b part. no-bytes (store_name path ext) refl;
-  },
-  record { paths = (bytes, tt); sizes = λ path named. few path },
-)
+first-unhindered : IsUnhindered bare empty_repo one_draft
+first-unhindered =
+    record {
+      room = record { changesets = most 1 1000000 refl; changelog = (most 0 _ refl, tt); manifest = (most 0 _ refl, tt); filelogs = λ path used. places path (same-eq path (codes "a") (or-none (same path (codes "a")) used)) };
+      separate = refl;
+      changelog = new-changelog;
+      manifest = new-manifest;
+      filelogs = new-filelogs;
+      names = λ path other a b. apart path other (same-eq path (codes "a") (or-none (same path (codes "a")) a)) (same-eq other (codes "a") (or-none (same other (codes "a")) (or-none _ b)));
+      listed = λ names read name path ext a b e. never (sym (ap (among name) (empty names read) ∙ a));
+      free = λ path ext a b part. no-bytes (store_name path ext) refl;
+    }
   where
     no-chunks : (path : List ℕ) (inline : Bool) → length (chunk_bytes inline (bytes_at bare (store_name path I)) (bytes_at bare (store_name path D))) ≤ 2 ^ 48 - 1
     no-chunks path true = subst (λ i. length (chunks_apart i) ≤ 2 ^ 48 - 1) (sym (no-bytes (store_name path I) refl)) (most 0 _ refl)
     no-chunks path false = subst (λ l. length l ≤ 2 ^ 48 - 1) (sym (no-bytes (store_name path D) refl)) (most 0 _ refl)
+
+    places : (path : List ℕ) → path ≡ codes "a" → HavePlaces (length (growing_chunks bare path [] ((history one_draft.changesets).filelog path))) [] ((history one_draft.changesets).filelog path)
+    places path e = subst (λ q. HavePlaces (length (growing_chunks bare q [] ((history one_draft.changesets).filelog q))) [] ((history one_draft.changesets).filelog q)) (sym e)
+        (no-chunks (codes "a") (begins_inline ((history one_draft.changesets).filelog (codes "a"))), tt)
 
     apart : (path other : List ℕ) → path ≡ codes "a" → other ≡ codes "a" → clashes path other ≡ false
     apart path other e f = (λ i. clashes (e i) (f i)) ∙ refl
@@ -137,9 +141,25 @@ first-ready = (
     empty : (names : List (List ℕ)) → names_of (bytes_at bare fncache_path) ≡ Ok names → [] ≡ names
     empty names e = cc
 
-    bytes : IsBytes (codes "a")
-    bytes zero = small 97 256 refl
-    bytes (suc i) = small 0 256 refl
+path-bytes : IsBytes (codes "a")
+path-bytes zero = small 97 256 refl
+path-bytes (suc i) = small 0 256 refl
+
+pub first-ready : IsReady bare empty_repo (Commit first_change) one_draft
+first-ready = (first-unhindered, record { paths = (path-bytes, tt); sizes = λ path named. few path })
+
+-- the same as an import of one record
+pub import-valid : IsValid (Import (first_change ∷ []))
+import-valid = record { least = most 1 1 refl; most = most 1 10000 refl; each = (first-valid, tt) }
+
+pub import-accepted : step empty_repo (Import (first_change ∷ [])) ≡ Ok (one_draft, answer_at one_draft 0)
+import-accepted = refl
+
+pub import-ready : IsReady bare empty_repo (Import (first_change ∷ [])) one_draft
+import-ready = (first-unhindered, record { paths = (path-bytes, tt); sizes = λ path named. few path })
+
+pub import-leads : (who : List ℕ) → IsClean (after_all (operations (transaction_of bare empty_repo (Import (first_change ∷ [])) who one_draft)) bare) one_draft
+import-leads who = transaction-leads bare empty_repo one_draft (Import (first_change ∷ [])) who (answer_at one_draft 0) bare-stands import-valid import-accepted import-ready
 
 pub first-leads : (who : List ℕ) → IsClean (after_all (operations (transaction_of bare empty_repo (Commit first_change) who one_draft)) bare) one_draft
 first-leads who = transaction-leads bare empty_repo one_draft (Commit first_change) who (answer_at one_draft 0) bare-stands first-valid first-accepted first-ready

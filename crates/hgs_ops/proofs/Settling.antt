@@ -16,8 +16,9 @@ use Rattle.hgs_marks.specs.Dirstate.{read_dirstate}
 use Rattle.hgs_model.specs.History.{changeset_nodes}
 use Rattle.hgs_model.specs.declared.command.NewChange.{NewChange}
 use Rattle.hgs_model.specs.declared.command.Command.{Command}
-use Rattle.hgs_model.specs.declared.command.Command.TheVariants.{Commit, Move, Mark, Unmark}
+use Rattle.hgs_model.specs.declared.command.Command.TheVariants.{Commit, Import, Move, Mark, Unmark}
 use Rattle.hgs_model.specs.Repo.{Repo}
+use Rattle.hgs_model.specs.Step.{sets_bookmark}
 use Rattle.hgs_path.specs.declared.name.Ext.{Ext}
 use Rattle.hgs_path.specs.declared.name.Ext.TheVariants.{I, D}
 use Rattle.hgs_path.specs.StoreName.{store_name}
@@ -26,13 +27,13 @@ use Rattle.hgs_stands.specs.Places.{bookmarks_path, changelog_data, changelog_in
 use Rattle.hgs_stands.specs.Shows.{BeginsAt, Shows, ShowsWorking}
 use Rattle.hgs_stands.specs.Stands.{Stands, mark_of}
 use Rattle.hgs_stands.specs.Theorems.ShowsLemmas.{stands-shows}
-use Rattle.hgs_ops.specs.Operations.{Transaction, strays, transaction_of}
+use Rattle.hgs_ops.specs.Operations.{Transaction, new_changelog_path, strays, transaction_of}
 use Rattle.hgs_ops.specs.Replaced.{only_if, new_rename, new_roots}
 use Rattle.hgs_ops.specs.Theorems.CommitTree.{is_quiet}
 use Rattle.hgs_ops.proofs.Parts.{remove-done}
 use Rattle.hgs_ops.specs.Theorems.Apart.{among-part, fixed, stores-fixed}
 use Rattle.hgs_ops.specs.Theorems.Touch.{bytes-same, or-both, touched, touched-within, untouched}
-use Rattle.hgs_ops.proofs.TransactionLemmas.{before-loose, commit-quiet}
+use Rattle.hgs_ops.proofs.TransactionLemmas.{before-loose, commit-quiet, import-quiet}
 use Rattle.hgs_ops.specs.Shown.{lacks_bookmarks, lacks_dirstate}
 
 -- where the operations behind the publishing one write
@@ -143,15 +144,22 @@ module _ (t : Tree) (r next : Repo) (s : Stands t r) where
   abbrev published_tree : Transaction → Tree
   published_tree x = after_all (to_publishing x) (apply x.journal (after_all x.before t))
 
-  -- a commit has not come to these files when it is published
+  -- a commit or an import has not come to these files when it is published
   commit-old : (n : NewChange) (who q : List ℕ) → is_quiet q ≡ true → is_loose strays q ≡ false → touched q (new_rename (new_roots next) ∷ []) ≡ false → same changelog_index q ≡ false → same journal_path q ≡ false → published_tree (transaction_of t r (Commit n) who next) q ≡ t q
   commit-old n who q quiet free a b c =
       untouched (to_publishing (transaction_of t r (Commit n) who next)) (apply (transaction_of t r (Commit n) who next).journal (after_all (transaction_of t r (Commit n) who next).before t)) q (commit-quiet t r next n who q quiet a b)
       ∙ untouched ((transaction_of t r (Commit n) who next).journal ∷ []) (after_all (transaction_of t r (Commit n) who next).before t) q (or-both _ _ c refl)
       ∙ untouched (transaction_of t r (Commit n) who next).before t q (touched-within (is_loose strays) (transaction_of t r (Commit n) who next).before q (before-loose t r next (Commit n) who) free)
 
+  import-old : (changes : List NewChange) (who q : List ℕ) → is_quiet q ≡ true → is_loose strays q ≡ false → touched q (new_rename (new_roots next) ∷ []) ≡ false → same new_changelog_path q ≡ false → same changelog_index q ≡ false → same journal_path q ≡ false → published_tree (transaction_of t r (Import changes) who next) q ≡ t q
+  import-old changes who q quiet free a b c d =
+      untouched (to_publishing (transaction_of t r (Import changes) who next)) (apply (transaction_of t r (Import changes) who next).journal (after_all (transaction_of t r (Import changes) who next).before t)) q (import-quiet t r next changes who q quiet a b c)
+      ∙ untouched ((transaction_of t r (Import changes) who next).journal ∷ []) (after_all (transaction_of t r (Import changes) who next).before t) q (or-both _ _ d refl)
+      ∙ untouched (transaction_of t r (Import changes) who next).before t q (touched-within (is_loose strays) (transaction_of t r (Import changes) who next).before q (before-loose t r next (Import changes) who) free)
+
   pub settling : (command : Command) (who : List ℕ) → Stands (after_all (through_removal (transaction_of t r command who next)) (published_tree (transaction_of t r command who next))) next → (log : List Op) (o : Op) (l : List Op) → IsDone (through_removal (transaction_of t r command who next)) log (o ∷ l) → Shown (published_tree (transaction_of t r command who next)) log (o ∷ l)
   settling (Commit n) who stands log o l h = dirstate-left (is_some n.bookmark) (published_tree (transaction_of t r (Commit n) who next)) log o l (commit-old n who bookmarks_path refl refl refl refl refl) (commit-old n who dirstate_path refl refl refl refl refl) stands h
+  settling (Import changes) who stands log o l h = dirstate-left (sets_bookmark changes) (published_tree (transaction_of t r (Import changes) who next)) log o l (import-old changes who bookmarks_path refl refl refl refl refl refl) (import-old changes who dirstate_path refl refl refl refl refl refl) stands h
   settling (Move rev phase force) who stands log o l h = end-left (published_tree (transaction_of t r (Move rev phase force) who next)) log o l stands h
   settling (Mark name rev) who stands log o l h = end-left (published_tree (transaction_of t r (Mark name rev) who next)) log o l stands h
   settling (Unmark name) who stands log o l h = end-left (published_tree (transaction_of t r (Unmark name) who next)) log o l stands h

@@ -24,18 +24,18 @@ use Rattle.hgs_ops.proofs.JournalLemmas.{prep-stays}
 use Rattle.hgs_ops.proofs.Plan.{IsPlan, changes-lead-back, early-files, early-lead, front-covers, old_bytes, undo-files, undo-lead}
 use Rattle.hgs_ops.specs.Theorems.Touch.{away, bytes-same, or-both, same-sym}
 
-module _ (below : Below) (t : Tree) (who : List ℕ) (files : List Replacement) (changes : List Op) (publish : Op) (renames : List Op) (plan : IsPlan t files changes publish renames) (r : Repo) (s : Stands t r) where
+module _ (below : Below) (t : Tree) (who : List ℕ) (files : List Replacement) (named changes : List Op) (publish : Op) (renames : List Op) (plan : IsPlan t files named changes publish renames) (r : Repo) (s : Stands t r) where
   abbrev t0 : Tree
   t0 = after_all (preparations t who files (map (backup_line_of t) files)) t
 
   abbrev text : List ℕ
-  text = journal_text (journal_lines t (changes ++ publish ∷ []))
+  text = journal_text (journal_lines t named)
 
   abbrev t1 : Tree
   t1 = apply (Create journal_path text) t0
 
   abbrev undo : List Op
-  undo = undo_list (journal_lines t (changes ++ publish ∷ [])) (map (backup_line_of t) files) (old_bytes t files)
+  undo = undo_list (journal_lines t named) (map (backup_line_of t) files) (old_bytes t files)
 
   -- with any bytes in its journal the tree has the other files of the one before
   pub begun-same : (bytes p : List ℕ) → is_loose strays p ≡ false → same p journal_path ≡ false → apply (Create journal_path bytes) t0 p ≡ t p
@@ -48,7 +48,7 @@ module _ (below : Below) (t : Tree) (who : List ℕ) (files : List Replacement) 
       same_bytes p free off = bytes-same t (apply (Create journal_path bytes) t0) p (begun-same bytes p free off)
 
   pub begun-shows : (front back : List ℕ) → text ≡ front ++ back → Shows (apply (Create journal_path front) t0) r r r
-  begun-shows front back e = still-shows t (apply (Create journal_path front) t0) r s (front-covers below t who files changes publish renames plan r s front back e) (begun-still front)
+  begun-shows front back e = still-shows t (apply (Create journal_path front) t0) r s (front-covers below t who files named changes publish renames plan r s front back e) (begun-still front)
 
   restored-bytes : (now before : Option (List ℕ)) → IsRestored now before → unwrap_or now [] ≡ unwrap_or before []
   restored-bytes now before (inl e) = ap (λ o. unwrap_or o []) e
@@ -56,7 +56,7 @@ module _ (below : Below) (t : Tree) (who : List ℕ) (files : List Replacement) 
 
   -- undoing that begins while the journal is being made
   pub early-shows : (front back : List ℕ) → text ≡ front ++ back → (log rest : List Op) → IsDone undo log rest → Shows (after_all log (apply (Create journal_path front) t0)) r r r
-  early-shows front back e log rest k = by (early-lead below t who files changes publish renames plan r s front back e log rest k)
+  early-shows front back e log rest k = by (early-lead below t who files named changes publish renames plan r s front back e log rest k)
     where
       v : Tree
       v = after_all log (apply (Create journal_path front) t0)
@@ -65,7 +65,7 @@ module _ (below : Below) (t : Tree) (who : List ℕ) (files : List Replacement) 
       by (inr ends) = stands-shows _ r ends.1
       by (inl (p, covers, back_to)) =
           let stands : Stands p r = below.restored strays p t r refl back_to s in
-          let same_bytes = (λ (x : List ℕ) (free : is_loose strays x ≡ false) (off : same x journal_path ≡ false). early-files below t who files changes publish renames plan r s front back e log rest k x free off ∙ sym (restored-bytes (p x) (t x) (back_to x free))) in
+          let same_bytes = (λ (x : List ℕ) (free : is_loose strays x ≡ false) (off : same x journal_path ≡ false). early-files below t who files named changes publish renames plan r s front back e log rest k x free off ∙ sym (restored-bytes (p x) (t x) (back_to x free))) in
           still-shows p (after_all log (apply (Create journal_path front) t0)) r stands covers
           (still-own r p (after_all log (apply (Create journal_path front) t0)) stands (same_bytes changelog_index refl refl) (same_bytes roots_path refl refl) (same_bytes bookmarks_path refl refl) (same_bytes dirstate_path refl refl))
 
@@ -75,14 +75,14 @@ module _ (below : Below) (t : Tree) (who : List ℕ) (files : List Replacement) 
 
     -- before the publishing operation is whole
     pub working-shows : Shows (after_all done t1) r r r
-    working-shows = still-shows t (after_all done t1) r s (changes-lead-back below t who files changes publish renames plan r s done ((o ∷ l) ++ renames) onward).covers (still done o l h)
+    working-shows = still-shows t (after_all done t1) r s (changes-lead-back below t who files named changes publish renames plan r s done ((o ∷ l) ++ renames) onward).covers (still done o l h)
 
     -- and while it is undone
     pub undoing-shows : (log rest : List Op) → IsDone undo log rest → Shows (after_all log (after_all done t1)) r r r
-    undoing-shows log rest k = elim (undo-lead below t who files changes publish renames plan r s done ((o ∷ l) ++ renames) onward log rest k) [
+    undoing-shows log rest k = elim (undo-lead below t who files named changes publish renames plan r s done ((o ∷ l) ++ renames) onward log rest k) [
       | inr ends ↦ stands-shows (after_all log (after_all done t1)) r ends.1
       | inl lead ↦
-          let each = undo-files below t who files changes publish renames plan r s done ((o ∷ l) ++ renames) onward log rest k in
+          let each = undo-files below t who files named changes publish renames plan r s done ((o ∷ l) ++ renames) onward log rest k in
           still-shows t (after_all log (after_all done t1)) r s lead.covers
           (still-either r t (after_all done t1) (after_all log (after_all done t1)) s (still done o l h) (each changelog_index refl refl) (each roots_path refl refl) (each bookmarks_path refl refl) (each dirstate_path refl refl))
     ]

@@ -10,8 +10,9 @@ use Rattle.hgs_files.specs.Tree.{Tree, after_all}
 use Rattle.hgs_journal.specs.Covers.{is_loose}
 use Rattle.hgs_journal.specs.Names.{journal_path}
 use Rattle.hgs_model.specs.declared.command.Command.{Command}
-use Rattle.hgs_model.specs.declared.command.Command.TheVariants.{Commit, Move, Mark, Unmark}
+use Rattle.hgs_model.specs.declared.command.Command.TheVariants.{Commit, Import, Move, Mark, Unmark}
 use Rattle.hgs_model.specs.Repo.{Repo}
+use Rattle.hgs_model.specs.Step.{sets_bookmark}
 use Rattle.hgs_ops.specs.Operations.{renames_after, strays, transaction_of}
 use Rattle.hgs_ops.specs.Replaced.{new_bookmarks, new_dirstate}
 use Rattle.hgs_ops.specs.Theorems.CommitTree.{second_of}
@@ -33,6 +34,7 @@ second-late false dirstate marks = refl
 
 behind-late : (command : Command) (next : Repo) → list_all (within is_late) (renames_after command next ++ Remove journal_path ∷ []) ≡ true
 behind-late (Commit n) next = second-late (is_some n.bookmark) (new_dirstate next).text (new_bookmarks next).text
+behind-late (Import changes) next = second-late (sets_bookmark changes) (new_dirstate next).text (new_bookmarks next).text
 behind-late (Move rev phase force) next = refl
 behind-late (Mark name rev) next = refl
 behind-late (Unmark name) next = refl

@@ -3,14 +3,14 @@ use Rattle.std.specs.Prelude.{ℕ, List, [], ◌∷◌, ◌++◌, false, pos, No
 use Rattle.hgs_bytes.specs.Bytes.{same}
 use Rattle.hgs_files.specs.Tree.{Tree, after_all}
 use Rattle.hgs_model.specs.declared.command.Command.{Command}
-use Rattle.hgs_model.specs.declared.command.Command.TheVariants.{Commit, Mark, Move, Unmark}
+use Rattle.hgs_model.specs.declared.command.Command.TheVariants.{Commit, Import, Mark, Move, Unmark}
 use Rattle.hgs_model.specs.declared.command.NewChange.{NewChange}
 use Rattle.hgs_model.specs.declared.phase.Phase.TheVariants.{Draft, Public}
 use Rattle.hgs_model.specs.Repo.{Repo, empty_repo}
 use Rattle.hgs_model.specs.Samples.{one_line}
 use Rattle.hgs_ops.specs.Operations.{operations, transaction_of}
 use Rattle.hgs_stands.specs.Places.{requires_path}
-use Rattle.hgs_stands.specs.Samples.{first_draft}
+use Rattle.hgs_stands.specs.Samples.{first_draft, two_drafts}
 
 -- the text of `requires`
 abbrev pub requires_text : List ℕ
@@ -22,7 +22,7 @@ bare path = if same requires_path path then Some requires_text else None
 
 -- a commit of one file `a`
 abbrev pub first_change : NewChange
-first_change = record { parents = []; user = codes "test"; seconds = pos 0; offset = pos 0; phase = Draft; bookmark = None; description = codes "a"; files = one_line (codes "a") (codes "a") ∷ [] }
+first_change = record { parents = []; user = codes "test"; seconds = pos 0; offset = pos 0; phase = Draft; bookmark = None; branch = None; description = codes "a"; files = one_line (codes "a") (codes "a") ∷ [] }
 
 -- the repository behind it
 abbrev pub one_draft : Repo
@@ -31,6 +31,16 @@ one_draft = record { changesets = first_draft ∷ []; phases = 1 ∷ []; bookmar
 -- the tree behind it
 abbrev pub after_first : List ℕ → Tree
 after_first who = after_all (operations (transaction_of bare empty_repo (Commit first_change) who one_draft)) bare
+
+-- an import of it with a bookmark, and of a second changeset with a file `b`
+abbrev pub both_changes : List NewChange
+both_changes =
+    record first_change { bookmark = Some (codes "main") }
+    ∷ record { parents = codes "tip" ∷ []; user = codes "test"; seconds = pos 60; offset = pos 0; phase = Draft; bookmark = None; branch = None; description = codes "b"; files = one_line (codes "a") (codes "a") ∷ one_line (codes "b") (codes "b") ∷ [] }
+    ∷ []
+
+abbrev pub after_both : List ℕ → Tree
+after_both who = after_all (operations (transaction_of bare empty_repo (Import both_changes) who two_drafts)) bare
 
 -- what is done then: a bookmark is set on the changeset, it is published, and the bookmark is deleted
 abbrev pub set_here : Command

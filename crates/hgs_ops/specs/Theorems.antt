@@ -5,12 +5,17 @@ pub mod CommitLemmas
 pub mod CommitTree
 pub mod FileGrowth
 pub mod GrowLemmas
+pub mod ImportTree
+pub mod LinkLemmas
 pub mod NameLines
 pub mod NodeLemmas
 pub mod OnceLemmas
 pub mod Replace
 pub mod RootsLemmas
 pub mod RootsStay
+pub mod SizeLemmas
 pub mod SmallLemmas
+pub mod SplitLemmas
 pub mod StandsCommit
+pub mod StepwiseLemmas
 pub mod Touch

@@ -1,13 +1,15 @@
 //! The laws tried on a first commit. Each function is one example; none does anything.
-ghost use Rattle.std.specs.Prelude.{◌≡◌, ℕ, List, Ok};
-ghost use Rattle.hgs_files.specs.Tree.{after_all};
+ghost use Rattle.std.specs.Prelude.{◌≡◌, ◌∷◌, ◌++◌, [], ℕ, List, Ok, codes};
+ghost use Rattle.hgs_files.specs.Tree.{after_all, bytes_at};
 ghost use Rattle.hgs_model.specs.Repo.{empty_repo};
 ghost use Rattle.hgs_model.specs.Step.{answer_at, step};
 ghost use Rattle.hgs_model.specs.Valid.{IsValid};
-ghost use Rattle.hgs_model.specs.declared.command.Command.TheVariants.{Commit};
+ghost use Rattle.hgs_model.specs.declared.command.Command.TheVariants.{Commit, Import};
+ghost use Rattle.hgs_stands.specs.Places.{bookmarks_path, changelog_data, changelog_index, fncache_path, manifest_data, manifest_index, roots_path};
+ghost use Rattle.hgs_stands.specs.Samples.{two_drafts, two_drafts_files};
 ghost use Rattle.hgs_stands.specs.Stands.{IsClean, Stands};
 ghost use Rattle.hgs_ops.specs.Operations.{operations, transaction_of};
-ghost use Rattle.hgs_ops.specs.Samples.{after_delete, after_publish, after_set, bare, delete_here, first_change, one_draft, one_marked, one_public, one_unmarked, publish_here, set_here};
+ghost use Rattle.hgs_ops.specs.Samples.{after_both, after_delete, after_publish, after_set, bare, both_changes, delete_here, first_change, one_draft, one_marked, one_public, one_unmarked, publish_here, set_here};
 ghost use Rattle.hgs_ops.specs.Unhindered.{IsReady};
 
 /// In a store with nothing in it all that the laws ask of a commit is met, and the commit leads to the repository with one
@@ -20,7 +22,28 @@ pub fn first_commit()
     ensures leads { (who : List ℕ) → IsClean (after_all (operations (transaction_of bare empty_repo (Commit first_change) who one_draft)) bare) one_draft }
 {}
 
-/// On the tree that it leaves a bookmark is set, the changeset is published, and the bookmark is deleted: each command is
+/// The same as an import of one record is as ready, and leads to the same repository.
+pub fn first_import()
+    ensures valid { IsValid (Import (first_change ∷ [])) }
+    ensures accepted { step empty_repo (Import (first_change ∷ [])) ≡ Ok (one_draft, answer_at one_draft 0) }
+    ensures ready { IsReady bare empty_repo (Import (first_change ∷ [])) one_draft }
+    ensures leads { (who : List ℕ) → IsClean (after_all (operations (transaction_of bare empty_repo (Import (first_change ∷ [])) who one_draft)) bare) one_draft }
+{}
+
+/// An import of two records, the first with a bookmark, leaves the phase roots, the bookmarks, the changelog and the manifest as
+/// Mercurial wrote them of the same two changesets, and a list of filelogs in which each is inline.
+pub fn two_records_at_once()
+    ensures accepted { step empty_repo (Import both_changes) ≡ Ok (two_drafts, answer_at two_drafts 1) }
+    ensures marks { (who : List ℕ) → bytes_at (after_both who) bookmarks_path ≡ bytes_at two_drafts_files bookmarks_path }
+    ensures roots { (who : List ℕ) → bytes_at (after_both who) roots_path ≡ bytes_at two_drafts_files roots_path }
+    ensures changelog { (who : List ℕ) → bytes_at (after_both who) changelog_index ≡ bytes_at two_drafts_files changelog_index }
+    ensures changes { (who : List ℕ) → bytes_at (after_both who) changelog_data ≡ bytes_at two_drafts_files changelog_data }
+    ensures manifest { (who : List ℕ) → bytes_at (after_both who) manifest_index ≡ bytes_at two_drafts_files manifest_index }
+    ensures rows { (who : List ℕ) → bytes_at (after_both who) manifest_data ≡ bytes_at two_drafts_files manifest_data }
+    ensures list { (who : List ℕ) → bytes_at (after_both who) fncache_path ≡ codes "data/a.i" ++ 10 ∷ codes "data/b.i" ++ 10 ∷ [] }
+{}
+
+/// On the tree that the first commit leaves a bookmark is set, the changeset is published, and the bookmark is deleted: each command is
 /// accepted, and each tree stands for the next repository.
 pub fn commands_on_it()
     ensures valid { IsValid set_here × IsValid publish_here × IsValid delete_here }

@@ -1,5 +1,5 @@
 //! What the definitions of this crate imply. Each function is one law; none does anything.
-ghost use Rattle.std.specs.Prelude.{◌≡◌, ◌⊎◌, ◌++◌, ◌∷◌, [], Bool, List, length, ℕ, Ok, false, true, if◌then◌else◌};
+ghost use Rattle.std.specs.Prelude.{◌≡◌, ◌⊎◌, ◌++◌, ◌∷◌, [], Bool, List, length, ℕ, Ok, Some, codes, false, true, if◌then◌else◌};
 ghost use Rattle.hgs_bytes.specs.Bytes.{IsPrefixOf, among, same};
 ghost use Rattle.hgs_files.specs.declared.op.Op.{Op};
 ghost use Rattle.hgs_files.specs.Log.{IsDone};
@@ -11,16 +11,16 @@ ghost use Rattle.hgs_model.specs.IsRepo.{IsRepo};
 ghost use Rattle.hgs_model.specs.Repo.{Repo};
 ghost use Rattle.hgs_model.specs.Step.{Answer, step};
 ghost use Rattle.hgs_model.specs.Valid.{IsNewChange, IsValid};
-ghost use Rattle.hgs_model.specs.declared.command.Command.TheVariants.{Commit, Mark, Move, Unmark};
+ghost use Rattle.hgs_model.specs.declared.command.Command.TheVariants.{Commit, Import, Mark, Move, Unmark};
 ghost use Rattle.hgs_model.specs.declared.command.NewChange.{NewChange};
 ghost use Rattle.hgs_model.specs.declared.phase.Phase.{Phase};
 ghost use Rattle.hgs_stands.specs.Open.{IsOpen};
-ghost use Rattle.hgs_stands.specs.Places.{bookmarks_path, dirstate_path, roots_path};
+ghost use Rattle.hgs_stands.specs.Places.{bookmarks_path, changelog_index, dirstate_path, roots_path};
 ghost use Rattle.hgs_stands.specs.Same.{AreStrays};
 ghost use Rattle.hgs_stands.specs.Shows.{Shows};
 ghost use Rattle.hgs_stands.specs.Stands.{IsClean, Stands};
-ghost use Rattle.hgs_ops.specs.Growth.{new_changelog_entry};
-ghost use Rattle.hgs_ops.specs.Operations.{journal_of, operations, removals, strays, transaction_of};
+ghost use Rattle.hgs_ops.specs.Growth.{IsRevlogFile, appended, growth, growth_of, new_changelog_entry};
+ghost use Rattle.hgs_ops.specs.Operations.{changes_before, journal_lines, journal_of, new_changelog_path, operations, removals, strays, transaction_of};
 ghost use Rattle.hgs_ops.specs.Shown.{lacks_bookmarks, lacks_dirstate};
 ghost use Rattle.hgs_ops.specs.Stops.{IsBetween};
 ghost use Rattle.hgs_ops.specs.Unhindered.{IsReady, IsUnhindered};
@@ -39,7 +39,7 @@ pub fn strays_are_apart()
     ensures shown { (t u : Tree) (marked worked r : Repo) → ((path : List ℕ) → is_loose strays path ≡ false → u path ≡ t path) → Shows t marked worked r → Shows u marked worked r }
 {}
 
-/// An accepted command keeps the changesets that there are; a commit adds one behind them.
+/// An accepted command keeps the changesets that there are; a commit adds one behind them, an import one for each record.
 pub fn steps_go_on()
     ensures { (r next : Repo) (command : Command) (answer : Answer) → IsRepo r → IsValid command → step r command ≡ Ok (next, answer) → IsPrefixOf r.changesets next.changesets }
 {}
@@ -59,6 +59,11 @@ pub fn phase_commands_lead()
 /// So do those of a commit, with and without new filelogs, where nothing is in its way.
 pub fn commits_lead()
     ensures { (t : Tree) (r next : Repo) (n : NewChange) (who : List ℕ) (answer : Answer) → Stands t r → IsNewChange n → step r (Commit n) ≡ Ok (next, answer) → IsUnhindered t r next → IsClean (after_all (operations (transaction_of t r (Commit n) who next)) t) next }
+{}
+
+/// So do those of an import, which publishes all its changesets at once.
+pub fn imports_lead()
+    ensures { (t : Tree) (r next : Repo) (changes : List NewChange) (who : List ℕ) (answer : Answer) → Stands t r → IsValid (Import changes) → step r (Import changes) ≡ Ok (next, answer) → IsUnhindered t r next → IsClean (after_all (operations (transaction_of t r (Import changes) who next)) t) next }
 {}
 
 /// From a tree that stands for a repository, the operations of any command that is accepted, where nothing is in its way,
@@ -140,6 +145,29 @@ pub fn transactions_show()
 /// A commit is published by the last of 64 bytes: those of the changelog's new entry.
 pub fn published_by_the_last_byte()
     ensures { (t : Tree) (r next : Repo) (n : NewChange) (answer : Answer) → Stands t r → IsNewChange n → step r (Commit n) ≡ Ok (next, answer) → IsReady t r (Commit n) next → length (new_changelog_entry t r next) ≡ 64 }
+{}
+
+/// An import is published by one rename, of a file that holds the changelog's index and all new entries, and that its
+/// operations made; it has the journal of a commit that leads to the same repository, with a line for the index that the
+/// rename takes the place of.
+pub fn imports_are_published_by_a_rename()
+    ensures publish { (t : Tree) (r next : Repo) (changes : List NewChange) (who : List ℕ) → (transaction_of t r (Import changes) who next).publish ≡ Op.Rename new_changelog_path changelog_index }
+    ensures made { (t : Tree) (r next : Repo) (changes : List NewChange) (who : List ℕ) (u : Tree) → after_all (transaction_of t r (Import changes) who next).changes u new_changelog_path ≡ Some (bytes_at t changelog_index ++ new_changelog_entry t r next) }
+    ensures journal { (t : Tree) (r next : Repo) (changes : List NewChange) (n : NewChange) → journal_of t r (Import changes) next ≡ journal_of t r (Commit n) next }
+    ensures line { (t : Tree) (r next : Repo) (changes : List NewChange) → journal_of t r (Import changes) next ≡ journal_lines t (changes_before t r (Import changes) next) ++ record { name = codes "00changelog.i"; offset = length (bytes_at t changelog_index) } ∷ [] }
+{}
+
+/// An import of one record writes to each revlog what its commit writes; one of more writes what the commit of its first one
+/// and then the import of the others write, and is not hindered, and ready, where these are. So the plans of its commits, each
+/// in the tree that the one before leaves, are together its plan: it appends to each file of a revlog what they append,
+/// joined, in the order of the paths. The order of new names in the list of filelogs alone may be another.
+pub fn imports_write_what_commits_do()
+    ensures unhindered { (t : Tree) (r mid next : Repo) (n : NewChange) (changes : List NewChange) (who : List ℕ) (one last : Answer) → Stands t r → IsNewChange n → IsValid (Import changes) → step r (Commit n) ≡ Ok (mid, one) → step mid (Import changes) ≡ Ok (next, last) → IsUnhindered t r mid → IsUnhindered (after_all (operations (transaction_of t r (Commit n) who mid)) t) mid next → IsUnhindered t r next }
+    ensures ready { (t : Tree) (r mid next : Repo) (n : NewChange) (changes : List NewChange) (who : List ℕ) (one last : Answer) → Stands t r → IsNewChange n → IsValid (Import changes) → step r (Commit n) ≡ Ok (mid, one) → step mid (Import changes) ≡ Ok (next, last) → IsReady t r (Commit n) mid → IsReady (after_all (operations (transaction_of t r (Commit n) who mid)) t) mid (Import changes) next → IsReady t r (Import (n ∷ changes)) next }
+    ensures bytes { (t : Tree) (r mid next : Repo) (n : NewChange) (changes : List NewChange) (who : List ℕ) (one last : Answer) → Stands t r → IsNewChange n → IsValid (Import changes) → step r (Commit n) ≡ Ok (mid, one) → step mid (Import changes) ≡ Ok (next, last) → IsUnhindered t r mid → IsUnhindered (after_all (operations (transaction_of t r (Commit n) who mid)) t) mid next → (path : List ℕ) → IsRevlogFile next path → bytes_at (after_all (operations (transaction_of t r (Import (n ∷ changes)) who next)) t) path ≡ bytes_at (after_all (operations (transaction_of (after_all (operations (transaction_of t r (Commit n) who mid)) t) mid (Import changes) who next)) (after_all (operations (transaction_of t r (Commit n) who mid)) t)) path }
+    ensures one { (t : Tree) (r next : Repo) (n : NewChange) (who : List ℕ) (path : List ℕ) → IsRevlogFile next path → bytes_at (after_all (operations (transaction_of t r (Import (n ∷ [])) who next)) t) path ≡ bytes_at (after_all (operations (transaction_of t r (Commit n) who next)) t) path }
+    ensures growth { (t : Tree) (r mid next : Repo) (n : NewChange) (changes : List NewChange) (who : List ℕ) (one last : Answer) → Stands t r → IsNewChange n → IsValid (Import changes) → step r (Commit n) ≡ Ok (mid, one) → step mid (Import changes) ≡ Ok (next, last) → IsUnhindered t r mid → IsUnhindered (after_all (operations (transaction_of t r (Commit n) who mid)) t) mid next → growth t r next ≡ growth_of (λ path. appended path (growth t r mid) ++ appended path (growth (after_all (operations (transaction_of t r (Commit n) who mid)) t) mid next)) r next }
+    ensures entries { (t : Tree) (r mid next : Repo) (n : NewChange) (changes : List NewChange) (who : List ℕ) (one last : Answer) → Stands t r → IsNewChange n → IsValid (Import changes) → step r (Commit n) ≡ Ok (mid, one) → step mid (Import changes) ≡ Ok (next, last) → IsUnhindered t r mid → IsUnhindered (after_all (operations (transaction_of t r (Commit n) who mid)) t) mid next → new_changelog_entry t r next ≡ new_changelog_entry t r mid ++ new_changelog_entry (after_all (operations (transaction_of t r (Commit n) who mid)) t) mid next }
 {}
 
 /// While its journal stands, also in part, a transaction's tree leads back to the very tree from which it began, and undoing

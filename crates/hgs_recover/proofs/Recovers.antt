@@ -37,7 +37,7 @@ none-left op left e = absurd (let no : ⊥ = cc in no)
 
 -- no lock is left where all was swept
 no-locks : (t : Tree) (log : List Op) (r : Repo) → Clears leftover_paths t true log → Stands (after_all log t) r → IsClean (after_all log t) r
-no-locks t log r h s = (let gone = (h.gone refl).1.1.1.1.1.1.1.1 in record { stands = s; no_locks = (gone.1.0, (gone.0, tt)) })
+no-locks t log r h s = (let gone = (h.gone refl).1.1.1.1.1.1.1.1.1 in record { stands = s; no_locks = (gone.1.0, (gone.0, tt)) })
 
 module _ (b : Below) where
   -- what is removed beside a repository does not matter

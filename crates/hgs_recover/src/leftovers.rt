@@ -36,6 +36,7 @@ fn stray_paths(alloc: Global) -> Result<Vec<StorePath>, AllocError>
     paths.push(path_of(alloc, true, b"journal.backup.bookmarks")?)?;
     paths.push(path_of(alloc, true, b"journal.new.bookmarks")?)?;
     paths.push(path_of(alloc, true, b"journal.new.requires")?)?;
+    paths.push(path_of(alloc, true, b"store/00changelog.i.a")?)?;
     Ok(paths)
 }
 

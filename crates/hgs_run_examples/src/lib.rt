@@ -2,7 +2,7 @@
 #![tactic(auto)]
 
 #[cfg(test)]
-mod commands;
+mod given;
 #[cfg(test)]
 mod outside;
 #[cfg(test)]
@@ -13,7 +13,5 @@ mod stops;
 mod stores;
 #[cfg(test)]
 mod tail;
-#[cfg(test)]
-mod transcripts;
 #[cfg(test)]
 mod yards;

@@ -1,8 +1,7 @@
 //! How many calls on the files a question makes, and what is told where one fails.
-use crate::stores::{FIRST, FIRST_CHUNK, store};
+use crate::given::given;
+use crate::stores::{FIRST, FIRST_CHUNK, put, store};
 use crate::yards::run_over;
-use hgs_files::files::Files;
-use hgs_files::path::StorePath;
 use hgs_mem::mem::MemFiles;
 use hgs_mem::streams::{MemSink, MemSource};
 use std::alloc::Global;
@@ -29,7 +28,7 @@ fn one_file(alloc: Global) -> Result<MemFiles, Fail> {
         (b"store/data/a.i", FILE),
         (b"store/data/a.d", FILE_CHUNK),
     ] {
-        files.put(&StorePath::new(alloc, path)?, bytes)?;
+        put(alloc, &mut files, path, bytes)?;
     }
     Ok(files)
 }
@@ -44,11 +43,13 @@ pub(crate) fn asked<R: Alloc<A = Global> + Threads + Sync + Wait>(
     let alloc = rt.alloc();
     let mut owned = Vec::new(alloc);
     for word in words {
-        owned.push(String::from_str(alloc, word)?)?;
+        let word = String::from_str(alloc, word)?;
+        owned.push(word)?;
     }
     let mut source = MemSource::new(alloc, b"unread")?;
     let (status, _) = run_over(rt, alloc, &owned, files, &mut source, &mut sink)?;
-    Ok((status, Vec::from_slice(alloc, sink.bytes())?))
+    let text = Vec::from_slice(alloc, sink.bytes())?;
+    Ok((status, text))
 }
 
 #[test]
@@ -56,18 +57,14 @@ fn what_fails_outside_is_told(rt: HostRuntime) -> Result<(), Fail> {
     let alloc = rt.alloc();
     // the files were written by three calls, so the first read is the fourth
     let mut files = store(alloc, FIRST, FIRST_CHUNK)?;
-    files.fail(3, 0)?;
+    given(files.fail(3, 0))?;
     let (status, text) = asked(&rt, files, &["log"], MemSink::new(alloc))?;
-    assert_eq!(rt; status, 16);
-    assert_eq!(rt;
-        text.as_slice(),
-        b"abort: file operation failed\n".as_slice()
-    );
+    assert!(rt; status == 16 && text.as_slice() == b"abort: file operation failed\n".as_slice());
     let mut sink = MemSink::new(alloc);
     sink.fail(0);
-    let (status, text) = asked(&rt, store(alloc, FIRST, FIRST_CHUNK)?, &["log"], sink)?;
-    assert_eq!(rt; status, 19);
-    assert_eq!(rt; text.len(), 0);
+    let files = store(alloc, FIRST, FIRST_CHUNK)?;
+    let (status, text) = asked(&rt, files, &["log"], sink)?;
+    assert!(rt; status == 19 && text.len() == 0);
     Ok(())
 }
 
@@ -81,7 +78,8 @@ fn calls_of<R: Alloc<A = Global> + Threads + Sync + Wait>(
     let before = files.calls();
     let mut owned = Vec::new(alloc);
     for word in words {
-        owned.push(String::from_str(alloc, word)?)?;
+        let word = String::from_str(alloc, word)?;
+        owned.push(word)?;
     }
     let mut source = MemSource::new(alloc, b"")?;
     let mut sink = MemSink::new(alloc);
@@ -105,7 +103,9 @@ const CALLS: [(&[&str], u64); 8] = [
 #[test]
 fn no_more_is_read_than_is_needed(rt: HostRuntime) -> Result<(), Fail> {
     for (words, calls) in CALLS {
-        assert_eq!(rt; calls_of(&rt, one_file(rt.alloc())?, words)?, calls);
+        let files = one_file(rt.alloc())?;
+        let made = calls_of(&rt, files, words)?;
+        assert_eq!(rt; made, calls);
     }
     Ok(())
 }

@@ -1,7 +1,7 @@
 //! A session that is loaded again after its files changed. The stores are those of the other tests.
-use crate::stores::{FIRST, FIRST_CHUNK, SECOND, SECOND_CHUNK, TURNED, both, store};
+use crate::given::given;
+use crate::stores::{FIRST, FIRST_CHUNK, SECOND, SECOND_CHUNK, TURNED, both, store, store_path};
 use hgs_files::files::Files;
-use hgs_files::path::StorePath;
 use hgs_mem::mem::MemFiles;
 use hgs_reader::session::Session;
 use std::alloc::Global;
@@ -13,9 +13,9 @@ const MARK: &[u8] = b"37bdf19219c0e69b87d6371fabfaf5c3a63794d9 new\n";
 
 /// Sets the bytes of a file, whatever stood there.
 fn set(alloc: Global, files: &mut MemFiles, path: &[u8], bytes: &[u8]) -> Result<(), Fail> {
-    let path = StorePath::new(alloc, path)?;
-    files.remove(&path)?;
-    files.put(&path, bytes)?;
+    let path = store_path(alloc, path)?;
+    given(files.remove(&path))?;
+    given(files.put(&path, bytes))?;
     Ok(())
 }
 
@@ -23,7 +23,8 @@ fn set(alloc: Global, files: &mut MemFiles, path: &[u8], bytes: &[u8]) -> Result
 fn store_of(alloc: Global, whole: bool) -> Result<MemFiles, Fail> {
     if whole {
         let index = both(alloc, FIRST, SECOND)?;
-        store(alloc, &index, &both(alloc, FIRST_CHUNK, SECOND_CHUNK)?)
+        let chunks = both(alloc, FIRST_CHUNK, SECOND_CHUNK)?;
+        store(alloc, &index, &chunks)
     } else {
         store(alloc, FIRST, FIRST_CHUNK)
     }
@@ -32,8 +33,8 @@ fn store_of(alloc: Global, whole: bool) -> Result<MemFiles, Fail> {
 /// The heads, the bookmarks and the phase of the first changeset that a session tells.
 fn told(alloc: Global, session: &Session) -> Result<Vec<u8>, Fail> {
     let mut text = Vec::new(alloc);
-    session.heads(&mut text)?;
-    session.bookmarks(&mut text)?;
+    given(session.heads(&mut text))?;
+    given(session.bookmarks(&mut text))?;
     if session.len() > 0 {
         text.extend_from_slice(session.phase(0).name())?;
     }
@@ -53,7 +54,8 @@ fn published(alloc: Global) -> Result<MemFiles, Fail> {
     let mut files = store_of(alloc, true)?;
     set(alloc, &mut files, b"store/phaseroots", DRAFT)?;
     set(alloc, &mut files, b"bookmarks", MARK)?;
-    files.remove(&StorePath::new(alloc, b"requires")?)?;
+    let path = store_path(alloc, b"requires")?;
+    given(files.remove(&path))?;
     Ok(files)
 }
 
@@ -81,7 +83,7 @@ fn around(
     first: &mut MemFiles,
     second: &mut MemFiles,
 ) -> Result<[Vec<u8>; 3], Fail> {
-    let mut session = Session::open(alloc, first)?;
+    let mut session = given(Session::open(alloc, first))?;
     let before = told(alloc, &session)?;
     let line = refused(alloc, &mut session, second)?;
     let after = told(alloc, &session)?;
@@ -92,10 +94,13 @@ fn around(
 fn a_refresh_sees_what_was_published(rt: HostRuntime) -> Result<(), Fail> {
     let alloc = rt.alloc();
     let mut first = store_of(alloc, false)?;
-    let [before, refusal, after] = around(alloc, &mut first, &mut published(alloc)?)?;
-    assert_eq!(rt; before.as_slice(), FIRST_TOLD);
-    assert_eq!(rt; refusal.as_slice(), b"".as_slice());
-    assert_eq!(rt; after.as_slice(), BOTH_TOLD);
+    let mut second = published(alloc)?;
+    let [before, refusal, after] = around(alloc, &mut first, &mut second)?;
+    assert!(rt;
+        before.as_slice() == FIRST_TOLD
+            && refusal.as_slice() == b"".as_slice()
+            && after.as_slice() == BOTH_TOLD
+    );
     Ok(())
 }
 
@@ -126,14 +131,13 @@ fn a_refused_refresh_changes_nothing(rt: HostRuntime) -> Result<(), Fail> {
     let alloc = rt.alloc();
     for (path, bytes, line) in CASES {
         let mut first = store_of(alloc, true)?;
-        let [before, refusal, after] = around(
-            alloc,
-            &mut first,
-            &mut damaged(alloc, path, bytes)?,
-        )?;
-        assert_eq!(rt; before.as_slice(), PLAIN_TOLD);
-        assert_eq!(rt; refusal.as_slice(), line);
-        assert_eq!(rt; after.as_slice(), PLAIN_TOLD);
+        let mut second = damaged(alloc, path, bytes)?;
+        let [before, refusal, after] = around(alloc, &mut first, &mut second)?;
+        assert!(rt;
+            before.as_slice() == PLAIN_TOLD
+                && refusal.as_slice() == line
+                && after.as_slice() == PLAIN_TOLD
+        );
     }
     Ok(())
 }
@@ -156,7 +160,7 @@ fn newest(alloc: Global, session: &mut Session, files: &mut MemFiles) -> Result<
     let mut line = Vec::new(alloc);
     let count = session.len();
     if count > 0 {
-        session.log_line(files, count - 1, &mut line)?;
+        given(session.log_line(files, count - 1, &mut line))?;
     }
     Ok(line)
 }
@@ -171,9 +175,9 @@ fn lines_around(
     first: &mut MemFiles,
     second: &mut MemFiles,
 ) -> Result<[Vec<u8>; 2], Fail> {
-    let mut session = Session::open(alloc, first)?;
+    let mut session = given(Session::open(alloc, first))?;
     let before = newest(alloc, &mut session, first)?;
-    session.refresh(second)?;
+    given(session.refresh(second))?;
     let after = newest(alloc, &mut session, second)?;
     Ok([before, after])
 }
@@ -186,14 +190,12 @@ fn an_inline_changelog_is_read_again(rt: HostRuntime) -> Result<(), Fail> {
     let mut split = store_of(alloc, true)?;
     let mut first = inline_store(alloc, false)?;
     let [before, after] = lines_around(alloc, &mut first, &mut grown)?;
-    assert_eq!(rt; before.as_slice(), FIRST_LINE);
-    assert_eq!(rt; after.as_slice(), SECOND_LINE);
+    assert!(rt; before.as_slice() == FIRST_LINE && after.as_slice() == SECOND_LINE);
     let [before, after] = lines_around(alloc, &mut first, &mut split)?;
-    assert_eq!(rt; before.as_slice(), FIRST_LINE);
-    assert_eq!(rt; after.as_slice(), SECOND_LINE);
-    let [before, after] = lines_around(alloc, &mut store_of(alloc, false)?, &mut grown)?;
-    assert_eq!(rt; before.as_slice(), FIRST_LINE);
-    assert_eq!(rt; after.as_slice(), SECOND_LINE);
+    assert!(rt; before.as_slice() == FIRST_LINE && after.as_slice() == SECOND_LINE);
+    let mut first = store_of(alloc, false)?;
+    let [before, after] = lines_around(alloc, &mut first, &mut grown)?;
+    assert!(rt; before.as_slice() == FIRST_LINE && after.as_slice() == SECOND_LINE);
     Ok(())
 }
 
@@ -201,12 +203,12 @@ fn an_inline_changelog_is_read_again(rt: HostRuntime) -> Result<(), Fail> {
 fn a_shorter_inline_changelog_is_refused(rt: HostRuntime) -> Result<(), Fail> {
     let alloc = rt.alloc();
     let mut first = inline_store(alloc, true)?;
-    let [before, refusal, after] = around(alloc, &mut first, &mut inline_store(alloc, false)?)?;
-    assert_eq!(rt; before.as_slice(), PLAIN_TOLD);
-    assert_eq!(rt;
-        refusal.as_slice(),
-        b"abort: damaged store/00changelog.i: shrunk 1 1\n".as_slice()
+    let mut second = inline_store(alloc, false)?;
+    let [before, refusal, after] = around(alloc, &mut first, &mut second)?;
+    assert!(rt;
+        before.as_slice() == PLAIN_TOLD
+            && refusal.as_slice() == b"abort: damaged store/00changelog.i: shrunk 1 1\n".as_slice()
+            && after.as_slice() == PLAIN_TOLD
     );
-    assert_eq!(rt; after.as_slice(), PLAIN_TOLD);
     Ok(())
 }

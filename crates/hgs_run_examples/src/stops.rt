@@ -1,8 +1,9 @@
 //! Each call of a commit stops in turn after so many bytes, or fails, and so does each of a recovery behind it: what is told then
 //! are the lines before or those after, and those after where the commit was answered. The nodes are Mercurial's.
+use crate::given::given;
+use crate::stores::store_path;
 use crate::yards::run_over;
 use hgs_files::files::Reads;
-use hgs_files::path::StorePath;
 use hgs_mem::mem::MemFiles;
 use hgs_mem::streams::{MemSink, MemSource};
 use std::alloc::Global;
@@ -55,21 +56,23 @@ fn run_word<R: Alloc<A = Global> + Threads + Sync + Wait>(
 ) -> Result<Came, Fail> {
     let alloc = rt.alloc();
     let mut words = Vec::new(alloc);
-    words.push(String::from_str(alloc, word)?)?;
+    let word = String::from_str(alloc, word)?;
+    words.push(word)?;
     let mut input = MemSource::new(alloc, given)?;
     let mut sink = MemSink::new(alloc);
     let (status, files) = run_over(rt, alloc, &words, files, &mut input, &mut sink)?;
+    let text = Vec::from_slice(alloc, sink.bytes())?;
     Ok(Came {
         status,
-        text: Vec::from_slice(alloc, sink.bytes())?,
+        text,
         files,
     })
 }
 
 /// A repository with the first changeset.
 fn committed<R: Alloc<A = Global> + Threads + Sync + Wait>(rt: &R) -> Result<MemFiles, Fail> {
-    let made = run_word(rt, MemFiles::new(rt.alloc())?, "init", b"")?;
-    let first = run_word(rt, made.files, "commit", FIRST)?;
+    let made = begun(rt)?;
+    let first = run_word(rt, made, "commit", FIRST)?;
     Ok(first.files.restart())
 }
 
@@ -79,7 +82,8 @@ fn lines<R: Alloc<A = Global> + Threads + Sync + Wait>(
     files: MemFiles,
 ) -> Result<Vec<u8>, Fail> {
     let recovered = run_word(rt, files.restart(), "recover", b"")?;
-    Ok(run_word(rt, recovered.files, "log", b"")?.text)
+    let listed = run_word(rt, recovered.files, "log", b"")?;
+    Ok(listed.text)
 }
 
 /// Whether the lines behind a commit that came to this are those before or those after, and those after where it was answered.
@@ -99,7 +103,8 @@ fn each_call_of_a_commit_stops_in_turn(rt: HostRuntime) -> Result<(), Fail> {
             let mut files = committed(&rt)?;
             files.stop(call, bytes);
             let left = run_word(&rt, files, "commit", SECOND)?;
-            assert!(rt; is_right(&rt, left)?);
+            let is_right = is_right(&rt, left)?;
+            assert!(rt; is_right);
         }
     }
     Ok(())
@@ -110,9 +115,10 @@ fn each_call_of_a_commit_fails_in_turn(rt: HostRuntime) -> Result<(), Fail> {
     for call in 0..CALLS {
         for bytes in [0, 1, 32, 63, 64] {
             let mut files = committed(&rt)?;
-            files.fail(call, bytes)?;
+            given(files.fail(call, bytes))?;
             let left = run_word(&rt, files, "commit", SECOND)?;
-            assert!(rt; is_right(&rt, left)?);
+            let is_right = is_right(&rt, left)?;
+            assert!(rt; is_right);
         }
     }
     Ok(())
@@ -131,7 +137,8 @@ fn each_call_of_a_recovery_stops_in_turn(rt: HostRuntime) -> Result<(), Fail> {
         for call in 0..CALLS {
             let mut files = committed(&rt)?;
             files.stop(commit_call, 1);
-            let mut files = run_word(&rt, files, "commit", SECOND)?.files.restart();
+            let open = run_word(&rt, files, "commit", SECOND)?;
+            let mut files = open.files.restart();
             files.stop(call, 0);
             let left = run_word(&rt, files, "recover", b"")?;
             let lines = lines(&rt, left.files)?;
@@ -143,16 +150,16 @@ fn each_call_of_a_recovery_stops_in_turn(rt: HostRuntime) -> Result<(), Fail> {
 
 /// The bytes of a file, none where it is absent.
 fn bytes_of(alloc: Global, files: &mut MemFiles, path: &[u8]) -> Result<Option<Vec<u8>>, Fail> {
+    let path = store_path(alloc, path)?;
     let mut bytes = Vec::new(alloc);
-    match files.read(&StorePath::new(alloc, path)?, 0, 1000, &mut bytes)? {
-        Some(_) => Ok(Some(bytes)),
-        None => Ok(None),
-    }
+    let read = given(files.read(&path, 0, 1000, &mut bytes))?;
+    Ok(read.map(|_| bytes))
 }
 
 /// The files of a new repository.
 fn begun<R: Alloc<A = Global> + Threads + Sync + Wait>(rt: &R) -> Result<MemFiles, Fail> {
-    let made = run_word(rt, MemFiles::new(rt.alloc())?, "init", b"")?;
+    let none = MemFiles::new(rt.alloc())?;
+    let made = run_word(rt, none, "init", b"")?;
     Ok(made.files.restart())
 }
 
@@ -165,11 +172,15 @@ fn the_journal_names_what_grows(rt: HostRuntime) -> Result<(), Fail> {
     for call in 0..CALLS {
         let mut files = begun(&rt)?;
         files.stop(call, 0);
-        let mut left = run_word(&rt, files, "commit", FIRST)?.files.restart();
-        if let Some(journal) = bytes_of(alloc, &mut left, b"store/journal")? {
-            let backups = bytes_of(alloc, &mut left, b"store/journal.backupfiles")?;
-            assert!(rt; journal.is_empty() || journal.as_slice() == JOURNAL);
-            assert!(rt; backups.is_some_and(|bytes| bytes.as_slice() == BACKUPS));
+        let stopped = run_word(&rt, files, "commit", FIRST)?;
+        let mut left = stopped.files.restart();
+        let stands = bytes_of(alloc, &mut left, b"store/journal")?;
+        let backups = bytes_of(alloc, &mut left, b"store/journal.backupfiles")?;
+        if let Some(journal) = stands {
+            assert!(rt;
+                (journal.is_empty() || journal.as_slice() == JOURNAL)
+                    && backups.is_some_and(|bytes| bytes.as_slice() == BACKUPS)
+            );
             found = found.saturating_add(1);
         }
     }
@@ -188,12 +199,15 @@ fn what_fails_leaves_no_file(rt: HostRuntime) -> Result<(), Fail> {
     record.extend_from_slice(LONG_BEHIND)?;
     let mut failed = 0u64;
     for call in 0..CALLS {
-        let mut files = run_word(&rt, begun(&rt)?, "commit", EMPTY)?.files.restart();
-        files.fail(call, 0)?;
+        let made = begun(&rt)?;
+        let first = run_word(&rt, made, "commit", EMPTY)?;
+        let mut files = first.files.restart();
+        given(files.fail(call, 0))?;
         let mut left = run_word(&rt, files, "commit", &record)?;
         if left.status == 16 {
-            assert!(rt; bytes_of(alloc, &mut left.files, b"store/data/f.i")?.is_none());
-            assert!(rt; bytes_of(alloc, &mut left.files, b"store/data/f.d")?.is_none());
+            let index = bytes_of(alloc, &mut left.files, b"store/data/f.i")?;
+            let data = bytes_of(alloc, &mut left.files, b"store/data/f.d")?;
+            assert!(rt; index.is_none() && data.is_none());
             failed = failed.saturating_add(1);
         }
     }
@@ -207,7 +221,7 @@ fn what_is_left_open_is_recovered_once(rt: HostRuntime) -> Result<(), Fail> {
     let mut open = 0u64;
     for call in 0..CALLS {
         let mut files = committed(&rt)?;
-        files.fail(call, 0)?;
+        given(files.fail(call, 0))?;
         let left = run_word(&rt, files, "commit", SECOND)?;
         if left.status == 17 {
             let again = run_word(&rt, left.files, "commit", SECOND)?;
@@ -219,8 +233,8 @@ fn what_is_left_open_is_recovered_once(rt: HostRuntime) -> Result<(), Fail> {
             assert_eq!(rt; first.text.as_slice(), b"transaction undone\n".as_slice());
             let second = run_word(&rt, first.files, "recover", b"")?;
             assert_eq!(rt; second.status, 1);
-            let lines = run_word(&rt, second.files, "log", b"")?.text;
-            assert_eq!(rt; lines.as_slice(), BEFORE);
+            let listed = run_word(&rt, second.files, "log", b"")?;
+            assert_eq!(rt; listed.text.as_slice(), BEFORE);
             open = open.saturating_add(1);
         }
     }

@@ -1,4 +1,5 @@
 //! Stores of one changeset and of two, whose nodes were computed with SHA-1 elsewhere.
+use crate::given::given;
 use hgs_files::files::Files;
 use hgs_files::path::StorePath;
 use hgs_mem::mem::MemFiles;
@@ -21,16 +22,35 @@ pub(crate) const SECOND_CHUNK: &[u8] =
 pub(crate) const TURNED: &[u8; 64] =
     b"\x00\x00\x00\x01\x00\x00\x00\x00\x00\x00\x009\x00\x00\x008\x00\x00\x00\x00\x00\x00\x00\x00\xff\xff\xff\xff\xff\xff\xff\xff72\xa3\xa4\x1f\x02\xa7\x1c\x81f{\x1f\x85\x12\x81;\x9dy[\x80\x00\x00\x00\x00\x00\x00\x00\x00\x00\x00\x00\x00";
 
+/// The path of this name.
+pub(crate) fn store_path(alloc: Global, name: &[u8]) -> Result<StorePath, Fail> {
+    given(StorePath::new(alloc, name))
+}
+
+/// Gives a file these bytes alone.
+pub(crate) fn put(
+    alloc: Global,
+    files: &mut MemFiles,
+    name: &[u8],
+    bytes: &[u8],
+) -> Result<(), Fail> {
+    let path = store_path(alloc, name)?;
+    given(files.put(&path, bytes))?;
+    Ok(())
+}
+
 /// Files with these bytes of the changelog.
 pub(crate) fn store(alloc: Global, index: &[u8], chunks: &[u8]) -> Result<MemFiles, Fail> {
     let mut files = MemFiles::new(alloc)?;
-    files.put(
-        &StorePath::new(alloc, b"requires")?,
+    put(
+        alloc,
+        &mut files,
+        b"requires",
         b"dotencode\nfncache\nrevlogv1\nstore\n",
     )?;
     if !index.is_empty() {
-        files.put(&StorePath::new(alloc, b"store/00changelog.i")?, index)?;
-        files.put(&StorePath::new(alloc, b"store/00changelog.d")?, chunks)?;
+        put(alloc, &mut files, b"store/00changelog.i", index)?;
+        put(alloc, &mut files, b"store/00changelog.d", chunks)?;
     }
     Ok(files)
 }

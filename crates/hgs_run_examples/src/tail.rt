@@ -1,4 +1,6 @@
 //! How many bytes a session is given: loaded again after one more commit, and asked again for what it keeps.
+use crate::given::given;
+use crate::stores::store_path;
 use crate::yards::run_over;
 use hgs_files::files::{FileFault, Reads};
 use hgs_files::path::StorePath;
@@ -64,7 +66,8 @@ fn run_words<R: Alloc<A = Global> + Threads + Sync + Wait>(
     let alloc = rt.alloc();
     let mut owned = Vec::new(alloc);
     for word in words {
-        owned.push(String::from_str(alloc, word)?)?;
+        let word = String::from_str(alloc, word)?;
+        owned.push(word)?;
     }
     let mut input = MemSource::new(alloc, given)?;
     let mut sink = MemSink::new(alloc);
@@ -82,15 +85,17 @@ const NEXT: &[u8] = b"commit\nparent tip\nuser test\ndate 60 0\ndesc 1\nb\nfile 
 #[test]
 fn a_refresh_is_given_what_is_new(rt: HostRuntime) -> Result<(), Fail> {
     let alloc = rt.alloc();
-    let files = run_words(&rt, MemFiles::new(alloc)?, &["gen", "7", "1000"], b"")?;
+    let none = MemFiles::new(alloc)?;
+    let files = run_words(&rt, none, &["gen", "7", "1000"], b"")?;
     let mut files = Counted { files, bytes: 0 };
-    let mut session = Session::open(alloc, &mut files)?;
+    let mut session = given(Session::open(alloc, &mut files))?;
     assert_eq!(rt; session.len(), 1000);
     let files = run_words(&rt, files.files, &["commit"], NEXT)?;
     let mut files = Counted { files, bytes: 0 };
-    session.refresh(&mut files)?;
+    given(session.refresh(&mut files))?;
     assert_eq!(rt; session.len(), 1001);
-    let dirstate = files.size(&StorePath::new(alloc, b"dirstate")?)?;
+    let path = store_path(alloc, b"dirstate")?;
+    let dirstate = given(files.size(&path))?;
     assert_eq!(rt; Some(files.bytes.saturating_sub(2 * 64 + 43)), dirstate);
     Ok(())
 }
@@ -107,7 +112,7 @@ fn given_for_files(
     let before = files.bytes;
     let mut text = Vec::new(alloc);
     if rev < session.session().len() {
-        session.files(files, rev, &mut text)?;
+        given(session.files(files, rev, &mut text))?;
     }
     Ok(files.bytes.saturating_sub(before))
 }
@@ -116,10 +121,11 @@ fn given_for_files(
 #[test]
 fn a_kept_manifest_is_not_given_again(rt: HostRuntime) -> Result<(), Fail> {
     let alloc = rt.alloc();
-    let made = run_words(&rt, MemFiles::new(alloc)?, &["init"], b"")?;
+    let none = MemFiles::new(alloc)?;
+    let made = run_words(&rt, none, &["init"], b"")?;
     let files = run_words(&rt, made, &["commit"], ONLY)?;
     let mut files = Counted { files, bytes: 0 };
-    let mut session = RecentSession::open(alloc, &mut files)?;
+    let mut session = given(RecentSession::open(alloc, &mut files))?;
     let first = given_for_files(alloc, &mut session, &mut files, 0)?;
     let second = given_for_files(alloc, &mut session, &mut files, 0)?;
     assert_eq!(rt; first, second.saturating_add(64 + 44));
@@ -144,9 +150,10 @@ fn ask_for(
 #[test]
 fn the_text_used_longest_ago_is_given_up(rt: HostRuntime) -> Result<(), Fail> {
     let alloc = rt.alloc();
-    let files = run_words(&rt, MemFiles::new(alloc)?, &["gen", "7", "20"], b"")?;
+    let none = MemFiles::new(alloc)?;
+    let files = run_words(&rt, none, &["gen", "7", "20"], b"")?;
     let mut files = Counted { files, bytes: 0 };
-    let mut session = RecentSession::open(alloc, &mut files)?;
+    let mut session = given(RecentSession::open(alloc, &mut files))?;
     let first = given_for_files(alloc, &mut session, &mut files, 0)?;
     let second = given_for_files(alloc, &mut session, &mut files, 1)?;
     ask_for(alloc, &mut session, &mut files, 2, 16)?;

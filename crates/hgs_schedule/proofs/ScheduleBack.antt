@@ -13,7 +13,7 @@ use Rattle.hgs_model.specs.declared.command.Command.TheVariants.{Commit}
 use Rattle.hgs_model.specs.Valid.{IsNewChange}
 use Rattle.hgs_input.specs.declared.fault.InputFault.TheVariants.{Limit}
 use Rattle.hgs_input.specs.Front.{left}
-use Rattle.hgs_input.specs.Record.{most_input, record_text}
+use Rattle.hgs_input.specs.Record.{Wording, most_input, record_text}
 use Rattle.hgs_input.specs.Read.{Reading, ◌>>=◌, place, next_line, required_at, required, more, record_from}
 use Rattle.hgs_schedule.specs.declared.event.Event.{Event}
 use Rattle.hgs_schedule.specs.declared.event.Event.TheVariants as events
@@ -45,19 +45,19 @@ line_event readers w said rest event lacks says =
     ∙ ap (λ t. if t then commit else required_at at (option_map (λ e. Some e) (event_of readers said)) r) (no_word readers said (codes "begin commit") event refl says)
     ∙ ap (λ o. required_at at (option_map (λ e. Some e) o) r) says)
 
-commit_event : RecordsRead → (readers w : ℕ) (says_draft : Bool) (c : NewChange) (rest : List ℕ) → IsNewChange c →
-    next_event readers (left w ((line (codes "begin commit") ++ record_text says_draft c) ++ rest)) ≡ Ok (Some (events.Begin (Commit c)), left w rest)
-commit_event read readers w says_draft c rest valid =
-    let behind_line = record_text says_draft c ++ rest in
-    ap (λ b. next_event readers (left w b)) (append_assoc (line (codes "begin commit")) (record_text says_draft c) rest)
+commit_event : RecordsRead → (readers w : ℕ) (says : Wording) (c : NewChange) (rest : List ℕ) → IsNewChange c →
+    next_event readers (left w ((line (codes "begin commit") ++ record_text says c) ++ rest)) ≡ Ok (Some (events.Begin (Commit c)), left w rest)
+commit_event read readers w says c rest valid =
+    let behind_line = record_text says c ++ rest in
+    ap (λ b. next_event readers (left w b)) (append_assoc (line (codes "begin commit")) (record_text says c) rest)
     ∙ next_back readers w (codes "begin commit") behind_line (Ok (Some (events.Begin (Commit c)), left w rest)) (lacks_lf (codes "begin commit") refl)
-    (then_ok (record_from (left w behind_line)) (c, left w rest) (λ c. Ok (Some (events.Begin (Commit c.0)), c.1)) (Ok (Some (events.Begin (Commit c)), left w rest)) (read says_draft c w rest valid) refl)
+    (then_ok (record_from (left w behind_line)) (c, left w rest) (λ c. Ok (Some (events.Begin (Commit c.0)), c.1)) (Ok (Some (events.Begin (Commit c)), left w rest)) (read says c w rest valid) refl)
 
 text_event : RecordsRead → (readers w : ℕ) (text rest : List ℕ) (event : Event) → IsEventText readers text event → next_event readers (left w (text ++ rest)) ≡ Ok (Some event, left w rest)
 text_event read readers w text rest event (inl h) =
     ap (λ t. next_event readers (left w (t ++ rest))) h.is ∙ line_event readers w h.said rest event h.lacks h.says
 text_event read readers w text rest event (inr h) =
-    ap (λ t. next_event readers (left w (t ++ rest))) h.is ∙ commit_event read readers w h.says_draft h.change rest h.valid ∙ ap (λ e. Ok (Some e, left w rest)) h.begins
+    ap (λ t. next_event readers (left w (t ++ rest))) h.is ∙ commit_event read readers w h.says h.change rest h.valid ∙ ap (λ e. Ok (Some e, left w rest)) h.begins
 
 end_event : (readers w : ℕ) (rest : List ℕ) → next_event readers (left w (line (codes "end") ++ rest)) ≡ Ok (None, left w rest)
 end_event readers w rest = next_back readers w (codes "end") rest (Ok (None, left w rest)) (lacks_lf (codes "end") refl) refl
@@ -66,7 +66,7 @@ end_event readers w rest = next_back readers w (codes "end") rest (Ok (None, lef
 
 text_some : (readers : ℕ) (text : List ℕ) (event : Event) → IsEventText readers text event → 0 < length text
 text_some readers text event (inl h) = let a = ap length h.is ∙ length-append h.said (10 ∷ []) in omega (arith, a)
-text_some readers text event (inr h) = let a = ap length h.is ∙ length-append (line (codes "begin commit")) (record_text h.says_draft h.change) in omega (arith, a)
+text_some readers text event (inr h) = let a = ap length h.is ∙ length-append (line (codes "begin commit")) (record_text h.says h.change) in omega (arith, a)
 
 events_back : RecordsRead → (readers n w : ℕ) (done : List Event) (texts : List (List ℕ)) (new : List Event) (rest : List ℕ) → length (concat texts ++ line (codes "end")) ≤ n → AreEventTexts readers texts new →
     events_from readers n done (left w ((concat texts ++ line (codes "end")) ++ rest)) ≡ Ok (done ++ new, left w rest)

@@ -30,9 +30,9 @@ Found readers r (Some event) rest = (text : List ℕ) × IsEventText readers tex
 record_text_found : RecordsStand → (r mid : Rest) (c : NewChange) (rest : Rest) (readers : ℕ) → Before r (line (codes "begin commit")) mid → record_from mid ≡ Ok (c, rest) → Found readers r (Some (events.Begin (Commit c))) rest
 record_text_found stand r mid c rest readers before e =
     let h = stand mid rest c e in
-    let text = record_text h.says_draft c in (
+    let text = record_text h.says c in (
       line (codes "begin commit") ++ text,
-      inr (record { says_draft = h.says_draft; change = c; is = refl; valid = h.valid; begins = refl }),
+      inr (record { says = h.says; change = c; is = refl; valid = h.valid; begins = refl }),
       before_both r mid rest (line (codes "begin commit")) text before (record { is = h.text; whole = h.whole }),
     )
 

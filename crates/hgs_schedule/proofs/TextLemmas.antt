@@ -8,10 +8,10 @@ use Rattle.std.proofs.lemmas.List.{append-nil}
 use Rattle.hgs_bytes.specs.Text.{Lacks, line, split}
 use Rattle.hgs_index.specs.MarkName.{is_mark_name}
 use Rattle.hgs_model.specs.declared.command.Command.{Command}
-use Rattle.hgs_model.specs.declared.command.Command.TheVariants.{Commit, Move, Mark, Unmark}
+use Rattle.hgs_model.specs.declared.command.Command.TheVariants.{Commit, Import, Move, Mark, Unmark}
 use Rattle.hgs_model.specs.declared.phase.Phase.{Phase}
 use Rattle.hgs_model.specs.Phase.{phase_name}
-use Rattle.hgs_input.specs.Record.{most_input}
+use Rattle.hgs_input.specs.Record.{Wording, most_input}
 use Rattle.hgs_input.specs.Read.{and_then, where_true}
 use Rattle.hgs_schedule.specs.declared.event.Event.{Event}
 use Rattle.hgs_schedule.specs.declared.event.Event.TheVariants as events
@@ -218,8 +218,9 @@ said_phase words readers reader rev most below word =
 line_text : (readers : ℕ) (event : Event) → Said readers event → IsEventText readers (line (event_line event) ++ []) event
 line_text readers event h = inl (record { said = event_line event; is = append-nil (line (event_line event)); lacks = h.lacks; says = h.says })
 
-text_of : Words → (says_draft : Bool) (readers : ℕ) (event : Event) → readers ≤ 64 → CanCome readers event → CanBeWritten event → IsEventText readers (event_text says_draft event) event
-text_of words says readers (events.Begin (Commit change)) most can written = inr (record { says_draft = says; change = change; is = refl; valid = can; begins = refl })
+text_of : Words → (says : Wording) (readers : ℕ) (event : Event) → readers ≤ 64 → CanCome readers event → CanBeWritten event → IsEventText readers (event_text says event) event
+text_of words says readers (events.Begin (Commit change)) most can written = inr (record { says = says; change = change; is = refl; valid = can; begins = refl })
+text_of words says readers (events.Begin (Import changes)) most can written = absurd can
 text_of words says readers (events.Begin (Move rev phase force)) most can written = line_text readers (events.Begin (Move rev phase force)) (said_move readers rev phase force written)
 text_of words says readers (events.Begin (Mark name rev)) most can written = line_text readers (events.Begin (Mark name rev)) (said_mark words readers name rev written can)
 text_of words says readers (events.Begin (Unmark name)) most can written = line_text readers (events.Begin (Unmark name)) (said_unmark words readers name written)
@@ -239,7 +240,7 @@ text_of words says readers (events.Bookmarks n) most can written = line_text rea
 text_of words says readers (events.Stop n) most can written = line_text readers (events.Stop n) (said_stop words readers n written)
 text_of words says readers events.Recover most can written = line_text readers events.Recover (record { lacks = lacks_lf (codes "recover") refl; says = refl })
 
-texts_of : Words → (says_draft : Bool) (readers : ℕ) (all : List Event) → readers ≤ 64 → AllByRecursion (CanCome readers) all → AllByRecursion CanBeWritten all → AreEventTexts readers (map (event_text says_draft) all) all
+texts_of : Words → (says : Wording) (readers : ℕ) (all : List Event) → readers ≤ 64 → AllByRecursion (CanCome readers) all → AllByRecursion CanBeWritten all → AreEventTexts readers (map (event_text says) all) all
 texts_of words says readers [] most can written = tt
 texts_of words says readers (event ∷ all) most can written = (text_of words says readers event most can.0 written.0, texts_of words says readers all most can.1 written.1)
 
@@ -250,7 +251,7 @@ first_back words n least most =
     and_then_back (number_of (decimal n)) n (λ n. where_true (nat_le 1 n && nat_le n most_readers) n) (Some n) (number_back words n (omega (arith, most)))
     (ap (λ t. where_true (t && nat_le n most_readers) n) (le-leb 1 n least) ∙ ap (λ t. where_true t n) (le-leb n most_readers most))
 
-pub text_is : Words → (says_draft : Bool) (s : Schedule) → CanBePlayed s → AllByRecursion CanBeWritten s.events → length (schedule_text says_draft s) ≤ most_input → IsSchedule (schedule_text says_draft s) s
+pub text_is : Words → (says : Wording) (s : Schedule) → CanBePlayed s → AllByRecursion CanBeWritten s.events → length (schedule_text says s) ≤ most_input → IsSchedule (schedule_text says s) s
 text_is words says s can written size =
     let most = can.most in
     record {

@@ -4,11 +4,11 @@ use Rattle.std.specs.List.{AllByRecursion, concat}
 use Rattle.hgs_bytes.specs.Text.{Lacks, line}
 use Rattle.hgs_model.specs.declared.command.NewChange.{NewChange}
 use Rattle.hgs_model.specs.declared.command.Command.{Command}
-use Rattle.hgs_model.specs.declared.command.Command.TheVariants.{Commit, Move, Mark, Unmark}
+use Rattle.hgs_model.specs.declared.command.Command.TheVariants.{Commit, Import, Move, Mark, Unmark}
 use Rattle.hgs_index.specs.MarkName.{is_mark_name}
 use Rattle.hgs_model.specs.Phase.{phase_name}
-use Rattle.hgs_model.specs.Valid.{IsNewChange, IsValid}
-use Rattle.hgs_input.specs.Record.{most_input, record_text}
+use Rattle.hgs_model.specs.Valid.{CanBeAsked, IsNewChange}
+use Rattle.hgs_input.specs.Record.{Wording, most_input, record_text}
 use Rattle.hgs_schedule.specs.declared.event.Event.{Event}
 use Rattle.hgs_schedule.specs.declared.event.Event.TheVariants.{Begin, Write, Fail, UntilPublish, UntilClean, Finish, Open, Read, Load, Log, Cat, Phase, Bookmarks, Stop, Recover}
 use Rattle.hgs_schedule.specs.declared.event.Schedule.{Schedule}
@@ -23,9 +23,9 @@ pub record IsLineOf (readers : ℕ) (text : List ℕ) (event : Event) : Type 0 w
 
 -- the text is a line and a record, with whose changeset a commit begins
 pub record IsCommitOf (text : List ℕ) (event : Event) : Type 0 where
-  pub says_draft : Bool
+  pub says : Wording
   pub change : NewChange
-  pub is : text ≡ line (codes "begin commit") ++ record_text says_draft change
+  pub is : text ≡ line (codes "begin commit") ++ record_text says change
   pub valid : IsNewChange change
   pub begins : Begin (Commit change) ≡ event
 
@@ -51,7 +51,7 @@ pub record IsSchedule (bytes : List ℕ) (s : Schedule) : Type 0 where
 
 -- an event that can come where there are so many readers: its command is one that can be given, a part of an operation has a byte, and the reader is one of them
 abbrev pub CanCome : ℕ → Event → Type 0
-CanCome readers (Begin command) = IsValid command
+CanCome readers (Begin command) = CanBeAsked command
 CanCome readers (Write None) = ⊤
 CanCome readers (Write (Some count)) = 1 ≤ count
 CanCome readers (Fail count) = ⊤
@@ -82,6 +82,7 @@ force_text false = []
 
 abbrev pub begin_line : Command → List ℕ
 begin_line (Commit change) = codes "begin commit"
+begin_line (Import changes) = codes "begin import"
 begin_line (Move rev phase force) = codes "begin phase " ++ (rev ++ 32 ∷ (phase_name phase ++ force_text force))
 begin_line (Mark name rev) = codes "begin bookmark " ++ (rev ++ 32 ∷ name)
 begin_line (Unmark name) = codes "begin unbookmark " ++ name
@@ -106,16 +107,16 @@ event_line (Stop count) = codes "stop " ++ decimal count
 event_line Recover = codes "recover"
 
 -- what stands behind the line of an event: the record of a commit
-abbrev pub record_behind : Bool → Event → List ℕ
-record_behind says_draft (Begin (Commit change)) = record_text says_draft change
-record_behind says_draft event = []
+abbrev pub record_behind : Wording → Event → List ℕ
+record_behind says (Begin (Commit change)) = record_text says change
+record_behind says event = []
 
-abbrev pub event_text : Bool → Event → List ℕ
-event_text says_draft event = line (event_line event) ++ record_behind says_draft event
+abbrev pub event_text : Wording → Event → List ℕ
+event_text says event = line (event_line event) ++ record_behind says event
 
--- a schedule, with the line of a draft's phase in each of its records or in none
-abbrev pub schedule_text : Bool → Schedule → List ℕ
-schedule_text says_draft s = line (codes "play " ++ decimal s.readers) ++ (concat (map (event_text says_draft) s.events) ++ line (codes "end"))
+-- a schedule, whose records are all worded alike
+abbrev pub schedule_text : Wording → Schedule → List ℕ
+schedule_text says s = line (codes "play " ++ decimal s.readers) ++ (concat (map (event_text says) s.events) ++ line (codes "end"))
 
 -- a name in which neither a space nor LF stands
 abbrev pub IsWord : List ℕ → Type 0
@@ -124,6 +125,7 @@ IsWord name = Lacks 32 name × Lacks 10 name
 -- a revision is named by a word, a bookmark as a bookmark can be
 abbrev pub HasWords : Command → Type 0
 HasWords (Commit change) = ⊤
+HasWords (Import changes) = ⊤
 HasWords (Move rev phase force) = IsWord rev
 HasWords (Mark name rev) = IsWord rev
 HasWords (Unmark name) = is_mark_name name ≡ true

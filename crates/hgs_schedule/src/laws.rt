@@ -1,7 +1,7 @@
 //! What the definitions of this crate imply. Each function is one law; none does anything.
-ghost use Rattle.std.specs.Prelude.{◌≡◌, ◌≤◌, ◌<◌, ◌∷◌, ◌++◌, Bool, List, ℕ, Ok, Err, length};
+ghost use Rattle.std.specs.Prelude.{◌≡◌, ◌≤◌, ◌<◌, ◌∷◌, ◌++◌, List, ℕ, Ok, Err, length};
 ghost use Rattle.std.specs.List.{AllByRecursion};
-ghost use Rattle.hgs_input.specs.Record.{most_input};
+ghost use Rattle.hgs_input.specs.Record.{Wording, most_input};
 ghost use Rattle.hgs_input.specs.declared.fault.InputFault.TheVariants.{BadInput, Limit};
 ghost use Rattle.hgs_index.specs.declared.kinds.Which.TheVariants.{FileText, Tree};
 ghost use Rattle.hgs_schedule.specs.declared.event.Schedule.{Schedule};
@@ -55,9 +55,9 @@ pub fn read_schedules_can_be_played()
     read_schedules_are_schedules();
 }
 
-/// A schedule is read from its text again, whether its records say a draft's phase or not.
+/// A schedule is read from its text again, however its records are worded.
 pub fn schedule_written_then_read()
-    ensures { (says_draft : Bool) (s : Schedule) → CanBePlayed s → AllByRecursion CanBeWritten s.events → length (schedule_text says_draft s) ≤ most_input → read_schedule (schedule_text says_draft s) ≡ Ok s }
+    ensures { (says : Wording) (s : Schedule) → CanBePlayed s → AllByRecursion CanBeWritten s.events → length (schedule_text says s) ≤ most_input → read_schedule (schedule_text says s) ≡ Ok s }
 {
     words_written_then_read();
     schedules_are_read();

@@ -12,7 +12,7 @@ use Rattle.hgs_model.specs.declared.command.Command.TheVariants.{Commit}
 use Rattle.hgs_model.specs.Valid.{IsNewChange}
 use Rattle.hgs_input.specs.declared.fault.InputFault.TheVariants.{Limit}
 use Rattle.hgs_input.specs.Front.{left}
-use Rattle.hgs_input.specs.Record.{most_input, record_text}
+use Rattle.hgs_input.specs.Record.{Wording, most_input, record_text}
 use Rattle.hgs_input.specs.Read.{Rest, Reading, ◌>>=◌, place, next_line, required_at, required, and_then, where_true, record_from}
 use Rattle.hgs_script.specs.declared.job.Job.{Job}
 use Rattle.hgs_script.specs.declared.job.Job.TheVariants.{Change}
@@ -56,19 +56,19 @@ line_task n w workers word said rest worker job is room lacks says =
     (ap (λ t. if t then (record_from r >>= λ c. Ok (Change (Commit c.0), c.1)) else required_at at (job_of said) r) (no_commit said job says)
     ∙ ap (λ o. required_at at o r) says)
 
-commit_task : RecordsRead → (n w : ℕ) (workers : List (List Job)) (word : List ℕ) (says_draft : Bool) (c : NewChange) (rest : List ℕ) (worker : ℕ) → IsWorker n word worker → has_room workers worker ≡ true → IsNewChange c →
-    next_task workers (left w ((line (word ++ 32 ∷ codes "commit") ++ record_text says_draft c) ++ rest)) ≡ Ok (Some (worker, Change (Commit c)), left w rest)
-commit_task read n w workers word says_draft c rest worker is room valid =
-    let behind_line = record_text says_draft c ++ rest in
-    ap (λ b. next_task workers (left w b)) (append_assoc (line (word ++ 32 ∷ codes "commit")) (record_text says_draft c) rest)
+commit_task : RecordsRead → (n w : ℕ) (workers : List (List Job)) (word : List ℕ) (says : Wording) (c : NewChange) (rest : List ℕ) (worker : ℕ) → IsWorker n word worker → has_room workers worker ≡ true → IsNewChange c →
+    next_task workers (left w ((line (word ++ 32 ∷ codes "commit") ++ record_text says c) ++ rest)) ≡ Ok (Some (worker, Change (Commit c)), left w rest)
+commit_task read n w workers word says c rest worker is room valid =
+    let behind_line = record_text says c ++ rest in
+    ap (λ b. next_task workers (left w b)) (append_assoc (line (word ++ 32 ∷ codes "commit")) (record_text says c) rest)
     ∙ next_back n w workers word (codes "commit") behind_line worker (Change (Commit c)) (left w rest) is room (lacks_lf (codes "commit") refl)
-    (then_ok (record_from (left w behind_line)) (c, left w rest) (λ c. Ok (Change (Commit c.0), c.1)) (Ok (Change (Commit c), left w rest)) (read says_draft c w rest valid) refl)
+    (then_ok (record_from (left w behind_line)) (c, left w rest) (λ c. Ok (Change (Commit c.0), c.1)) (Ok (Change (Commit c), left w rest)) (read says c w rest valid) refl)
 
 text_task : RecordsRead → (n w : ℕ) (workers : List (List Job)) (text rest : List ℕ) (task : Task) → has_room workers task.0 ≡ true → IsTaskText n text task → next_task workers (left w (text ++ rest)) ≡ Ok (Some task, left w rest)
 text_task read n w workers text rest task room (inl h) =
     ap (λ t. next_task workers (left w (t ++ rest))) h.is ∙ line_task n w workers h.word h.said rest task.0 task.1 h.worker room h.lacks h.says
 text_task read n w workers text rest task room (inr h) =
-    ap (λ t. next_task workers (left w (t ++ rest))) h.is ∙ commit_task read n w workers h.word h.says_draft h.change rest task.0 h.worker room h.valid ∙ ap (λ j. Ok (Some (task.0, j), left w rest)) h.commits
+    ap (λ t. next_task workers (left w (t ++ rest))) h.is ∙ commit_task read n w workers h.word h.says h.change rest task.0 h.worker room h.valid ∙ ap (λ j. Ok (Some (task.0, j), left w rest)) h.commits
 
 end_task : (w : ℕ) (workers : List (List Job)) (rest : List ℕ) → next_task workers (left w (line (codes "end session") ++ rest)) ≡ Ok (None, left w rest)
 end_task w workers rest =
@@ -84,7 +84,7 @@ there_is n text task (inr h) = h.worker.there
 text_some : (n : ℕ) (text : List ℕ) (task : Task) → IsTaskText n text task → 0 < length text
 text_some n text task (inl h) = let a = ap length h.is ∙ length-append (h.word ++ 32 ∷ h.said) (10 ∷ []) in omega (arith, a)
 text_some n text task (inr h) =
-    let a = ap length h.is ∙ length-append (line (h.word ++ 32 ∷ codes "commit")) (record_text h.says_draft h.change) in
+    let a = ap length h.is ∙ length-append (line (h.word ++ 32 ∷ codes "commit")) (record_text h.says h.change) in
     let b = length-append (h.word ++ 32 ∷ codes "commit") (10 ∷ []) in
     omega (arith, a, b)
 

@@ -60,11 +60,11 @@ job_found stand n at done words said r mid task rest found w e = by (same said (
         let x = bound (record_from mid) (λ c. Ok (Change (Commit c.0), c.1)) (task.1, rest) k in
         let same_pair = ok_is {A = Job × Rest} (Change (Commit x.value.0), x.value.1) (task.1, rest) x.gives in
         let s = stand mid x.value.1 x.value.0 x.is in
-        let text = record_text s.says_draft x.value.0 in
+        let text = record_text s.says x.value.0 in
         let is : words ≡ w.word ++ 32 ∷ codes "commit" = w.is ∙ ap (λ b. w.word ++ 32 ∷ b) (same-eq said (codes "commit") h) in
         let mid_rest : Before mid text rest = subst (Before mid text) (ap (λ (q : Job × Rest). q.1) same_pair) (record { is = s.text; whole = s.whole }) in (
           line (w.word ++ 32 ∷ codes "commit") ++ text,
-          inr (record { word = w.word; says_draft = s.says_draft; change = x.value.0; is = refl; worker = w.names; valid = s.valid; commits = ap (λ (q : Job × Rest). q.0) same_pair }),
+          inr (record { word = w.word; says = s.says; change = x.value.0; is = refl; worker = w.names; valid = s.valid; commits = ap (λ (q : Job × Rest). q.0) same_pair }),
           before_both r mid rest (line (w.word ++ 32 ∷ codes "commit")) text (subst (λ l. Before r (line l) mid) is found.before) mid_rest,
           w.may,
         )

@@ -9,10 +9,10 @@ use Rattle.hgs_bytes.specs.Text.{Lacks, line, split}
 use Rattle.hgs_bytes.specs.Theorems.TextLemmas.{lacks-append, split_over}
 use Rattle.hgs_index.specs.MarkName.{is_mark_name}
 use Rattle.hgs_model.specs.declared.command.Command.{Command}
-use Rattle.hgs_model.specs.declared.command.Command.TheVariants.{Commit, Move, Mark, Unmark}
+use Rattle.hgs_model.specs.declared.command.Command.TheVariants.{Commit, Import, Move, Mark, Unmark}
 use Rattle.hgs_model.specs.declared.phase.Phase.{Phase}
 use Rattle.hgs_model.specs.Phase.{phase_name}
-use Rattle.hgs_input.specs.Record.{most_input}
+use Rattle.hgs_input.specs.Record.{Wording, most_input}
 use Rattle.hgs_input.specs.Read.{and_then, where_true, number_up_to}
 use Rattle.hgs_schedule.specs.Read.{target_of}
 use Rattle.hgs_schedule.specs.Schedule.{IsWord, force_text}
@@ -129,9 +129,10 @@ line_text words n worker job most there h = inl (record {
   says = h.says;
 })
 
-text_of : Words → (says_draft : Bool) (n worker : ℕ) (job : Job) → n ≤ most_workers → worker < n → CanBeDone job → CanBeWritten job → IsTaskText n (task_text says_draft (worker, job)) (worker, job)
+text_of : Words → (says : Wording) (n worker : ℕ) (job : Job) → n ≤ most_workers → worker < n → CanBeDone job → CanBeWritten job → IsTaskText n (task_text says (worker, job)) (worker, job)
 text_of words says n worker (Change (Commit change)) most there can written =
-    inr (record { word = decimal worker; says_draft = says; change = change; is = refl; worker = worker_back words n worker most there; valid = can; commits = refl })
+    inr (record { word = decimal worker; says = says; change = change; is = refl; worker = worker_back words n worker most there; valid = can; commits = refl })
+text_of words says n worker (Change (Import changes)) most there can written = absurd can
 text_of words says n worker (Change (Move rev phase force)) most there can written = line_text words n worker (Change (Move rev phase force)) most there (said_move rev phase force written)
 text_of words says n worker (Change (Mark name rev)) most there can written = line_text words n worker (Change (Mark name rev)) most there (said_mark words name rev written can)
 text_of words says n worker (Change (Unmark name)) most there can written = line_text words n worker (Change (Unmark name)) most there (said_unmark words name written)
@@ -143,7 +144,7 @@ text_of words says n worker (Ask questions.Parents) most there can written = lin
 text_of words says n worker (Ask (questions.Files rev)) most there can written = line_text words n worker (Ask (questions.Files rev)) most there (said_files rev written)
 text_of words says n worker (Ask (questions.Cat rev path)) most there can written = line_text words n worker (Ask (questions.Cat rev path)) most there (said_cat rev path written.0 written.1)
 
-texts_of : Words → (says_draft : Bool) (n : ℕ) (tasks : List Task) → n ≤ most_workers → AllByRecursion (CanBeTold n) tasks → AreTaskTexts n (map (task_text says_draft) tasks) tasks
+texts_of : Words → (says : Wording) (n : ℕ) (tasks : List Task) → n ≤ most_workers → AllByRecursion (CanBeTold n) tasks → AreTaskTexts n (map (task_text says) tasks) tasks
 texts_of words says n [] most can = tt
 texts_of words says n (task ∷ tasks) most can = (text_of words says n task.0 task.1 most can.0.there can.0.done can.0.written, texts_of words says n tasks most can.1)
 
@@ -154,8 +155,8 @@ first_back words n least most =
     and_then_back (number_up_to most_workers (decimal n)) n (λ n. where_true (nat_le 1 n && nat_le n most_workers) n) (Some n) (number_back words n most)
     (ap (λ t. where_true (t && nat_le n most_workers) n) (le-leb 1 n least) ∙ ap (λ t. where_true t n) (le-leb n most_workers most))
 
-pub text_is : Words → (says_draft : Bool) (n : ℕ) (tasks : List Task) → 1 ≤ n → n ≤ most_workers → AllByRecursion (CanBeTold n) tasks → HaveRoom tasks → length (script_text says_draft n tasks) ≤ most_input →
-    IsScript (script_text says_draft n tasks) (record { workers = jobs_of_each 0 n tasks })
+pub text_is : Words → (says : Wording) (n : ℕ) (tasks : List Task) → 1 ≤ n → n ≤ most_workers → AllByRecursion (CanBeTold n) tasks → HaveRoom tasks → length (script_text says n tasks) ≤ most_input →
+    IsScript (script_text says n tasks) (record { workers = jobs_of_each 0 n tasks })
 text_is words says n tasks least most can room size = record {
   first = codes "session " ++ decimal n;
   texts = map (task_text says) tasks;

@@ -1,13 +1,13 @@
 -- The bytes that are a script.
-use Rattle.std.specs.Prelude.{◌≡◌, ◌≤◌, ◌<◌, ◌⊎◌, ⊤, ℕ, zero, suc, Bool, List, [], ◌∷◌, ◌++◌, length, Some, codes, decimal, map, ◌==◌, if◌then◌else◌}
+use Rattle.std.specs.Prelude.{◌≡◌, ◌≤◌, ◌<◌, ◌⊎◌, ⊤, ℕ, zero, suc, List, [], ◌∷◌, ◌++◌, length, Some, codes, decimal, map, ◌==◌, if◌then◌else◌}
 use Rattle.std.specs.List.{AllByRecursion, concat}
 use Rattle.hgs_bytes.specs.Text.{Lacks, line}
 use Rattle.hgs_model.specs.declared.command.NewChange.{NewChange}
 use Rattle.hgs_model.specs.declared.command.Command.{Command}
-use Rattle.hgs_model.specs.declared.command.Command.TheVariants.{Commit, Move, Mark, Unmark}
+use Rattle.hgs_model.specs.declared.command.Command.TheVariants.{Commit, Import, Move, Mark, Unmark}
 use Rattle.hgs_model.specs.Phase.{phase_name}
-use Rattle.hgs_model.specs.Valid.{IsNewChange, IsValid}
-use Rattle.hgs_input.specs.Record.{most_input, record_text}
+use Rattle.hgs_model.specs.Valid.{CanBeAsked, IsNewChange}
+use Rattle.hgs_input.specs.Record.{Wording, most_input, record_text}
 use Rattle.hgs_input.specs.Read.{number_up_to}
 use Rattle.hgs_schedule.specs.Schedule.{IsWord, HasWords, force_text}
 use Rattle.hgs_script.specs.declared.job.Job.{Job}
@@ -53,9 +53,9 @@ pub record IsLineOf (workers : ℕ) (text : List ℕ) (task : Task) : Type 0 whe
 -- the text is a line and a record, whose changeset the job commits
 pub record IsCommitOf (workers : ℕ) (text : List ℕ) (task : Task) : Type 0 where
   pub word : List ℕ
-  pub says_draft : Bool
+  pub says : Wording
   pub change : NewChange
-  pub is : text ≡ line (word ++ 32 ∷ codes "commit") ++ record_text says_draft change
+  pub is : text ≡ line (word ++ 32 ∷ codes "commit") ++ record_text says change
   pub worker : IsWorker workers word task.0
   pub valid : IsNewChange change
   pub commits : Change (Commit change) ≡ task.1
@@ -88,7 +88,7 @@ pub record IsScript (bytes : List ℕ) (s : Script) : Type 0 where
 
 -- the command of a job that writes is one that can be given
 abbrev pub CanBeDone : Job → Type 0
-CanBeDone (Change command) = IsValid command
+CanBeDone (Change command) = CanBeAsked command
 CanBeDone (Ask question) = ⊤
 
 pub record IsShare (jobs : List Job) : Type 0 where
@@ -103,8 +103,10 @@ pub record CanBeRun (s : Script) : Type 0 where
 
 -- ---- how a script is written
 
+-- no job is an import
 abbrev pub change_line : Command → List ℕ
 change_line (Commit change) = codes "commit"
+change_line (Import changes) = []
 change_line (Move rev phase force) = codes "phase " ++ (rev ++ 32 ∷ (phase_name phase ++ force_text force))
 change_line (Mark name rev) = codes "bookmark " ++ (rev ++ 32 ∷ name)
 change_line (Unmark name) = codes "unbookmark " ++ name
@@ -123,16 +125,16 @@ job_line (Change command) = change_line command
 job_line (Ask question) = question_line question
 
 -- what stands behind the line of a job: the record of a commit
-abbrev pub record_behind : Bool → Job → List ℕ
-record_behind says_draft (Change (Commit change)) = record_text says_draft change
-record_behind says_draft job = []
+abbrev pub record_behind : Wording → Job → List ℕ
+record_behind says (Change (Commit change)) = record_text says change
+record_behind says job = []
 
-abbrev pub task_text : Bool → Task → List ℕ
-task_text says_draft task = line (decimal task.0 ++ 32 ∷ job_line task.1) ++ record_behind says_draft task.1
+abbrev pub task_text : Wording → Task → List ℕ
+task_text says task = line (decimal task.0 ++ 32 ∷ job_line task.1) ++ record_behind says task.1
 
--- a script, with the line of a draft's phase in each of its records or in none
-abbrev pub script_text : Bool → ℕ → List Task → List ℕ
-script_text says_draft count tasks = line (codes "session " ++ decimal count) ++ (concat (map (task_text says_draft) tasks) ++ line (codes "end session"))
+-- a script, whose records are all worded alike
+abbrev pub script_text : Wording → ℕ → List Task → List ℕ
+script_text says count tasks = line (codes "session " ++ decimal count) ++ (concat (map (task_text says) tasks) ++ line (codes "end session"))
 
 -- names that a line can say: those of revisions are words, and a path is a line
 abbrev pub HasNames : Question → Type 0

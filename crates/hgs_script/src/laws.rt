@@ -1,7 +1,7 @@
 //! What the definitions of this crate imply. Each function is one law; none does anything.
-ghost use Rattle.std.specs.Prelude.{◌≡◌, ◌≤◌, ◌<◌, ◌∷◌, ◌++◌, Bool, List, ℕ, Ok, Err, length};
+ghost use Rattle.std.specs.Prelude.{◌≡◌, ◌≤◌, ◌<◌, ◌∷◌, ◌++◌, List, ℕ, Ok, Err, length};
 ghost use Rattle.std.specs.List.{AllByRecursion};
-ghost use Rattle.hgs_input.specs.Record.{most_input};
+ghost use Rattle.hgs_input.specs.Record.{Wording, most_input};
 ghost use Rattle.hgs_input.specs.declared.fault.InputFault.TheVariants.{BadInput, Limit};
 ghost use Rattle.hgs_index.specs.declared.kinds.Which.TheVariants.{FileText, Tree};
 ghost use Rattle.hgs_script.specs.declared.script.Script.{Script};
@@ -55,10 +55,10 @@ pub fn read_scripts_can_be_run()
     read_scripts_are_scripts();
 }
 
-/// A script is read from its text again, in whatever order the jobs of different workers stand there, and whether its
-/// records say a draft's phase or not.
+/// A script is read from its text again, in whatever order the jobs of different workers stand there, and however its
+/// records are worded.
 pub fn script_written_then_read()
-    ensures { (says_draft : Bool) (count : ℕ) (tasks : List Task) → 1 ≤ count → count ≤ most_workers → AllByRecursion (CanBeTold count) tasks → HaveRoom tasks → length (script_text says_draft count tasks) ≤ most_input → read_script (script_text says_draft count tasks) ≡ Ok (record { workers = jobs_of_each 0 count tasks }) }
+    ensures { (says : Wording) (count : ℕ) (tasks : List Task) → 1 ≤ count → count ≤ most_workers → AllByRecursion (CanBeTold count) tasks → HaveRoom tasks → length (script_text says count tasks) ≤ most_input → read_script (script_text says count tasks) ≡ Ok (record { workers = jobs_of_each 0 count tasks }) }
 {
     words_written_then_read();
     scripts_are_read();

@@ -1,4 +1,5 @@
 //! Each answer printed.
+use crate::given::given;
 use hgs_answers::answer::Answer;
 use hgs_answers::outcome::{Outcome, Published};
 use hgs_bytes::bytes::Bytes;
@@ -11,23 +12,23 @@ use std::test::Fail;
 // The text of an answer behind some other text.
 fn printed(alloc: Global, answer: Answer, command: &Command) -> Result<Vec<u8>, Fail> {
     let mut text = Vec::from_slice(alloc, b"> ")?;
-    answer.print(alloc, command, &mut text)?;
+    given(answer.print(alloc, command, &mut text))?;
     Ok(text)
 }
 
 fn named(alloc: Global, name: &[u8]) -> Result<Command, Fail> {
-    Ok(Command::Mark {
-        name: Bytes::from_slice(alloc, name)?,
-        rev: Bytes::from_slice(alloc, b"tip")?,
-    })
+    let name = Bytes::from_slice(alloc, name)?;
+    let rev = Bytes::from_slice(alloc, b"tip")?;
+    Ok(Command::Mark { name, rev })
 }
 
 #[test]
 fn answers_are_printed(rt: HostRuntime) -> Result<(), Fail> {
     let alloc = rt.alloc();
+    let holder = Bytes::from_slice(alloc, b"box:7")?;
     let table = [
         (
-            Outcome::LockHeld(Some(Bytes::from_slice(alloc, b"box:7")?)),
+            Outcome::LockHeld(Some(holder)),
             true,
             b"> abort: lock held by box:7\n".as_slice(),
         ),
@@ -63,7 +64,8 @@ fn answers_are_printed(rt: HostRuntime) -> Result<(), Fail> {
     ];
     let command = named(alloc, b"main")?;
     for (outcome, swept, wanted) in table {
-        let text = printed(alloc, Answer { outcome, swept }, &command)?;
+        let answer = Answer { outcome, swept };
+        let text = printed(alloc, answer, &command)?;
         assert_eq!(rt; text.as_slice(), wanted);
     }
     Ok(())
@@ -72,8 +74,9 @@ fn answers_are_printed(rt: HostRuntime) -> Result<(), Fail> {
 #[test]
 fn a_phase_is_said_with_its_changeset(rt: HostRuntime) -> Result<(), Fail> {
     let alloc = rt.alloc();
+    let rev = Bytes::from_slice(alloc, b"tip")?;
     let command = Command::Move {
-        rev: Bytes::from_slice(alloc, b"tip")?,
+        rev,
         phase: Phase::Secret,
         force: true,
     };

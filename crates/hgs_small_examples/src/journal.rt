@@ -1,4 +1,5 @@
-//! Journals and lists of backups that Mercurial wrote, those of a first changeset, and texts that are refused.
+//! Journals and lists of backups that Mercurial wrote, and those of a first changeset.
+use crate::given::given;
 use hgs_bytes::bytes::Bytes;
 use hgs_files::op::Op;
 use hgs_journal::backups::Backups;
@@ -28,19 +29,19 @@ const BACKUPS: &[u8; 120] =
 fn texts_are_read_and_printed_as_they_were(rt: HostRuntime) -> Result<(), Fail> {
     let journals: [(&[u8], usize); 2] = [(FIRST_JOURNAL, 7), (JOURNAL, 3)];
     for (text, count) in journals {
-        let journal = Journal::read(rt.alloc(), text)?;
+        let journal = given(Journal::read(rt.alloc(), text))?;
         let mut printed = Vec::new(rt.alloc());
-        journal.print(&mut printed)?;
-        assert_eq!(rt; printed.as_slice(), text);
-        assert_eq!(rt; journal.lines.into_vec().len(), count);
+        given(journal.print(&mut printed))?;
+        let lines = journal.lines.into_vec();
+        assert!(rt; printed.as_slice() == text && lines.len() == count);
     }
     let lists: [(&[u8], usize); 3] = [(FIRST_BACKUPS, 2), (BACKUPS, 3), (b"2\n", 0)];
     for (text, count) in lists {
-        let backups = Backups::read(rt.alloc(), text)?;
+        let backups = given(Backups::read(rt.alloc(), text))?;
         let mut printed = Vec::new(rt.alloc());
-        backups.print(&mut printed)?;
-        assert_eq!(rt; printed.as_slice(), text);
-        assert_eq!(rt; backups.lines.into_vec().len(), count);
+        given(backups.print(&mut printed))?;
+        let lines = backups.lines.into_vec();
+        assert!(rt; printed.as_slice() == text && lines.len() == count);
     }
     Ok(())
 }
@@ -56,60 +57,13 @@ const TAKEN: [(&[u8], usize); 5] = [
 
 #[test]
 fn a_cut_line_does_not_count(rt: HostRuntime) -> Result<(), Fail> {
-    let cut = Journal::read(rt.alloc(), &FIRST_JOURNAL[..93])?;
+    let cut = given(Journal::read(rt.alloc(), &FIRST_JOURNAL[..93]))?;
     assert_eq!(rt; cut.lines.as_slice().len(), 6);
     for (text, count) in TAKEN {
-        let journal = Journal::read(rt.alloc(), text)?;
+        let journal = given(Journal::read(rt.alloc(), text))?;
         assert_eq!(rt; journal.lines.as_slice().len(), count, "{text:?}");
     }
     Ok(())
-}
-
-const REFUSED_JOURNALS: [(&[u8], u64); 9] = [
-    (b"a\x0000\n", 1),
-    (b"a\x00\n", 1),
-    (b"a\x00+1\n", 1),
-    (b"a\x0018446744073709551616\n", 1),
-    (b"a\x000\x000\n", 1),
-    (b"a 0\n", 1),
-    (b"a\x000\n\n", 2),
-    (b"a\x000\nb/..\x000\nc\n", 2),
-    (b"a\r\x000\n", 1),
-];
-
-#[test]
-fn journals_out_of_form_are_refused(rt: HostRuntime) {
-    for (text, line) in REFUSED_JOURNALS {
-        let fault = Journal::read(rt.alloc(), text).err();
-        assert_eq!(rt; fault, Some(JournalFault::Line(line)), "{text:?}");
-    }
-}
-
-const REFUSED_BACKUPS: [(&[u8], JournalFault); 12] = [
-    (b"", JournalFault::Version),
-    (b"2", JournalFault::Version),
-    (b"3\n\x00phaseroots\x00\x000\n", JournalFault::Version),
-    (b"2\n\x00phaseroots\x00\x000", JournalFault::Line(2)),
-    (b"2\n\x00a\x00b\x000\x00\n", JournalFault::Line(2)),
-    (b"2\n\x00a\x00b\n", JournalFault::Line(2)),
-    (b"2\nstore\x00a\x00\x000\n", JournalFault::Line(2)),
-    (b"2\nplain\x00/a\x00\x000\n", JournalFault::Line(2)),
-    (b"2\nplain\x00a\x00..\x000\n", JournalFault::Line(2)),
-    (b"2\n\x00a\x00\x00any\n\n", JournalFault::Line(3)),
-    (b"2\n\x00a\x00\x000\n\x00a\x00\x00", JournalFault::Line(3)),
-    // Mercurial's files that are to be removed have no name here.
-    (
-        b"2\n\x00\x0000changelog.i.a\x000\nplain\x00\x00bookmarks.pending\x000\n",
-        JournalFault::Line(3),
-    ),
-];
-
-#[test]
-fn lists_out_of_form_are_refused(rt: HostRuntime) {
-    for (text, fault) in REFUSED_BACKUPS {
-        let found = Backups::read(rt.alloc(), text).err();
-        assert_eq!(rt; found, Some(fault), "{text:?}");
-    }
 }
 
 /// A list with one plain file whose name has so many bytes.
@@ -124,8 +78,10 @@ fn long_list(alloc: Global, len: usize) -> Result<Vec<u8>, AllocError> {
 
 #[test]
 fn the_new_name_of_a_file_is_a_path(rt: HostRuntime) -> Result<(), Fail> {
-    Backups::read(rt.alloc(), &long_list(rt.alloc(), 4084)?)?;
-    let found = Backups::read(rt.alloc(), &long_list(rt.alloc(), 4085)?).err();
+    let longest = given(long_list(rt.alloc(), 4084))?;
+    given(Backups::read(rt.alloc(), &longest))?;
+    let longer = given(long_list(rt.alloc(), 4085))?;
+    let found = Backups::read(rt.alloc(), &longer).err();
     assert_eq!(rt; found, Some(JournalFault::Line(2)));
     Ok(())
 }
@@ -172,11 +128,13 @@ fn undo_words(
     let backups = Backups::read(alloc, backups)?;
     let mut copies = Vec::new(alloc);
     for bytes in kept {
-        copies.push(Bytes::from_slice(alloc, bytes)?)?;
+        let copy = Bytes::from_slice(alloc, bytes)?;
+        copies.push(copy)?;
     }
     let mut words = Vec::new(alloc);
     if copies.len() == backups.lines.as_slice().len() {
-        for op in &undo_plan(alloc, &journal, &backups, &copies)? {
+        let plan = undo_plan(alloc, &journal, &backups, &copies)?;
+        for op in &plan {
             say(op, &mut words)?;
         }
     }
@@ -191,23 +149,23 @@ const UNDO_FIRST: &[u8; 232] =
 
 #[test]
 fn transactions_are_undone_from_the_last_file_to_the_first(rt: HostRuntime) -> Result<(), Fail> {
-    let second = undo_words(rt.alloc(), JOURNAL, BACKUPS, &[b"F", b"B", b"D"])?;
+    let second = given(undo_words(rt.alloc(), JOURNAL, BACKUPS, &[b"F", b"B", b"D"]))?;
     assert_eq!(rt; second.as_slice(), UNDO_SECOND.as_slice());
-    let first = undo_words(rt.alloc(), FIRST_JOURNAL, FIRST_BACKUPS, &[b"", b""])?;
+    let first = given(undo_words(rt.alloc(), FIRST_JOURNAL, FIRST_BACKUPS, &[b"", b""]))?;
     assert_eq!(rt; first.as_slice(), UNDO_FIRST.as_slice());
     Ok(())
 }
 
 #[test]
 fn the_names_of_a_transaction_stand_beside_their_files(rt: HostRuntime) -> Result<(), Fail> {
-    let backup = backup_name(rt.alloc(), b"phaseroots")?;
-    let path = place(rt.alloc(), false, &backup)?;
+    let backup = given(backup_name(rt.alloc(), b"phaseroots"))?;
+    let path = given(place(rt.alloc(), false, &backup))?;
     assert_eq!(rt;
         path.as_slice(),
         b"store/journal.backup.phaseroots".as_slice()
     );
-    let new = new_name(rt.alloc(), b"dirstate")?;
-    let path = place(rt.alloc(), true, &new)?;
+    let new = given(new_name(rt.alloc(), b"dirstate"))?;
+    let path = given(place(rt.alloc(), true, &new))?;
     assert_eq!(rt; path.as_slice(), b"journal.new.dirstate".as_slice());
     Ok(())
 }

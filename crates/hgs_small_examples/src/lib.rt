@@ -4,6 +4,8 @@
 #[cfg(test)]
 mod answers;
 #[cfg(test)]
+mod given;
+#[cfg(test)]
 mod input;
 #[cfg(test)]
 mod journal;

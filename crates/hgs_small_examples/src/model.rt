@@ -1,4 +1,5 @@
 //! The calls of this crate on small values, and each that takes memory once.
+use crate::given::given;
 use hgs_bytes::bytes::Bytes;
 use hgs_index::kinds::Flag;
 use hgs_model::ancestor::ancestor;
@@ -29,7 +30,7 @@ fn ancestors_beside_a_merge(rt: HostRuntime) -> Result<(), Fail> {
     ];
     for (a, b, wanted) in table {
         if b < 5 {
-            let found = ancestor(rt.alloc(), &parents, a, b)?;
+            let found = given(ancestor(rt.alloc(), &parents, a, b))?;
             assert_eq!(rt; found, wanted, "{a} of {b}");
         }
     }
@@ -44,8 +45,7 @@ fn phases_have_numbers_and_names(rt: HostRuntime) {
         (Phase::Secret, 2, b"secret"),
     ];
     for (phase, number, name) in table {
-        assert_eq!(rt; phase.number(), number);
-        assert_eq!(rt; phase.name(), name);
+        assert!(rt; phase.number() == number && phase.name() == name);
     }
 }
 
@@ -54,10 +54,12 @@ fn files_stand_in_order(rt: HostRuntime) -> Result<(), Fail> {
     let alloc = rt.alloc();
     let mut files = NewFiles::new(alloc);
     for path in [b"a".as_slice(), b"b/c"] {
+        let path = Bytes::from_slice(alloc, path)?;
         files.push(NewFile {
-            path: Bytes::from_slice(alloc, path)?,
+            path,
             flag: Flag::Plain,
             body: Bytes::new(alloc),
+            from: None,
         })?;
     }
     assert_eq!(rt; files.len(), 2);

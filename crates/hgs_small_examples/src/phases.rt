@@ -1,8 +1,8 @@
 //! Roots that Mercurial wrote, and the phases that they give.
+use crate::given::given;
 use hgs_index::node::Node;
 use hgs_index::texts::node_from;
 use hgs_model::phase::Phase;
-use hgs_phases::fault::RootsFault;
 use hgs_phases::phases::Phases;
 use hgs_phases::roots::Roots;
 use hgs_revlog::fault::{RevFault, Tail};
@@ -16,50 +16,24 @@ const ROOTS: &[u8; 86] =
 
 #[test]
 fn roots_of_a_repository(rt: HostRuntime) -> Result<(), Fail> {
-    let roots = Roots::read(rt.alloc(), ROOTS)?;
+    let roots = given(Roots::read(rt.alloc(), ROOTS))?;
     assert_eq!(rt; roots.len(), 2);
     Ok(())
-}
-
-const REFUSED: [(&[u8], RootsFault); 4] = [
-    (
-        b"3 aaaaaaaaaaaaaaaaaaaaaaaaaaaaaaaaaaaaaaaa\n",
-        RootsFault::Line(1),
-    ),
-    (
-        b"1 aaaaaaaaaaaaaaaaaaaaaaaaaaaaaaaaaaaaaaaa\n\n",
-        RootsFault::Line(2),
-    ),
-    (
-        b"1 aaaaaaaaaaaaaaaaaaaaaaaaaaaaaaaaaaaaaaa\n",
-        RootsFault::Line(1),
-    ),
-    (
-        b"1 AAAAAAAAAAAAAAAAAAAAAAAAAAAAAAAAAAAAAAAA",
-        RootsFault::Line(1),
-    ),
-];
-
-#[test]
-fn refused_roots(rt: HostRuntime) {
-    for (text, fault) in REFUSED {
-        assert_eq!(rt; Roots::read(rt.alloc(), text).err(), Some(fault));
-    }
 }
 
 #[test]
 fn phases_of_new_changesets(rt: HostRuntime) -> Result<(), Fail> {
     let known = Revlog::empty(rt.alloc(), false);
-    let roots = Roots::read(rt.alloc(), ROOTS)?;
-    let mut phases = roots.phases_of(rt.alloc(), &known)?;
+    let roots = given(Roots::read(rt.alloc(), ROOTS))?;
+    let mut phases = given(roots.phases_of(rt.alloc(), &known))?;
     assert_eq!(rt; phases.len(), 0);
     let mut text = Vec::new(rt.alloc());
-    phases.print(&known, &mut text)?;
+    given(phases.print(&known, &mut text))?;
     assert_eq!(rt; text.len(), 0);
     phases.push(Phase::Draft)?;
-    assert_eq!(rt; phases.len(), 1);
-    assert_eq!(rt; phases.get(0).name(), b"draft".as_slice());
-    assert_eq!(rt; phases.copy()?.len(), 1);
+    assert!(rt; phases.len() == 1 && phases.get(0).name() == b"draft".as_slice());
+    let copy = phases.copy()?;
+    assert_eq!(rt; copy.len(), 1);
     Ok(())
 }
 
@@ -209,14 +183,15 @@ const MOVES: [(&[Move], &[u8; 16]); 10] = [
 #[test]
 fn moved_phases(rt: HostRuntime) -> Result<(), Fail> {
     let alloc = rt.alloc();
-    let known = changelog(alloc, 16)?;
-    let roots = Roots::read(alloc, HISTORY_ROOTS)?;
+    let known = given(changelog(alloc, 16))?;
+    let roots = given(Roots::read(alloc, HISTORY_ROOTS))?;
     for (moves, want) in &MOVES {
-        let mut phases = roots.phases_of(alloc, &known)?;
+        let mut phases = given(roots.phases_of(alloc, &known))?;
         for a_move in *moves {
             assert!(rt; make(&mut phases, &known, *a_move));
         }
-        assert_eq!(rt; digits(alloc, &phases, &known)?.as_slice(), want.as_slice());
+        let found = given(digits(alloc, &phases, &known))?;
+        assert_eq!(rt; found.as_slice(), want.as_slice());
     }
     Ok(())
 }
@@ -224,9 +199,9 @@ fn moved_phases(rt: HostRuntime) -> Result<(), Fail> {
 #[test]
 fn printed_roots(rt: HostRuntime) -> Result<(), Fail> {
     let alloc = rt.alloc();
-    let known = changelog(alloc, 3)?;
-    let roots = Roots::read(alloc, b"1 0fc2a8c13db253b8a61c86094398a5bc47ec4b40")?;
-    let mut phases = roots.phases_of(alloc, &known)?;
+    let known = given(changelog(alloc, 3))?;
+    let roots = given(Roots::read(alloc, b"1 0fc2a8c13db253b8a61c86094398a5bc47ec4b40"))?;
+    let mut phases = given(roots.phases_of(alloc, &known))?;
     let moves = [
         (
             Move::Advance(1, Phase::Public),
@@ -241,7 +216,7 @@ fn printed_roots(rt: HostRuntime) -> Result<(), Fail> {
         assert!(rt; make(&mut phases, &known, *a_move));
         let mut text = Vec::new(alloc);
         if phases.len() == known.len() as usize {
-            phases.print(&known, &mut text)?;
+            given(phases.print(&known, &mut text))?;
         }
         assert_eq!(rt; text.as_slice(), want.as_slice());
     }

@@ -1,4 +1,5 @@
 //! The printed form of damage.
+use crate::given::given;
 use hgs_files::path::StorePath;
 use hgs_plan::damage::{Damage, Part, What};
 use hgs_plan::print::push_damage;
@@ -28,8 +29,9 @@ fn damage_is_printed(rt: HostRuntime) -> Result<(), Fail> {
         ),
     ];
     for (part, number, place, wanted) in table {
+        let path = given(StorePath::new(alloc, b"store/00changelog.i"))?;
         let damage = Damage {
-            path: StorePath::new(alloc, b"store/00changelog.i")?,
+            path,
             what: What {
                 part,
                 number,
@@ -37,7 +39,7 @@ fn damage_is_printed(rt: HostRuntime) -> Result<(), Fail> {
             },
         };
         let mut text = Vec::new(alloc);
-        push_damage(&mut text, &damage)?;
+        given(push_damage(&mut text, &damage))?;
         assert_eq!(rt; text.as_slice(), wanted);
     }
     Ok(())

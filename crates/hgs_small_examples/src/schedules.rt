@@ -1,6 +1,5 @@
-// Schedules that are read, and the kind and the place of each fault. Places were worked out by hand.
-use hgs_index::kinds::Which;
-use hgs_input::fault::InputFault;
+// Schedules that are read.
+use crate::given::given;
 use hgs_model::command::Command;
 use hgs_schedule::event::Event;
 use hgs_schedule::schedule::read_schedule;
@@ -16,6 +15,7 @@ fn is_command(command: &Command, (kind, number, first, second): Row) -> bool {
                 && change.files.len() as u64 == number
                 && change.description.as_slice() == first
         }
+        Command::Import(_) => false,
         Command::Move { rev, phase, force } => {
             let kind_is = if *force { "force" } else { "phase" };
             kind == kind_is && phase.number() as u64 == number && rev.as_slice() == first
@@ -114,83 +114,11 @@ fn schedules(rt: HostRuntime) -> Result<(), Fail> {
         (EACH, 64, &EACH_ROWS),
         (b"play 2\nend\n", 2, &[]),
     ] {
-        let read = read_schedule(rt.alloc(), text)?;
-        assert_eq!(rt; read.readers, readers);
-        assert_eq!(rt; read.events.len(), rows.len());
+        let read = given(read_schedule(rt.alloc(), text))?;
+        assert!(rt; read.readers == readers && read.events.len() == rows.len());
         for (event, row) in read.events.as_slice().iter().zip(rows) {
             assert!(rt; is_event(event, *row));
         }
     }
     Ok(())
-}
-
-#[test]
-fn a_cut_schedule_names_its_length(rt: HostRuntime) {
-    for n in 0..219 {
-        let fault = read_schedule(rt.alloc(), &WITHIN_AN_ENTRY[..n]).err();
-        assert_eq!(rt; fault, Some(InputFault::BadInput(n as u64)));
-    }
-}
-
-const PLACES: [(&[u8], u64); 35] = [
-    // the number of readers: none, too many, a needless zero, no number
-    (b"play 0\nend\n", 0),
-    (b"play 65\nend\n", 0),
-    (b"play 01\nend\n", 0),
-    (b"play \nend\n", 0),
-    (b"plays 1\nend\n", 0),
-    // readers that there are not
-    (b"play 1\nload 1\nend\n", 7),
-    (b"play 2\nopen 2\n", 7),
-    (b"play 2\nread 01\n", 7),
-    (b"play 2\nlog\n", 7),
-    (b"play 2\nbookmarks 99999999999999999999999999\n", 7),
-    (b"play 1\ncat 1 tip a\n", 7),
-    (b"play 1\nphase 1 tip\n", 7),
-    // numbers of bytes
-    (b"play 1\nwrite 0\n", 7),
-    (b"play 1\nwrite \n", 7),
-    (b"play 1\nfail -1\n", 7),
-    (b"play 1\nfail\n", 7),
-    (b"play 1\nstop 00\n", 7),
-    // names: one too few, one too many, one that no bookmark has
-    (b"play 1\ncat 0 tip\n", 7),
-    (b"play 1\nphase 0 a b\n", 7),
-    (b"play 1\nphase 0\n", 7),
-    (b"play 1\nbegin phase tip\n", 7),
-    (b"play 1\nbegin phase tip drafts\n", 7),
-    (b"play 1\nbegin phase tip draft forced\n", 7),
-    (b"play 1\nbegin phase a b draft\n", 7),
-    (b"play 1\nbegin bookmark tip tip\n", 7),
-    (b"play 1\nbegin unbookmark 12\n", 7),
-    // no event at all
-    (b"play 1\n\nend\n", 7),
-    (b"play 1\nbegin commit \n", 7),
-    (b"play 1\nfinish\nuntil\n", 14),
-    // a record that is out of form, and that has another line behind its end; a byte behind the end of the schedule
-    (b"play 1\nbegin commit\nuser test\n", 20),
-    (b"play 1\nbegin commit\ncommit\nuser test\ndate 01 0\n", 37),
-    (
-        b"play 1\nbegin commit\ncommit\nuser u\ndate 0 0\ndesc 0\n\nend\ncommit\n",
-        55,
-    ),
-    (b"play 1\nend\nx", 11),
-    // a cut line has no fault but that
-    (b"play 1\nload 1", 13),
-    (b"play 1\nend", 10),
-];
-
-#[test]
-fn places(rt: HostRuntime) {
-    for (text, place) in PLACES {
-        let fault = read_schedule(rt.alloc(), text).err();
-        assert_eq!(rt; fault, Some(InputFault::BadInput(place)));
-    }
-}
-
-#[test]
-fn a_body_within_a_schedule_has_its_limit(rt: HostRuntime) {
-    let text = b"play 1\nbegin commit\ncommit\nuser u\ndate 0 0\ndesc 0\n\nfile - 16777219 a\n";
-    let fault = read_schedule(rt.alloc(), text).err();
-    assert_eq!(rt; fault, Some(InputFault::Limit(Which::FileText)));
 }

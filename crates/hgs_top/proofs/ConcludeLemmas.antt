@@ -11,9 +11,9 @@ use Rattle.hgs_load.specs.Answer.{status_of, refusal_line}
 use Rattle.hgs_top.specs.declared.stopped.Stopped.{Stopped}
 use Rattle.hgs_top.specs.declared.stopped.Stopped.TheVariants.{Refused, Unwritten}
 use Rattle.hgs_top.specs.declared.stopped.Said.{Said}
-use Rattle.hgs_top.specs.declared.stopped.Said.TheVariants.{Whole, UnknownRevision}
-use Rattle.hgs_top.specs.Outcome.{Outcome, Reply, told, unknown_revision}
-use Rattle.hgs_top.specs.Run.{IsReplied, IsCut, Answered, Ends, EndsLine, Concludes, Replied, fault_line, memory_line, unknown_line, status_of_ending, ending_of, status_of_sink}
+use Rattle.hgs_top.specs.declared.stopped.Said.TheVariants.{Whole, UnknownRevision, BadSet}
+use Rattle.hgs_top.specs.Outcome.{Outcome, Reply, told, unknown_revision, bad_set}
+use Rattle.hgs_top.specs.Run.{IsReplied, IsCut, Answered, Ends, EndsLine, Concludes, Replied, bad_set_line, fault_line, memory_line, unknown_line, status_of_ending, ending_of, status_of_sink}
 use Rattle.hgs_top.proofs.Written.{adds_on, cut_on, cut_more, nothing}
 
 -- a run that has no memory for its line says so
@@ -69,6 +69,7 @@ of_inside Faulted o first old new status e r w l =
 module _ (Faulted : Type 0) (o : Outcome) (first old new : Option (List ℕ)) (status : ℕ) where
   concluded : (r : Result Said Stopped) → (r ≡ Err (Refused Fault) → Faulted) → IsReplied (told o) first old r → Concludes r old new status → Answered Faulted o status first new
   concluded (Ok UnknownRevision) cause h c = absurd h
+  concluded (Ok (BadSet place)) cause h c = absurd h
   concluded (Ok Whole) cause h c =
       let P : Option (List ℕ) → Type 0 = λ n. IsWritten first n (o.text ++ ending_of o.refusal) in
       let Q : List ℕ → Type 0 = λ b. IsWritten first old b in
@@ -101,3 +102,17 @@ replied Faulted unknown_revision first old new status (Err (Refused NotAReposito
 replied Faulted unknown_revision first old new status (Err (Refused (Requirement w))) cause h c = absurd h
 replied Faulted unknown_revision first old new status (Err (Refused Memory)) cause h c = end_memory Faulted [] unknown_line 12 first old new status 0 (stays first old 0 h) c
 replied Faulted unknown_revision first old new status (Err (Unwritten f)) cause h c = absurd h
+replied Faulted unknown_revision first old new status (Ok (BadSet place)) cause h c = absurd h
+replied Faulted (bad_set place) first old new status (Ok Whole) cause h c = absurd h
+replied Faulted (bad_set place) first old new status (Ok UnknownRevision) cause h c = absurd h
+replied Faulted (bad_set place) first old new status (Ok (BadSet at)) cause h c =
+    let P : ℕ → Type 0 = λ p. EndsLine (bad_set_line p) 33 status old new in
+    end_whole Faulted [] (bad_set_line place) 33 first old new status (stays first old 0 h.1) (subst P h.0 c)
+replied Faulted (bad_set place) first old new status (Err (Refused (Damaged d))) cause h c = absurd h
+replied Faulted (bad_set place) first old new status (Err (Refused Fault)) cause h c = end_fault Faulted [] (bad_set_line place) 33 first old new status (cause refl) 0 (stays first old 0 h) c
+replied Faulted (bad_set place) first old new status (Err (Refused (Limit w))) cause h c = absurd h
+replied Faulted (bad_set place) first old new status (Err (Refused UnknownPath)) cause h c = absurd h
+replied Faulted (bad_set place) first old new status (Err (Refused NotARepository)) cause h c = absurd h
+replied Faulted (bad_set place) first old new status (Err (Refused (Requirement w))) cause h c = absurd h
+replied Faulted (bad_set place) first old new status (Err (Refused Memory)) cause h c = end_memory Faulted [] (bad_set_line place) 33 first old new status 0 (stays first old 0 h) c
+replied Faulted (bad_set place) first old new status (Err (Unwritten f)) cause h c = absurd h

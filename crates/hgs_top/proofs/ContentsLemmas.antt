@@ -17,11 +17,11 @@ use Rattle.hgs_top.specs.declared.stopped.Said.TheVariants.{Whole, UnknownRevisi
 use Rattle.hgs_top.specs.declared.stopped.Said.{Said}
 use Rattle.hgs_top.specs.declared.stopped.Stopped.{Stopped}
 use Rattle.hgs_top.specs.declared.stopped.Stopped.TheVariants.{Refused, Unwritten}
-use Rattle.hgs_top.specs.Outcome.{Outcome, Reply, Subject, told, unknown_revision, refused, text_outcome, contents_asks, contents_of_rev, contents_of_load, contents_reply}
+use Rattle.hgs_top.specs.Outcome.{Outcome, Reply, Subject, told, unknown_revision, bad_set, refused, text_outcome, contents_asks, contents_of_rev, contents_of_load, contents_reply}
 use Rattle.hgs_top.specs.Run.{OfTree, IsFrontWritten, IsCut, IsReplied, IsUnwritten}
 use Rattle.hgs_top.proofs.LogLemmas.{nothing_written}
 
-of_told : (seen : Option (List Op)) (start : Tree) (P : Tree → Type 0) → ((l : List Op) → seen ≡ Some l → P (after_all l start)) → OfTree seen start P
+pub of_told : (seen : Option (List Op)) (start : Tree) (P : Tree → Type 0) → ((l : List Op) → seen ≡ Some l → P (after_all l start)) → OfTree seen start P
 of_told None start P f = tt
 of_told (Some l) start P f = f l refl
 
@@ -31,8 +31,11 @@ told_is o p e = cc
 not_told : (o : Outcome) → unknown_revision ≡ told o → ⊥
 not_told o e = cc
 
+bad_not_told : (place : ℕ) (o : Outcome) → bad_set place ≡ told o → ⊥
+bad_not_told place o e = cc
+
 -- this is refused with nothing written
-refuse_with : (reply : Reply) (o : Option (List ℕ)) (e : ReadAnswer) → MatchBool (is_of_outside e) ⊤ (reply ≡ told (refused e)) → IsReplied reply o o (Err (Refused e))
+pub refuse_with : (reply : Reply) (o : Option (List ℕ)) (e : ReadAnswer) → MatchBool (is_of_outside e) ⊤ (reply ≡ told (refused e)) → IsReplied reply o o (Err (Refused e))
 refuse_with (told q) o e m = by (is_of_outside e) m
   where
     by : (b : Bool) → MatchBool b ⊤ (told q ≡ told (refused e)) → MatchBool b (IsFrontWritten o o q.text) ((q.refusal ≡ Some e) × IsWritten o o q.text)
@@ -46,6 +49,11 @@ refuse_with unknown_revision o e m = by (is_of_outside e) m
     by : (b : Bool) → MatchBool b ⊤ (unknown_revision ≡ told (refused e)) → MatchBool b (o ≡ o) ⊥
     by true m = refl
     by false m = not_told (refused e) m
+refuse_with (bad_set place) o e m = by (is_of_outside e) m
+  where
+    by : (b : Bool) → MatchBool b ⊤ (bad_set place ≡ told (refused e)) → MatchBool b (o ≡ o) ⊥
+    by true m = refl
+    by false m = bad_not_told place (refused e) m
 
 -- the loading was refused
 pub unopened_reply : (seen0 seen1 : Option (List Op)) (start : Tree) (name : List ℕ) (subject : Subject) (e : ReadAnswer) (o : Option (List ℕ)) → seen1 ≡ seen0 → Answers (λ (s : View). s) seen0 start seen1 open_asks (Err e)

@@ -31,6 +31,9 @@ module _ (f0 f1 d0 d1 : ℕ) where
   answer_fault (outcomes.NeedsForce rev) h e = absurd (omega (arith, e))
   answer_fault outcomes.Memory h e = absurd (omega (arith, e))
   answer_fault (outcomes.InTheWay path) h e = absurd (omega (arith, e))
+  answer_fault outcomes.UnknownPath h e = absurd (omega (arith, e))
+  answer_fault (outcomes.Unsettled rev node) h e = absurd (omega (arith, e))
+  answer_fault (outcomes.CopyOver path) h e = absurd (omega (arith, e))
 
   answer_unfinished : (o : Outcome) → AnswerHasCause f0 f1 d0 d1 o → answer_status o ≡ 17 → Rose f0 f1 ⊎ Rose d0 d1
   answer_unfinished (outcomes.Done rev node) h e = absurd (omega (arith, e))
@@ -47,6 +50,9 @@ module _ (f0 f1 d0 d1 : ℕ) where
   answer_unfinished (outcomes.NeedsForce rev) h e = absurd (omega (arith, e))
   answer_unfinished outcomes.Memory h e = absurd (omega (arith, e))
   answer_unfinished (outcomes.InTheWay path) h e = absurd (omega (arith, e))
+  answer_unfinished outcomes.UnknownPath h e = absurd (omega (arith, e))
+  answer_unfinished (outcomes.Unsettled rev node) h e = absurd (omega (arith, e))
+  answer_unfinished (outcomes.CopyOver path) h e = absurd (omega (arith, e))
 
   answer_input : (o : Outcome) → answer_status o ≡ 18 → ⊥
   answer_input (outcomes.Done rev node) e = omega (arith, e)
@@ -63,6 +69,9 @@ module _ (f0 f1 d0 d1 : ℕ) where
   answer_input (outcomes.NeedsForce rev) e = omega (arith, e)
   answer_input outcomes.Memory e = omega (arith, e)
   answer_input (outcomes.InTheWay path) e = omega (arith, e)
+  answer_input outcomes.UnknownPath e = omega (arith, e)
+  answer_input (outcomes.Unsettled rev node) e = omega (arith, e)
+  answer_input (outcomes.CopyOver path) e = omega (arith, e)
 
   recovered_fault : (r : RecoverAnswer) → RecoveredHasCause f0 f1 d0 d1 r → recover_status r ≡ 16 → Rose f0 f1
   recovered_fault recoveries.Restored h e = absurd (omega (arith, e))
@@ -170,7 +179,7 @@ module _ (status : ℕ) (ended : Ended) (said : IsOneOf (19 ∷ 30 ∷ ended_sta
 -- ---- the statuses
 
 abbrev pub statuses : List ℕ
-statuses = 0 ∷ 1 ∷ 10 ∷ 11 ∷ 12 ∷ 13 ∷ 14 ∷ 15 ∷ 16 ∷ 17 ∷ 18 ∷ 19 ∷ 20 ∷ 21 ∷ 22 ∷ 23 ∷ 24 ∷ 25 ∷ 26 ∷ 27 ∷ 30 ∷ 34 ∷ []
+statuses = 0 ∷ 1 ∷ 10 ∷ 11 ∷ 12 ∷ 13 ∷ 14 ∷ 15 ∷ 16 ∷ 17 ∷ 18 ∷ 19 ∷ 20 ∷ 21 ∷ 22 ∷ 23 ∷ 24 ∷ 25 ∷ 26 ∷ 27 ∷ 30 ∷ 31 ∷ 32 ∷ 34 ∷ []
 
 -- a number at this place of a list
 abbrev pub IsAt : ℕ → List ℕ → ℕ → Type 0
@@ -197,7 +206,10 @@ answer_among (outcomes.Collision path rev) = is_one 13 statuses 21 refl
 answer_among (outcomes.NameClash path) = is_one 14 statuses 22 refl
 answer_among (outcomes.NeedsForce rev) = is_one 18 statuses 26 refl
 answer_among outcomes.Memory = is_one 20 statuses 30 refl
-answer_among (outcomes.InTheWay path) = is_one 21 statuses 34 refl
+answer_among (outcomes.InTheWay path) = is_one 23 statuses 34 refl
+answer_among outcomes.UnknownPath = is_one 15 statuses 23 refl
+answer_among (outcomes.Unsettled rev node) = is_one 21 statuses 31 refl
+answer_among (outcomes.CopyOver path) = is_one 22 statuses 32 refl
 
 recovered_among : (r : RecoverAnswer) → IsOneOf statuses (recover_status r)
 recovered_among recoveries.Restored = is_one 0 statuses 0 refl
@@ -238,8 +250,8 @@ among-more [] ys x n h = inr h
 among-more (y ∷ xs) ys x n (inl h) = inl h
 among-more (y ∷ xs) ys x n (inr h) = inr (among-more xs ys x n h)
 
-pub with_findings : (n : ℕ) → IsOneOf statuses n → IsOneOf (0 ∷ 1 ∷ 10 ∷ 11 ∷ 12 ∷ 13 ∷ 14 ∷ 15 ∷ 16 ∷ 17 ∷ 18 ∷ 19 ∷ 20 ∷ 21 ∷ 22 ∷ 23 ∷ 24 ∷ 25 ∷ 26 ∷ 27 ∷ 29 ∷ 30 ∷ 34 ∷ []) n
-with_findings n h = among-more (0 ∷ 1 ∷ 10 ∷ 11 ∷ 12 ∷ 13 ∷ 14 ∷ 15 ∷ 16 ∷ 17 ∷ 18 ∷ 19 ∷ 20 ∷ 21 ∷ 22 ∷ 23 ∷ 24 ∷ 25 ∷ 26 ∷ 27 ∷ []) (30 ∷ 34 ∷ []) 29 n h
+pub with_findings : (n : ℕ) → IsOneOf statuses n → IsOneOf (0 ∷ 1 ∷ 10 ∷ 11 ∷ 12 ∷ 13 ∷ 14 ∷ 15 ∷ 16 ∷ 17 ∷ 18 ∷ 19 ∷ 20 ∷ 21 ∷ 22 ∷ 23 ∷ 24 ∷ 25 ∷ 26 ∷ 27 ∷ 29 ∷ 30 ∷ 31 ∷ 32 ∷ 34 ∷ []) n
+with_findings n h = among-more (0 ∷ 1 ∷ 10 ∷ 11 ∷ 12 ∷ 13 ∷ 14 ∷ 15 ∷ 16 ∷ 17 ∷ 18 ∷ 19 ∷ 20 ∷ 21 ∷ 22 ∷ 23 ∷ 24 ∷ 25 ∷ 26 ∷ 27 ∷ []) (30 ∷ 31 ∷ 32 ∷ 34 ∷ []) 29 n h
 
 pub not-made : (ended : Ended) → (ended ≡ Made → ⊥) → IsNotMade ended
 not-made Made h = h refl

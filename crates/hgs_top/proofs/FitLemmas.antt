@@ -73,10 +73,11 @@ about-fits : (name : List ℕ) (words : List (List ℕ)) → IfOk (about_named n
 about-fits name words =
     either (same name (codes "files")) _ _ (with-operands _ (operands false (operand_kinds.Any ∷ []) 1 words) (λ found h. tt))
     (either (same name (codes "cat")) _ _ (with-operands _ (operands false (operand_kinds.Any ∷ operand_kinds.Any ∷ []) 1 words) (λ found h. tt))
+    (either (same name (codes "revset")) _ _ (with-operands _ (operands false (operand_kinds.Any ∷ []) 1 words) (λ found h. tt))
     (either (same name (codes "phase")) _ _ (phase-fits (behind_word (codes "--force") words) words)
     (either (same name (codes "bookmark")) _ _ (bookmark-fits (behind_word (codes "--delete") words) words)
     (either (same name (codes "verify")) _ _ (verify-fits (behind_word (codes "--jobs") words) words)
-    (either (same name (codes "gen")) _ _ (with-operands _ (operands false (operand_kinds.Seed ∷ operand_kinds.Count ∷ []) 1 words) (λ found h. tt)) tt)))))
+    (either (same name (codes "gen")) _ _ (with-operands _ (operands false (operand_kinds.Seed ∷ operand_kinds.Count ∷ []) 1 words) (λ found h. tt)) tt))))))
 
 abbrev IsFitOption : Option Request → Type 0
 IsFitOption None = ⊤

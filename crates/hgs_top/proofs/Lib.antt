@@ -18,6 +18,7 @@ pub mod PlayLemmas
 pub mod ReplyLemmas
 pub mod ReadLemmas
 pub mod RepositoryLemmas
+pub mod SetLemmas
 pub mod ValidLemmas
 pub mod VerifiedLemmas
 pub mod WindowLemmas

@@ -1,6 +1,6 @@
 -- Over files that stand for a repository each question is answered as the repository is.
 use Rattle.std.proofs.Common.{◌≡◌, ℕ, zero, suc, ◌+◌, ◌<◌, List, [], ◌∷◌, ◌++◌, length, Option, Some, None, Result, Ok, Err, refl, sym, ◌∙◌, ap, subst, arith, append_assoc, append-nil}
-use Rattle.std.specs.Prelude.{slice_get, slice_index}
+use Rattle.std.specs.Prelude.{slice_get, slice_index, if◌then◌else◌}
 use Rattle.hgs_files.specs.declared.op.Op.{Op}
 use Rattle.hgs_files.specs.Tree.{Tree, after_all}
 use Rattle.hgs_model.specs.Names.{named as model_named}
@@ -19,10 +19,17 @@ use Rattle.hgs_reader.specs.Shown as reader_shown
 use Rattle.hgs_load.specs.View.{View}
 use Rattle.hgs_shown.specs.Answers.{IsReadable, body_answer, body_at, bookmarks_text, files_text_of, heads_text, log_line, log_lines, log_text, parents_text, phase_text, phase_word, tree_text}
 use Rattle.hgs_top.specs.declared.listing.Listing.TheVariants.{Heads, Bookmarks, Parents}
-use Rattle.hgs_top.specs.Outcome.{Outcome, Reply, Subject, told, its_files, its_file, its_phase, line_then, lines_down, log_of_view, log_outcome, listing_of_load, contents_of_load, contents_of_rev, contents_reply, phase_text as text_of_phase, text_outcome}
+use Rattle.hgs_top.specs.Outcome.{Outcome, Reply, Subject, told, unknown_revision, its_files, its_file, its_phase, line_then, lines_down, log_of_view, log_outcome, listing_of_load, contents_of_load, contents_of_rev, contents_reply, phase_text as text_of_phase, text_outcome}
+use Rattle.hgs_members.specs.Story.{story_of}
+use Rattle.hgs_revset.specs.Members.{Set, Story, is_known, story_of_repo, AreAlike}
+use Rattle.hgs_revset.specs.Read.{read_set}
+use Rattle.hgs_revset.specs.Text.{set_text}
+use Rattle.hgs_revset.specs.declared.fault.SetFault.{SetFault}
+use Rattle.hgs_top.specs.Sets.{set_of_load, set_reply, set_reply_of}
+use Rattle.hgs_top.proofs.SetLemmas.{set_at}
 use Rattle.hgs_top.specs.Repository.{body_reply, of_named, reply_of, said, SaysOfRepository}
 use Rattle.hgs_top.specs.Run.{OfReply, Replied, Says, reply_to}
-use Rattle.hgs_top.specs.Words.{Request, to_answer, to_do, to_play, to_session, to_verify, to_generate, Question, ask_page, ask_log, ask_heads, ask_bookmarks, ask_parents, ask_files, ask_cat, ask_phase}
+use Rattle.hgs_top.specs.Words.{Request, to_answer, to_do, to_play, to_session, to_verify, to_generate, Question, ask_page, ask_log, ask_heads, ask_bookmarks, ask_parents, ask_files, ask_cat, ask_phase, ask_set}
 
 -- what the crates below say of the answers
 pub record Laws : Type 0 where
@@ -37,6 +44,9 @@ pub record Laws : Type 0 where
   pub files : (t : Tree) (r : Repo) (view : View) → IsReadable t r → at_rest t open_asks ≡ Ok view → (rev : ℕ) (c : Changeset) → slice_get r.changesets rev ≡ Some c → at_rest t (files_asks view rev) ≡ Ok (tree_text r rev (Some c))
   pub body : (t : Tree) (r : Repo) (view : View) → IsReadable t r → at_rest t open_asks ≡ Ok view → (rev : ℕ) (c : Changeset) → slice_get r.changesets rev ≡ Some c → (path : List ℕ) → at_rest t (cat_asks view rev path) ≡ body_answer (body_at r rev path)
   pub there : (r : Repo) (name : List ℕ) (rev : ℕ) → IsRepo r → model_named r name ≡ Some rev → rev < length r.changesets
+  pub alike : (t : Tree) (r : Repo) (view : View) → IsReadable t r → at_rest t open_asks ≡ Ok view → AreAlike (story_of view) (story_of_repo r)
+  pub known : (s t : Story) (a : Set) → AreAlike s t → is_known s a ≡ is_known t a
+  pub lines : (s t : Story) (a : Set) → AreAlike s t → set_text s a ≡ set_text t a
 
 -- ---- log
 
@@ -124,6 +134,14 @@ module _ (laws : Laws) (t : Tree) (r : Repo) (s : IsReadable t r) (view : View) 
       low (x ∷ xs) zero c e = omega arith
       low (x ∷ xs) (suc rev) c e = let h = low xs rev c e in omega (arith, h)
 
+  set-reply : (a : Result Set SetFault) → set_reply a t ≡ set_reply_of a r
+  set-reply (Err fault) = refl
+  set-reply (Ok a) =
+      let same = laws.alike t r view s answered in
+      let shown = story_of view in
+      let own = story_of_repo r in
+      ap (set_of_load a) answered ∙ ap (λ b. if b then said (set_text shown a) else unknown_revision) (laws.known shown own a same) ∙ ap (λ text. if is_known own a then said text else unknown_revision) (laws.lines shown own a same)
+
   reply-of-view : (question : Question) → reply_to question t ≡ reply_of r question
   reply-of-view (ask_page page) = refl
   reply-of-view ask_log = ap told log-is
@@ -133,6 +151,7 @@ module _ (laws : Laws) (t : Tree) (r : Repo) (s : IsReadable t r) (view : View) 
   reply-of-view (ask_files name) = asked name its_files (λ rev. said (files_text_of r rev)) files-reply
   reply-of-view (ask_cat name path) = asked name (its_file path) (λ rev. body_reply (body_at r rev path)) (body-reply path)
   reply-of-view (ask_phase name) = asked name its_phase (λ rev. said (phase_text r rev)) phase-reply
+  reply-of-view (ask_set text) = set-reply (read_set text)
 
 pub reply-is : (laws : Laws) (t : Tree) (r : Repo) → IsReadable t r → (question : Question) → reply_to question t ≡ reply_of r question
 reply-is laws t r s question = let o = laws.opens t r s in reply-of-view laws t r s o.0 o.1 question
@@ -148,6 +167,7 @@ of-question Faulted ask_parents log start status old new h = h
 of-question Faulted (ask_files name) log start status old new h = h
 of-question Faulted (ask_cat name path) log start status old new h = h
 of-question Faulted (ask_phase name) log start status old new h = h
+of-question Faulted (ask_set text) log start status old new h = set_at (read_set text) log start (λ reply. Replied Faulted reply status old new) h
 
 pub says-of : ((t : Tree) (r : Repo) → IsReadable t r → (question : Question) → reply_to question t ≡ reply_of r question) → (Faulted : Type 0) (asked : Result Request ℕ) (log : Option (List Op)) (start : Tree) (status : ℕ) (old new : Option (List ℕ)) → Says Faulted asked log start status old new → SaysOfRepository Faulted asked log start status old new
 says-of law Faulted (Err place) log start status old new h = tt

@@ -8,6 +8,7 @@ pub mod Outcome
 pub mod Pages
 pub mod Repository
 pub mod Run
+pub mod Sets
 pub mod Verified
 pub mod Windows
 pub mod Words

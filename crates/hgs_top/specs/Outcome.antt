@@ -65,10 +65,11 @@ listing_outcome listing t = listing_of_load listing (at_rest t open_asks)
 
 -- ---- a question about one changeset
 
--- what a question is answered with: its text, or that its name names no revision
+-- what a question is answered with: its text, or that a name of it names no revision, or where its text is no set
 pub data Reply : Type 0 where
   told : Outcome → Reply
   unknown_revision : Reply
+  bad_set : ℕ → Reply
 
 abbrev pub text_outcome : Result (List ℕ) ReadAnswer → Outcome
 text_outcome (Err e) = refused e

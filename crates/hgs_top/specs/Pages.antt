@@ -19,6 +19,7 @@ page_lines Help =
     codes "  bookmarks                  name, number and node of each bookmark" ∷
     codes "  parents                    number and node of each working parent" ∷
     codes "  phase REV                  public, draft or secret" ∷
+    codes "  revset EXPR                number and node of each member of a set of changesets" ∷
     codes "  init                       makes an empty repository" ∷
     codes "  commit                     commits the record on standard input; bin/record prints one" ∷
     codes "  phase [--force] REV PHASE  sets a phase" ∷
@@ -51,7 +52,7 @@ page_lines Help =
     codes "  20  a limit is passed" ∷
     codes "  21  another text has the same node" ∷
     codes "  22  two paths would have the same files" ∷
-    codes "  23  the changeset has no such file" ∷
+    codes "  23  the changeset has no such file, or a copy's source is none of its parent's" ∷
     codes "  24  there is no repository here" ∷
     codes "  25  there is one already" ∷
     codes "  26  the phase is raised only by --force" ∷
@@ -59,6 +60,8 @@ page_lines Help =
     codes "  28  the words do not fit" ∷
     codes "  29  the repository has findings, a line for each: file, revision and kind" ∷
     codes "  30  there was no memory" ∷
+    codes "  32  a copy's path is that of a file of a parent" ∷
+    codes "  33  the text is no set of changesets" ∷
     codes "  34  a file that is not the store's is in the way" ∷
     codes "" ∷
     codes "More: man hg_store, and docs/ANSWERS.md." ∷ []

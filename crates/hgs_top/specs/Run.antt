@@ -12,11 +12,15 @@ use Rattle.hgs_load.specs.Answer.{status_of, refusal_line, is_of_outside}
 use Rattle.hgs_top.specs.declared.stopped.Stopped.{Stopped}
 use Rattle.hgs_top.specs.declared.stopped.Stopped.TheVariants.{Refused, Unwritten}
 use Rattle.hgs_top.specs.declared.stopped.Said.{Said}
-use Rattle.hgs_top.specs.declared.stopped.Said.TheVariants.{Whole, UnknownRevision}
-use Rattle.hgs_top.specs.Outcome.{Outcome, Reply, told, unknown_revision, its_files, its_file, its_phase, log_outcome, listing_outcome, contents_reply}
+use Rattle.hgs_top.specs.declared.stopped.Said.TheVariants.{Whole, UnknownRevision, BadSet}
+use Rattle.hgs_top.specs.Outcome.{Outcome, Reply, told, unknown_revision, bad_set, its_files, its_file, its_phase, log_outcome, listing_outcome, contents_reply}
 use Rattle.hgs_top.specs.declared.listing.Listing.TheVariants.{Heads, Bookmarks, Parents}
+use Rattle.hgs_revset.specs.Members.{Set}
+use Rattle.hgs_revset.specs.Read.{read_set}
+use Rattle.hgs_revset.specs.declared.fault.SetFault.{SetFault}
 use Rattle.hgs_top.specs.Pages.{page_outcome}
-use Rattle.hgs_top.specs.Words.{Question, ask_page, ask_log, ask_heads, ask_bookmarks, ask_parents, ask_files, ask_cat, ask_phase, Request, to_answer, to_do, to_play, to_session, to_verify, to_generate}
+use Rattle.hgs_top.specs.Sets.{set_refused, set_reply}
+use Rattle.hgs_top.specs.Words.{Question, ask_page, ask_log, ask_heads, ask_bookmarks, ask_parents, ask_files, ask_cat, ask_phase, ask_set, Request, to_answer, to_do, to_play, to_session, to_verify, to_generate}
 use Rattle.hgs_findings.specs.Findings.{Finding, IsReport}
 use Rattle.hgs_load.specs.Open.{requires_path}
 use Rattle.hgs_load.specs.Requirements.{requires_answer}
@@ -60,15 +64,22 @@ abbrev pub StopsAt : Stopped → ReadAnswer → Option (List ℕ) → Option (Li
 StopsAt (Refused e) refusal old new bytes = (e ≡ refusal) × IsWritten old new bytes
 StopsAt (Unwritten f) refusal old new bytes = IsCut old new bytes
 
--- the same of a reply: its text was told, or the name names no revision and nothing was written
+-- the same of a reply: its text was told, or a name names no revision or the text is no set and nothing was written
 abbrev pub IsReplied : Reply → Option (List ℕ) → Option (List ℕ) → Result Said Stopped → Type 0
 IsReplied (told o) old new (Ok Whole) = IsTold o old new (Ok tt)
 IsReplied (told o) old new (Ok UnknownRevision) = ⊥
+IsReplied (told o) old new (Ok (BadSet place)) = ⊥
 IsReplied (told o) old new (Err e) = IsTold o old new (Err e)
 IsReplied unknown_revision old new (Ok Whole) = ⊥
 IsReplied unknown_revision old new (Ok UnknownRevision) = new ≡ old
+IsReplied unknown_revision old new (Ok (BadSet place)) = ⊥
 IsReplied unknown_revision old new (Err (Refused e)) = MatchBool (is_of_outside e) (new ≡ old) ⊥
 IsReplied unknown_revision old new (Err (Unwritten f)) = ⊥
+IsReplied (bad_set place) old new (Ok Whole) = ⊥
+IsReplied (bad_set place) old new (Ok UnknownRevision) = ⊥
+IsReplied (bad_set place) old new (Ok (BadSet at)) = (at ≡ place) × (new ≡ old)
+IsReplied (bad_set place) old new (Err (Refused e)) = MatchBool (is_of_outside e) (new ≡ old) ⊥
+IsReplied (bad_set place) old new (Err (Unwritten f)) = ⊥
 
 -- ---- the whole run
 
@@ -130,17 +141,22 @@ SaysBadWord place status old new = EndsLine (bad_word_line place) 28 status old 
 abbrev pub unknown_line : List ℕ
 unknown_line = codes "abort: unknown revision" ++ 10 ∷ []
 
+abbrev pub bad_set_line : ℕ → List ℕ
+bad_set_line place = codes "abort: bad set at " ++ decimal place ++ 10 ∷ []
+
 -- what is said at the end of a command, and its status: nothing where it came to its end or the sink takes no more, else the line of its refusal
 abbrev pub Concludes : Result Said Stopped → Option (List ℕ) → Option (List ℕ) → ℕ → Type 0
 Concludes (Ok Whole) old new status = (status ≡ 0) × (new ≡ old)
 Concludes (Ok UnknownRevision) old new status = EndsLine unknown_line 12 status old new
+Concludes (Ok (BadSet place)) old new status = EndsLine (bad_set_line place) 33 status old new
 Concludes (Err (Refused e)) old new status = EndsLine (refusal_line e) (status_of e) status old new
 Concludes (Err (Unwritten f)) old new status = (status ≡ status_of_sink f) × (new ≡ old)
 
--- The run replied to the question: it answered it, or said that the name names no revision, unless the outside failed.
+-- The run replied to the question: it answered it, or said that a name names no revision, or where the text is no set, unless the outside failed.
 abbrev pub Replied : Type 0 → Reply → ℕ → Option (List ℕ) → Option (List ℕ) → Type 0
 Replied Faulted (told o) status old new = Answered Faulted o status old new
 Replied Faulted unknown_revision status old new = Ends Faulted [] unknown_line 12 status old new
+Replied Faulted (bad_set place) status old new = Ends Faulted [] (bad_set_line place) 33 status old new
 
 -- the reply over files in this tree
 abbrev pub reply_to : Question → Tree → Reply
@@ -152,10 +168,17 @@ reply_to ask_parents t = told (listing_outcome Parents t)
 reply_to (ask_files rev) t = contents_reply rev its_files t
 reply_to (ask_cat rev path) t = contents_reply rev (its_file path) t
 reply_to (ask_phase rev) t = contents_reply rev its_phase t
+reply_to (ask_set text) t = set_reply (read_set text) t
 
--- This holds of the reply to the question over the tree that the log leads to, where it is told. A page has one reply, whatever stands in the files.
+-- What no file decides holds as it is; what the files decide, over the tree that the log leads to, where it is told.
+abbrev pub OfSet : Result Set SetFault → Option (List Op) → Tree → (Reply → Type 0) → Type 0
+OfSet (Err fault) log start Holds = Holds (set_refused fault)
+OfSet (Ok a) log start Holds = OfTree log start (λ t. Holds (set_reply (Ok a) t))
+
+-- This holds of the reply to the question over the tree that the log leads to, where it is told. A page has one reply, whatever stands in the files, and so has a text that is no set.
 abbrev pub OfReply : Question → Option (List Op) → Tree → (Reply → Type 0) → Type 0
 OfReply (ask_page page) log start Holds = Holds (told (page_outcome page))
+OfReply (ask_set text) log start Holds = OfSet (read_set text) log start Holds
 OfReply question log start Holds = OfTree log start (λ t. Holds (reply_to question t))
 
 -- ---- a report

@@ -17,7 +17,7 @@ use Rattle.hgs_top.specs.declared.pages.Page.TheVariants.{Help, Version}
 use Rattle.hgs_top.specs.declared.words.Asked.{Asked}
 use Rattle.hgs_top.specs.declared.words.Asked.TheVariants as asked
 use Rattle.hgs_top.specs.declared.words.Command.{Command}
-use Rattle.hgs_top.specs.declared.words.Command.TheVariants.{Shown, Log, Heads, Bookmarks, Parents, Files, Cat, Phase as PhaseOf}
+use Rattle.hgs_top.specs.declared.words.Command.TheVariants.{Shown, Log, Heads, Bookmarks, Parents, Files, Cat, Phase as PhaseOf, Set as SetOf}
 
 abbrev pub with_operand : List ℕ → Result (List (List ℕ)) ℕ → Result (List (List ℕ)) ℕ
 with_operand word (Ok words) = Ok (word ∷ words)
@@ -82,6 +82,7 @@ pub data Question : Type 0 where
   ask_files : List ℕ → Question
   ask_cat : List ℕ → List ℕ → Question
   ask_phase : List ℕ → Question
+  ask_set : List ℕ → Question
 
 -- what a command does that changes files; revisions by their names
 pub data Job : Type 0 where
@@ -109,6 +110,7 @@ question_of Parents = ask_parents
 question_of (Files rev) = ask_files rev.now
 question_of (Cat rev path) = ask_cat rev.now path.now
 question_of (PhaseOf rev) = ask_phase rev.now
+question_of (SetOf text) = ask_set text.now
 
 abbrev pub job_of : Order → Job
 job_of orders.Init = do_init
@@ -194,6 +196,7 @@ abbrev pub about_named : List ℕ → List (List ℕ) → Result Request ℕ
 about_named name words =
     if same name (codes "files") then asked_with (λ w. to_answer (ask_files (operand w 0))) (operands false (operand_kinds.Any ∷ []) 1 words)
     else if same name (codes "cat") then asked_with (λ w. to_answer (ask_cat (operand w 0) (operand w 1))) (operands false (operand_kinds.Any ∷ operand_kinds.Any ∷ []) 1 words)
+    else if same name (codes "revset") then asked_with (λ w. to_answer (ask_set (operand w 0))) (operands false (operand_kinds.Any ∷ []) 1 words)
     else if same name (codes "phase") then phase_with (behind_word (codes "--force") words) words
     else if same name (codes "bookmark") then bookmark_with (behind_word (codes "--delete") words) words
     else if same name (codes "verify") then verify_with (behind_word (codes "--jobs") words) words

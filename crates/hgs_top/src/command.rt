@@ -6,13 +6,14 @@ ghost use Rattle.hgs_files.specs.declared.streams.IoFault.TheVariants.{Failed};
 ghost use Rattle.hgs_load.specs.declared.answer.ReadAnswer.TheVariants.{Fault};
 ghost use Rattle.hgs_load.specs.Answer.{refusal_line, status_of};
 ghost use Rattle.hgs_top.specs.Given.{question_reads, ReadsOnly};
-ghost use Rattle.hgs_top.specs.Run.{IsOneOf, OfReply, IsReplied, Replied, SaysBadWord, Concludes, bad_word_line, EndsLine, status_of_sink};
+ghost use Rattle.hgs_top.specs.Run.{IsOneOf, OfReply, IsReplied, Replied, SaysBadWord, Concludes, bad_set_line, bad_word_line, EndsLine, status_of_sink};
 ghost use Rattle.hgs_top.specs.Words.{question_of};
 
 use crate::contents::{About, write_contents};
 use crate::listing::{Listing, write_listing};
 use crate::log::{write_last, write_log};
 use crate::output::write_all;
+use crate::sets::write_set;
 use crate::stopped::{Said, Stopped};
 use crate::words::Command;
 use hgs_files::files::{Files, Reads};
@@ -83,17 +84,42 @@ pub fn refuse<K: Sink>(alloc: Global, refusal: &ReadAnswer, out: &mut K) -> u8
     }
 }
 
-// Says that no revision has the name, or why a command did not come to its end, if so, and gives the status.
+// The line of a text that is no set.
+fn bad_set(alloc: Global, place: usize) -> Result<Vec<u8>, AllocError>
+    ensures { IfOk result (λ line. line.items ≡ bad_set_line place) }
+{
+    let mut line = Vec::from_slice(alloc, b"abort: bad set at ")?;
+    push_number(&mut line, place as u64)?;
+    line.push(b'\n')?;
+    Ok(line)
+}
+
+// Says where a text is no set, and gives the status.
+fn refuse_set<K: Sink>(alloc: Global, place: usize, out: &mut K) -> u8
+    ensures line { EndsLine (bad_set_line place) 33 result (K.written out.old) (K.written out.new) }
+    ensures later { K.faults out.old ≤ K.faults out.new }
+    ensures sink { result ≡ 19 → Rose (K.faults out.old) (K.faults out.new) }
+    ensures statuses { IsOneOf (19 ∷ 30 ∷ 33 ∷ []) result }
+{
+    match bad_set(alloc, place) {
+        Ok(line) => end_with(out, &line, 33),
+        Err(_) => end_with(out, OUT_OF_MEMORY, 30),
+    }
+}
+
+// Says that no revision has a name, where a text is no set, or why a command did not come to its end, if so, and gives the
+// status.
 fn conclude<K: Sink>(alloc: Global, ended: Result<Said, Stopped>, out: &mut K) -> u8
     ensures concluded { Concludes ended (K.written out.old) (K.written out.new) result }
     ensures later { K.faults out.old ≤ K.faults out.new }
     ensures sink { ended ≢ Err (Stopped.Unwritten Failed) → result ≡ 19 → Rose (K.faults out.old) (K.faults out.new) }
     ensures fault { result ≡ 16 → ended ≡ Err (Stopped.Refused Fault) }
-    ensures statuses { IsOneOf (0 ∷ 12 ∷ 15 ∷ 16 ∷ 19 ∷ 20 ∷ 23 ∷ 24 ∷ 27 ∷ 30 ∷ []) result }
+    ensures statuses { IsOneOf (0 ∷ 12 ∷ 15 ∷ 16 ∷ 19 ∷ 20 ∷ 23 ∷ 24 ∷ 27 ∷ 30 ∷ 33 ∷ []) result }
 {
     match ended {
         Ok(Said::Whole) => 0,
         Ok(Said::UnknownRevision) => end_with(out, b"abort: unknown revision\n", 12),
+        Ok(Said::BadSet(place)) => refuse_set(alloc, place, out),
         Err(Stopped::Refused(refusal)) => refuse(alloc, &refusal, out),
         Err(Stopped::Unwritten(fault)) => status_of_fault(fault),
     }
@@ -134,6 +160,7 @@ fn answer<R: Reads, K: Sink>(
         Command::Files { rev } => write_contents(alloc, files, rev, About::Files, out),
         Command::Cat { rev, path } => write_contents(alloc, files, rev, About::Body(path), out),
         Command::Phase { rev } => write_contents(alloc, files, rev, About::AtPhase, out),
+        Command::Set { text } => write_set(alloc, files, text, out),
     }
 }
 
@@ -150,7 +177,7 @@ pub fn run_command<F: Files, K: Sink>(
     ensures given { ReadsOnly (F.given files.old) (F.given files.new) (F.seen files.old) (F.start files.old) (F.seen files.new) (question_reads (question_of command.entry)) }
     ensures log { F.log files.new ≡ F.log files.old }
     ensures same_start { F.start files.new ≡ F.start files.old }
-    ensures statuses { IsOneOf (0 ∷ 12 ∷ 15 ∷ 16 ∷ 19 ∷ 20 ∷ 23 ∷ 24 ∷ 27 ∷ 30 ∷ []) result }
+    ensures statuses { IsOneOf (0 ∷ 12 ∷ 15 ∷ 16 ∷ 19 ∷ 20 ∷ 23 ∷ 24 ∷ 27 ∷ 30 ∷ 33 ∷ []) result }
 {
     let ended = answer(alloc, command, files, out);
     conclude(alloc, ended, out)

@@ -76,6 +76,8 @@ pub fn replies_of_repository()
 {
     hgs_shown::answers::answers_of_repository();
     hgs_model::laws::named_is_there();
+    hgs_revset::laws::members_of_alike();
+    hgs_sets_shown::laws::views_tell_repositories();
 }
 
 /// A command that words and input give is one that a repository takes: each text of a commit is one that a record can hold, and

@@ -17,6 +17,7 @@ pub mod output;
 pub mod pages;
 pub mod play;
 pub mod run;
+pub mod sets;
 pub mod stopped;
 pub mod told;
 pub mod verified;

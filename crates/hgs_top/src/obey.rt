@@ -9,7 +9,7 @@ ghost use Rattle.hgs_files.specs.declared.op.Op.{Op};
 ghost use Rattle.hgs_index.specs.MarkName.{is_mark_name};
 ghost use Rattle.hgs_machine.specs.Carry.{tree_now};
 ghost use Rattle.hgs_machine.specs.Refusals.{WereRefused};
-ghost use Rattle.hgs_model.specs.Valid.{IsValid};
+ghost use Rattle.hgs_model.specs.Valid.{CanBeAsked};
 ghost use Rattle.hgs_model.specs.declared.command.Command.{Command as ModelCommand};
 ghost use Rattle.hgs_top.specs.Orders.{AllowedHasCause, ComesTo, HasCause, IsAllowed, IsAtEnd, IsCommandOf, IsFit, IsReadBy, LeavesEach, LeavesInput, LeftHasCause, ended_status, lock_text};
 ghost use Rattle.hgs_writer.specs.Refusals.{refusals_of};
@@ -40,7 +40,7 @@ pub(crate) const WHO: &[u8; 8] = b"hg-store";
 
 // The commit whose record stands on the input.
 fn commit_from<S: Source>(alloc: Global, input: &mut S) -> Result<Command, Ended>
-    ensures valid { IfOk result (λ command. IsValid command) }
+    ensures valid { IfOk result (λ command. CanBeAsked command) }
     ensures command { IfOk result (λ command. IsCommandOf do_commit (S.left input.old) command) }
     ensures refused { IfErr result (λ ended. (log : Option (List Op)) (start : Tree) → ComesTo do_commit (S.left input.old) log log start ended) }
     ensures whole { IfOk result (λ command. IsAtEnd (S.left input.new)) }
@@ -63,7 +63,7 @@ fn commit_from<S: Source>(alloc: Global, input: &mut S) -> Result<Command, Ended
 
 fn move_of(alloc: Global, rev: &[u8], phase: Phase, force: bool) -> Result<Command, AllocError>
     ensures command { IfOk result (λ command. (left : Option (List ℕ)) → IsCommandOf (do_move rev.now phase force) left command) }
-    ensures valid { IfOk result (λ command. IsValid command) }
+    ensures valid { IfOk result (λ command. CanBeAsked command) }
 {
     Ok(Command::Move {
         rev: Bytes::from_slice(alloc, rev)?,
@@ -75,7 +75,7 @@ fn move_of(alloc: Global, rev: &[u8], phase: Phase, force: bool) -> Result<Comma
 fn mark_of(alloc: Global, name: &[u8], rev: &[u8]) -> Result<Command, AllocError>
     requires { is_mark_name name.now ≡ true }
     ensures command { IfOk result (λ command. (left : Option (List ℕ)) → IsCommandOf (do_mark name.now rev.now) left command) }
-    ensures valid { IfOk result (λ command. IsValid command) }
+    ensures valid { IfOk result (λ command. CanBeAsked command) }
 {
     Ok(Command::Mark {
         name: Bytes::from_slice(alloc, name)?,
@@ -85,7 +85,7 @@ fn mark_of(alloc: Global, name: &[u8], rev: &[u8]) -> Result<Command, AllocError
 
 fn unmark_of(alloc: Global, name: &[u8]) -> Result<Command, AllocError>
     ensures command { IfOk result (λ command. (left : Option (List ℕ)) → IsCommandOf (do_unmark name.now) left command) }
-    ensures valid { IfOk result (λ command. IsValid command) }
+    ensures valid { IfOk result (λ command. CanBeAsked command) }
 {
     Ok(Command::Unmark {
         name: Bytes::from_slice(alloc, name)?,
@@ -94,7 +94,7 @@ fn unmark_of(alloc: Global, name: &[u8]) -> Result<Command, AllocError>
 
 // What a writer answers.
 fn written<F: Files>(alloc: Global, files: &mut F, command: &Command) -> Answer
-    requires valid { IsValid command.now }
+    requires valid { CanBeAsked command.now }
     requires allows { (log : List Op) → F.allows (F.start files.old) log }
     ensures log { GoesOn (F.log files.old) (F.log files.new) (IsWritten lock_text command.now (tree_now (F.log files.old) (F.start files.old)) result) }
     ensures fault { result.outcome ≡ Fault → Rose (F.faults files.old) (F.faults files.new) }
@@ -114,7 +114,7 @@ fn answer_to<F: Files>(
     files: &mut F,
     command: &Command,
 ) -> Result<Answer, ReadAnswer>
-    requires valid { IsValid command.now }
+    requires valid { CanBeAsked command.now }
     requires allows { (log : List Op) → F.allows (F.start files.old) log }
     ensures comes { IsAllowed command.now (F.log files.old) (F.log files.new) (F.start files.old) result }
     ensures calls { IfOk result (λ answer. WereRefused (refusals_of (is_some (F.log files.old)) answer) (F.faults files.old) (F.faults files.new) (F.denied files.old) (F.denied files.new)) }
@@ -130,7 +130,7 @@ fn answer_to<F: Files>(
 
 // Carries out a command over a repository of the profile.
 fn obey<F: Files>(alloc: Global, files: &mut F, command: Command) -> Ended
-    requires valid { IsValid command }
+    requires valid { CanBeAsked command }
     requires allows { (log : List Op) → F.allows (F.start files.old) log }
     ensures comes { (job : Job) (left : Option (List ℕ)) → IsCommandOf job left command → ComesTo job left (F.log files.old) (F.log files.new) (F.start files.old) result }
     ensures left { LeftHasCause (λ n. WereRefused n (F.faults files.old) (F.faults files.new) (F.denied files.old) (F.denied files.new)) (F.log files.old) (F.log files.new) (F.start files.old) result }
@@ -145,7 +145,7 @@ fn obey<F: Files>(alloc: Global, files: &mut F, command: Command) -> Ended
 
 // Carries out a command of words alone, if there was memory for it.
 fn obey_named<F: Files>(alloc: Global, files: &mut F, command: Result<Command, AllocError>) -> Ended
-    requires valid { IfOk command (λ command. IsValid command) }
+    requires valid { IfOk command (λ command. CanBeAsked command) }
     requires allows { (log : List Op) → F.allows (F.start files.old) log }
     ensures comes { (job : Job) → ((left : Option (List ℕ)) → (c : ModelCommand) × IsCommandOf job left c) → IfOk command (λ command. (left : Option (List ℕ)) → IsCommandOf job left command) → (left : Option (List ℕ)) → ComesTo job left (F.log files.old) (F.log files.new) (F.start files.old) result }
     ensures left { LeftHasCause (λ n. WereRefused n (F.faults files.old) (F.faults files.new) (F.denied files.old) (F.denied files.new)) (F.log files.old) (F.log files.new) (F.start files.old) result }

@@ -41,7 +41,7 @@ pub fn run_words<T: Threads + Sync, F: Files, S: Source, K: Sink, P: Progress>(
     requires alone { is_session (request_of_words (map string_bytes words.now)) ≡ false }
     ensures repository { SaysOfRepository (Rose (F.faults files.old) (F.faults files.new)) (request_of_words (map string_bytes words.now)) (F.log files.old) (F.start files.old) result (K.written out.old) (K.written out.new) }
     ensures says { Says (Rose (F.faults files.old) (F.faults files.new)) (request_of_words (map string_bytes words.now)) (F.log files.old) (F.start files.old) result (K.written out.old) (K.written out.new) }
-    ensures statuses { IsOneOf (0 ∷ 1 ∷ 10 ∷ 11 ∷ 12 ∷ 13 ∷ 14 ∷ 15 ∷ 16 ∷ 17 ∷ 18 ∷ 19 ∷ 20 ∷ 21 ∷ 22 ∷ 23 ∷ 24 ∷ 25 ∷ 26 ∷ 27 ∷ 28 ∷ 29 ∷ 30 ∷ 34 ∷ []) result }
+    ensures statuses { IsOneOf (0 ∷ 1 ∷ 10 ∷ 11 ∷ 12 ∷ 13 ∷ 14 ∷ 15 ∷ 16 ∷ 17 ∷ 18 ∷ 19 ∷ 20 ∷ 21 ∷ 22 ∷ 23 ∷ 24 ∷ 25 ∷ 26 ∷ 27 ∷ 28 ∷ 29 ∷ 30 ∷ 31 ∷ 32 ∷ 33 ∷ 34 ∷ []) result }
     ensures words { result ≡ 28 → (place : ℕ) × (request_of_words (map string_bytes words.now) ≡ Err place) }
     ensures fault { result ≡ 16 → Rose (F.faults files.old) (F.faults files.new) }
     ensures unfinished { result ≡ 17 → Rose (F.faults files.old) (F.faults files.new) ⊎ Rose (F.denied files.old) (F.denied files.new) }

@@ -16,6 +16,8 @@ pub enum Stopped {
 pub enum Said {
     /// All of its text.
     Whole,
-    /// Nothing, since no revision has the name.
+    /// Nothing, since no revision has the name, or one of the names.
     UnknownRevision,
+    /// Nothing, since the text is no set, from this place on.
+    BadSet(usize),
 }

@@ -4,7 +4,7 @@ ghost use Rattle.hgs_top.specs.Orders.{IsFitting};
 ghost use Rattle.std.specs.Option.{option_map};
 ghost use Rattle.std.specs.Result.{result_map_both};
 ghost use Rattle.std.specs.String.{string_bytes};
-ghost use Rattle.hgs_top.specs.Words.{operands_in, operand, asked_with, ask_files, ask_cat, moved_with, phase_with, bookmark_with, behind_word, to_answer, to_do, do_mark, do_unmark, to_generate, seed_of, count_of, verify_by, verify_with, request_of, request_named, alone_named, about_named, is_session, page_named, request_of_words};
+ghost use Rattle.hgs_top.specs.Words.{operands_in, operand, asked_with, ask_files, ask_cat, ask_set, moved_with, phase_with, bookmark_with, behind_word, to_answer, to_do, do_mark, do_unmark, to_generate, seed_of, count_of, verify_by, verify_with, request_of, request_named, alone_named, about_named, is_session, page_named, request_of_words};
 ghost use Rattle.hgs_top.specs.declared.operands.Operand.TheVariants as operand_kinds;
 
 use crate::operands::{
@@ -26,6 +26,8 @@ pub enum Command<'a> {
     Files { rev: &'a [u8] },
     Cat { rev: &'a [u8], path: &'a [u8] },
     Phase { rev: &'a [u8] },
+    /// The members of the set with this text.
+    Set { text: &'a [u8] },
 }
 
 /// What the words ask for.
@@ -76,6 +78,18 @@ fn cat_from(rest: Rest<'_>) -> Result<Asked<'_>, usize>
 {
     match two_operands(rest, Operand::Any, Operand::Any) {
         Ok((rev, path)) => Ok(Asked::Question(Command::Cat { rev, path })),
+        Err(place) => Err(place),
+    }
+}
+
+// `revset` with its operand.
+fn set_from(rest: Rest<'_>) -> Result<Asked<'_>, usize>
+    requires { rest.place + length rest.words.now < 2 ^ 64 }
+    ensures asked { result_map_both request_of (λ place. place) result ≡ asked_with (λ w. to_answer (ask_set (operand w 0))) (operands_in rest.entry (operand_kinds.Any ∷ [])) }
+    ensures fitting { IfOk result IsFitting }
+{
+    match one_operand(rest, Operand::Any) {
+        Ok(text) => Ok(Asked::Question(Command::Set { text })),
         Err(place) => Err(place),
     }
 }
@@ -238,6 +252,9 @@ fn about_named<'a>(name: &String, words: &'a [String]) -> Result<Asked<'a>, usiz
     }
     if equal(name, b"cat") {
         return cat_from(Rest::at(1, words));
+    }
+    if equal(name, b"revset") {
+        return set_from(Rest::at(1, words));
     }
     if equal(name, b"phase") {
         return phase_from(words);

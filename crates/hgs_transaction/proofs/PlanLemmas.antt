@@ -16,7 +16,7 @@ use Rattle.hgs_ops.specs.Replaced.{backup_put, new_put}
 use Rattle.hgs_transaction.specs.declared.assemble.Plan.{Plan}
 use Rattle.hgs_transaction.specs.declared.gathered.Gathered.{Gathered}
 use Rattle.hgs_transaction.specs.declared.parts.Change.{Change}
-use Rattle.hgs_transaction.specs.declared.parts.Change.TheVariants.{Append, Replace}
+use Rattle.hgs_transaction.specs.declared.parts.Change.TheVariants.{Append, Replace, MakeIndex, RenameIndex}
 use Rattle.hgs_transaction.specs.declared.parts.Parts.{Parts}
 use Rattle.hgs_transaction.specs.declared.parts.Replacing.{Replacing}
 use Rattle.hgs_transaction.specs.Assembled.{IsPlanOf, before_commit, preparing}
@@ -85,6 +85,8 @@ files-most : (changes : List Change) → length (replacings_of changes) ≤ leng
 files-most [] = omega arith
 files-most (Append a ∷ changes) = let most = files-most changes in omega arith
 files-most (Replace x ∷ changes) = let most = files-most changes in omega arith
+files-most (MakeIndex bytes ∷ changes) = let most = files-most changes in omega arith
+files-most (RenameIndex before ∷ changes) = let most = files-most changes in omega arith
 
 pub record Fits (p : Parts) (g : Gathered) : Type 0 where
   pub backups : All IsBackupLine g.backups.items
@@ -162,6 +164,8 @@ no-lines old new xs h paths = subst (All HasPath) (sym (h.journal ∙ ap (λ l. 
 pub in-store : (change : Change) → is_in_store change ≡ true → IsInStore change
 in-store (Append a) e = ap (λ front. front ++ drop 6 a.path) ((bytes_decides (codes "store/") (take 6 a.path)).0 e) ∙ take-append-drop 6 a.path
 in-store (Replace x) e = tt
+in-store (MakeIndex bytes) e = tt
+in-store (RenameIndex before) e = tt
 
 both-true : (a b : Bool) → (a && b) ≡ true → (a ≡ true) × (b ≡ true)
 both-true true b e = (refl, e)

@@ -13,9 +13,9 @@ use Rattle.hgs_index.specs.Revision.{Revision}
 use Rattle.hgs_model.specs.History.{history}
 use Rattle.hgs_model.specs.Repo.{Repo}
 use Rattle.hgs_model.specs.declared.command.Command.{Command}
-use Rattle.hgs_model.specs.declared.command.Command.TheVariants.{Commit, Move, Mark, Unmark}
+use Rattle.hgs_model.specs.declared.command.Command.TheVariants.{Commit, Import, Move, Mark, Unmark}
 use Rattle.hgs_ops.specs.Growth.{append_some, filelog_growth, filelogs_grow, grown, grows_inline, growth, new_chunks, new_data, new_entries, new_items, new_names, new_paths}
-use Rattle.hgs_ops.specs.Operations.{changes_before, publishing}
+use Rattle.hgs_ops.specs.Operations.{changes_before, new_changelog_index, new_changelog_path, publishing, roots_renamed}
 use Rattle.hgs_ops.specs.Replaced.{new_rename, new_roots, roots_change}
 use Rattle.hgs_path.specs.StoreName.{store_name}
 use Rattle.hgs_path.specs.declared.name.Ext.TheVariants.{I, D}
@@ -70,13 +70,15 @@ roots-in true next = refl
 roots-in false next = refl
 
 before-in : (t : Tree) (r next : Repo) (command : Command) → list_all op_in_store (changes_before t r command next) ≡ true
-before-in t r next (Commit n) = two (growth t r next) (if roots_change r next then new_rename (new_roots next) ∷ [] else []) (growth-in t r next) (roots-in (roots_change r next) next)
+before-in t r next (Commit n) = two (growth t r next) (roots_renamed r next) (growth-in t r next) (roots-in (roots_change r next) next)
+before-in t r next (Import changes) = two (growth t r next) (Create new_changelog_path (new_changelog_index t r next) ∷ roots_renamed r next) (growth-in t r next) (roots-in (roots_change r next) next)
 before-in t r next (Move rev phase force) = refl
 before-in t r next (Mark name rev) = refl
 before-in t r next (Unmark name) = refl
 
 publishing-in : (t : Tree) (r next : Repo) (command : Command) → op_in_store (publishing t r command next) ≡ true
 publishing-in t r next (Commit n) = refl
+publishing-in t r next (Import changes) = refl
 publishing-in t r next (Move rev phase force) = refl
 publishing-in t r next (Mark name rev) = refl
 publishing-in t r next (Unmark name) = refl
@@ -84,6 +86,8 @@ publishing-in t r next (Unmark name) = refl
 one-same : (change : Change) → is_in_store change ≡ op_in_store (change_op change)
 one-same (Change.Append a) = refl
 one-same (Change.Replace x) = refl
+one-same (Change.MakeIndex bytes) = refl
+one-same (Change.RenameIndex before) = refl
 
 all-same : (changes : List Change) → list_all is_in_store changes ≡ list_all op_in_store (map change_op changes)
 all-same [] = refl

@@ -1,13 +1,14 @@
 -- The plan of the parts of a transaction has the operations of that transaction.
 use Rattle.std.proofs.Common.{◌≡◌, ℕ, List, [], ◌∷◌, ◌++◌, length, drop, map, refl, sym, ◌∙◌, ap, append_assoc, append-nil}
-use Rattle.std.specs.Prelude.{is_some, unwrap_or, flat_map, if◌then◌else◌}
-use Rattle.std.specs.List.{AllByRecursion}
+use Rattle.std.specs.Prelude.{Bool, true, false, Option, Some, None, is_some, unwrap_or, flat_map, if◌then◌else◌, codes}
+use Rattle.std.specs.List.{AllByRecursion, cons_option, filter_map, list_all}
 use Rattle.std.proofs.Math.Seq.{drop-append_seam}
 use Rattle.std.proofs.lemmas.List.{map-append}
 use Rattle.std.proofs.lemmas.List.Elements.{filter_map-append}
 use Rattle.hgs_files.specs.declared.op.Op.{Op}
-use Rattle.hgs_files.specs.declared.op.Op.TheVariants.{Create, Remove}
+use Rattle.hgs_files.specs.declared.op.Op.TheVariants.{Cut, Rename, Remove, Create, Sync, Settle}
 use Rattle.hgs_files.specs.Tree.{Tree, bytes_at}
+use Rattle.hgs_bytes.specs.Bytes.{same as same_bytes}
 use Rattle.hgs_journal.specs.declared.backups.BackupLine.{BackupLine}
 use Rattle.hgs_journal.specs.declared.journal.JournalLine.{JournalLine}
 use Rattle.hgs_journal.specs.Names.{backup_name, backups_path, journal_path}
@@ -15,33 +16,101 @@ use Rattle.hgs_journal.specs.Texts.{backups_text, journal_text}
 use Rattle.hgs_journal.specs.Undo.{undo_list}
 use Rattle.hgs_model.specs.Repo.{Repo}
 use Rattle.hgs_model.specs.declared.command.Command.{Command}
-use Rattle.hgs_ops.specs.Operations.{backups_of, changes_before, journal_line_of, journal_lines, journal_of, lock_path, operations, publishing, removals, renames_after, transaction_of, wlock_path}
-use Rattle.hgs_ops.specs.Replaced.{Replacement, backup_line_of, backup_put, new_put, new_rename, replacements, standing_file}
+use Rattle.hgs_model.specs.declared.command.Command.TheVariants.{Commit, Import, Move, Mark, Unmark}
+use Rattle.hgs_ops.specs.Growth.{growth}
+use Rattle.hgs_ops.specs.Operations.{backups_of, changes_before, journal_line_of, journal_lines, journal_of, lock_path, new_changelog_index, new_changelog_path, operations, publishing, removals, renames_after, roots_renamed, transaction_of, wlock_path}
+use Rattle.hgs_ops.specs.Replaced.{Replacement, backup_line_of, backup_put, new_put, new_rename, new_roots, replacements, roots_change, standing_file}
+use Rattle.hgs_ops.specs.Theorems.CommitLemmas.{growth-appends}
+use Rattle.hgs_ops.specs.Theorems.CommitTree.{is_append}
+use Rattle.hgs_ops.specs.Theorems.ImportTree.{import-lines}
+use Rattle.hgs_ops.specs.Theorems.Touch.{and-left, and-right, never}
+use Rattle.hgs_stands.specs.Places.{changelog_index}
 use Rattle.hgs_transaction.specs.declared.assemble.Plan.{Plan}
 use Rattle.hgs_transaction.specs.declared.parts.Change.{Change}
-use Rattle.hgs_transaction.specs.declared.parts.Change.TheVariants.{Append, Replace}
+use Rattle.hgs_transaction.specs.declared.parts.Change.TheVariants.{Append, Replace, MakeIndex, RenameIndex}
 use Rattle.hgs_transaction.specs.declared.parts.Parts.{Parts}
+use Rattle.hgs_transaction.specs.declared.parts.ReplacedFile.{ReplacedFile}
+use Rattle.hgs_transaction.specs.declared.parts.ReplacedFile.TheVariants.{PhaseRoots, Dirstate, Bookmarks}
 use Rattle.hgs_transaction.specs.declared.parts.Replacing.{Replacing}
 use Rattle.hgs_transaction.specs.Assembled.{IsPlanOf, before_commit, before_publishing, ops_of, preparing}
 use Rattle.hgs_transaction.specs.OfTransaction.{ArePartsOf, IsOfTree}
-use Rattle.hgs_transaction.specs.Parts.{all_changes, backup_of, change_op, kept_of, lines_of, replacement_of, replacings_of}
+use Rattle.hgs_transaction.specs.Parts.{all_changes, backup_of, change_op, file_name, is_plain, kept_of, line_of, lines_of, replacement_of, replacings_of}
 
 -- ---- the journal
 
-lines-same : (t : Tree) (changes : List Change) → AllByRecursion (IsOfTree t) changes → lines_of changes ≡ journal_lines t (map change_op changes)
+-- the line of an operation, where the rename of the changelog's new index has that of an append to the index
+abbrev op_line : Tree → Op → Option JournalLine
+op_line t (Op.Append path bytes) = Some (record { name = drop 6 path; offset = length (bytes_at t path) })
+op_line t (Rename from to) = if same_bytes from new_changelog_path then Some (record { name = codes "00changelog.i"; offset = length (bytes_at t changelog_index) }) else None
+op_line t _ = None
+
+abbrev op_lines : Tree → List Op → List JournalLine
+op_lines t ops = filter_map (op_line t) ops
+
+replaced-quiet : (t : Tree) (file : ReplacedFile) (text : List ℕ) → op_line t (new_rename (record { plain = is_plain file; file = file_name file; text = text })) ≡ None
+replaced-quiet t PhaseRoots text = refl
+replaced-quiet t Dirstate text = refl
+replaced-quiet t Bookmarks text = refl
+
+line-same : (t : Tree) (change : Change) → IsOfTree t change → line_of change ≡ op_line t (change_op change)
+line-same t (Append a) h = ap (λ n. Some (record { name = drop 6 a.path; offset = n })) h
+line-same t (Replace x) h = sym (replaced-quiet t x.file x.text)
+line-same t (MakeIndex bytes) h = refl
+line-same t (RenameIndex before) h = ap (λ n. Some (record { name = codes "00changelog.i"; offset = n })) h
+
+lines-same : (t : Tree) (changes : List Change) → AllByRecursion (IsOfTree t) changes → lines_of changes ≡ op_lines t (map change_op changes)
 lines-same t [] h = refl
-lines-same t (Append a ∷ changes) h =
-    ap (λ n. record { name = drop 6 a.path; offset = n } ∷ lines_of changes) h.0
-    ∙ ap (λ ls. record { name = drop 6 a.path; offset = length (bytes_at t a.path) } ∷ ls) (lines-same t changes h.1)
-lines-same t (Replace x ∷ changes) h = lines-same t changes h.1
+lines-same t (change ∷ changes) h = ap (λ o. cons_option o (lines_of changes)) (line-same t change h.0) ∙ ap (cons_option (op_line t (change_op change))) (lines-same t changes h.1)
 
 renames-of : (xs : List Replacing) → map change_op (map (λ x. Replace x) xs) ≡ map (λ x. new_rename (replacement_of x)) xs
 renames-of [] = refl
 renames-of (x ∷ xs) = ap (λ ops. new_rename (replacement_of x) ∷ ops) (renames-of xs)
 
-renames-quiet : (t : Tree) (xs : List Replacing) → journal_lines t (map (λ x. new_rename (replacement_of x)) xs) ≡ []
+renames-quiet : (t : Tree) (xs : List Replacing) → op_lines t (map (λ x. new_rename (replacement_of x)) xs) ≡ []
 renames-quiet t [] = refl
-renames-quiet t (x ∷ xs) = renames-quiet t xs
+renames-quiet t (x ∷ xs) = ap (λ o. cons_option o (op_lines t (map (λ x. new_rename (replacement_of x)) xs))) (replaced-quiet t x.file x.text) ∙ renames-quiet t xs
+
+appends-same : (t : Tree) (ops : List Op) → list_all is_append ops ≡ true → op_lines t ops ≡ journal_lines t ops
+appends-same t [] e = refl
+appends-same t (op ∷ ops) e = ap (λ o. cons_option o (op_lines t ops)) (one op (and-left _ _ e)) ∙ ap (cons_option (journal_line_of t op)) (appends-same t ops (and-right (is_append op) _ e))
+  where
+    one : (op : Op) → is_append op ≡ true → op_line t op ≡ journal_line_of t op
+    one (Op.Append path bytes) e = refl
+    one (Cut path len) e = refl
+    one (Rename from to) e = never (sym e)
+    one (Remove path) e = refl
+    one (Create path bytes) e = refl
+    one (Sync path) e = refl
+    one Settle e = refl
+
+roots-same : (t : Tree) (r next : Repo) → op_lines t (roots_renamed r next) ≡ journal_lines t (roots_renamed r next)
+roots-same t r next = by (roots_change r next)
+  where
+    by : (b : Bool) → op_lines t (if b then new_rename (new_roots next) ∷ [] else []) ≡ journal_lines t (if b then new_rename (new_roots next) ∷ [] else [])
+    by true = refl
+    by false = refl
+
+-- the appends, what is made behind them, and the rename of the phase roots
+grown-same : (t : Tree) (r next : Repo) (made : List Op) → op_lines t made ≡ journal_lines t made → op_lines t (growth t r next ++ made) ≡ journal_lines t (growth t r next ++ made)
+grown-same t r next made e =
+    filter_map-append (op_line t) (growth t r next) made
+    ∙ ap (λ ls. ls ++ op_lines t made) (appends-same t (growth t r next) (growth-appends t r next))
+    ∙ ap (λ ls. journal_lines t (growth t r next) ++ ls) e
+    ∙ sym (filter_map-append (journal_line_of t) (growth t r next) made)
+
+before-same : (t : Tree) (r next : Repo) (command : Command) → op_lines t (changes_before t r command next) ≡ journal_lines t (changes_before t r command next)
+before-same t r next (Commit n) = grown-same t r next (roots_renamed r next) (roots-same t r next)
+before-same t r next (Import changes) = grown-same t r next (Create new_changelog_path (new_changelog_index t r next) ∷ roots_renamed r next) (roots-same t r next)
+before-same t r next (Move rev phase force) = refl
+before-same t r next (Mark name rev) = refl
+before-same t r next (Unmark name) = refl
+
+published-same : (t : Tree) (r next : Repo) (command : Command) → journal_lines t (changes_before t r command next) ++ op_lines t (publishing t r command next ∷ []) ≡ journal_of t r command next
+published-same t r next (Commit n) = sym (filter_map-append (journal_line_of t) (growth t r next ++ roots_renamed r next) (publishing t r (Commit n) next ∷ []))
+published-same t r next (Import changes) = sym (import-lines t r next changes)
+published-same t r next (Move rev phase force) = refl
+published-same t r next (Mark name rev) = refl
+published-same t r next (Unmark name) = refl
 
 -- ---- the replaced files
 
@@ -49,6 +118,8 @@ replaced-standing : (t : Tree) (changes : List Change) → AllByRecursion (IsOfT
 replaced-standing t [] h = tt
 replaced-standing t (Append a ∷ changes) h = replaced-standing t changes h.1
 replaced-standing t (Replace x ∷ changes) h = (h.0, replaced-standing t changes h.1)
+replaced-standing t (MakeIndex bytes ∷ changes) h = replaced-standing t changes h.1
+replaced-standing t (RenameIndex before ∷ changes) h = replaced-standing t changes h.1
 
 puts-of : (t : Tree) (xs : List Replacing) → AllByRecursion (λ (x : Replacing). x.standing ≡ standing_file t (replacement_of x)) xs
     → flat_map (λ (x : Replacing). backup_put (replacement_of x) x.standing) xs ≡ flat_map (λ (y : Replacement). backup_put y (standing_file t y)) (map replacement_of xs)
@@ -85,12 +156,13 @@ changes-of t r next command p h =
 
 journal-of : (t : Tree) (r next : Repo) (command : Command) (p : Parts) → ArePartsOf t r command next p → lines_of (all_changes p) ≡ journal_of t r command next
 journal-of t r next command p h =
-    let quiet : journal_lines t (renames_after command next) ≡ [] = ap (journal_lines t) (sym h.after) ∙ renames-quiet t p.after in
+    let quiet : op_lines t (renames_after command next) ≡ [] = ap (op_lines t) (sym h.after) ∙ renames-quiet t p.after in
     lines-same t (all_changes p) h.standing
-    ∙ ap (journal_lines t) (changes-of t r next command p h ∙ sym (append_assoc (changes_before t r command next) (publishing t r command next ∷ []) (renames_after command next)))
-    ∙ filter_map-append (journal_line_of t) (changes_before t r command next ++ publishing t r command next ∷ []) (renames_after command next)
-    ∙ ap (λ ls. journal_of t r command next ++ ls) quiet
-    ∙ append-nil (journal_of t r command next)
+    ∙ ap (op_lines t) (changes-of t r next command p h)
+    ∙ filter_map-append (op_line t) (changes_before t r command next) (publishing t r command next ∷ renames_after command next)
+    ∙ ap (λ ls. ls ++ op_lines t (publishing t r command next ∷ renames_after command next)) (before-same t r next command)
+    ∙ ap (λ ls. journal_lines t (changes_before t r command next) ++ cons_option (op_line t (publishing t r command next)) ls) quiet
+    ∙ published-same t r next command
 
 pub record Same (t : Tree) (r : Repo) (command : Command) (next : Repo) (p : Parts) : Type 0 where
   pub journal : lines_of (all_changes p) ≡ journal_of t r command next

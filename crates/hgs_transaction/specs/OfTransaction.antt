@@ -6,8 +6,9 @@ use Rattle.hgs_model.specs.Repo.{Repo}
 use Rattle.hgs_model.specs.declared.command.Command.{Command}
 use Rattle.hgs_ops.specs.Operations.{changes_before, publishing, renames_after}
 use Rattle.hgs_ops.specs.Replaced.{new_rename, replacements, standing_file}
+use Rattle.hgs_stands.specs.Places.{changelog_index}
 use Rattle.hgs_transaction.specs.declared.parts.Change.{Change}
-use Rattle.hgs_transaction.specs.declared.parts.Change.TheVariants.{Append, Replace}
+use Rattle.hgs_transaction.specs.declared.parts.Change.TheVariants.{Append, Replace, MakeIndex, RenameIndex}
 use Rattle.hgs_transaction.specs.declared.parts.Parts.{Parts}
 use Rattle.hgs_transaction.specs.Parts.{all_changes, change_op, replacement_of, replacings_of}
 
@@ -15,6 +16,8 @@ use Rattle.hgs_transaction.specs.Parts.{all_changes, change_op, replacement_of, 
 abbrev pub IsOfTree : Tree → Change → Type 0
 IsOfTree t (Append a) = a.before ≡ length (bytes_at t a.path)
 IsOfTree t (Replace x) = x.standing ≡ standing_file t (replacement_of x)
+IsOfTree t (MakeIndex bytes) = Unit {0}
+IsOfTree t (RenameIndex before) = before ≡ length (bytes_at t changelog_index)
 
 -- The parts of the transaction that takes a tree from a repository to the next one by a command: its appends and renames,
 -- its replaced files with their new texts, and what stands in the tree.

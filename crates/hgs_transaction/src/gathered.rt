@@ -3,9 +3,11 @@ ghost use Rattle.std.specs.Prelude.{◌≡◌, ◌∷◌, [], map, if◌then◌e
 ghost use Rattle.std.specs.List.{All, AllByRecursion};
 ghost use Rattle.hgs_journal.specs.Names.{backup_name, new_name, place};
 ghost use Rattle.hgs_journal.specs.Texts.{HasPath};
+ghost use Rattle.hgs_ops.specs.Operations.{new_changelog_path};
+ghost use Rattle.hgs_stands.specs.Places.{changelog_index};
 ghost use Rattle.hgs_transaction.specs.Gathered.{Adds, IsEmpty};
 ghost use Rattle.hgs_transaction.specs.Parts.{IsInStore, backup_of, file_name, is_plain};
-ghost use Rattle.hgs_transaction.specs.declared.parts.Change.TheVariants.{Append, Replace};
+ghost use Rattle.hgs_transaction.specs.declared.parts.Change.TheVariants.{Append, MakeIndex, RenameIndex, Replace};
 
 use crate::parts::{Appending, Change, ReplacedFile, Replacing};
 use hgs_bytes::bytes::Bytes;
@@ -20,7 +22,7 @@ use std::alloc::{AllocError, Global};
 /// What is gathered of changes.
 #[derive(Drop)]
 pub struct Gathered {
-    /// A line for each file that is appended to.
+    /// A line for each file that is appended to, and for the changelog's index where a new one takes its place.
     pub journal: Vec<JournalLine>,
     /// A line for each file that is replaced.
     pub backups: Vec<BackupLine>,
@@ -56,11 +58,35 @@ fn backup_line(alloc: Global, replacing: &Replacing) -> Result<BackupLine, Alloc
     })
 }
 
+/// The journal's line of a file of this name in the store.
+fn journal_line(alloc: Global, name: &[u8], before: u64) -> Result<JournalLine, AllocError>
+    ensures { IfOk result (λ line. line ≡ record { name = name.now; offset = before }) }
+{
+    Ok(JournalLine {
+        name: Bytes::from_slice(alloc, name)?,
+        offset: before,
+    })
+}
+
 /// The path of a file.
 fn path_from(alloc: Global, file: ReplacedFile) -> Result<StorePath, AllocError>
     ensures { IfOk result (λ path. path ≡ place (is_plain file) (file_name file)) }
 {
     path_of(alloc, file.is_plain(), file.name())
+}
+
+/// The path of the changelog's new index, from which it is renamed to the index.
+fn new_index_path(alloc: Global) -> Result<StorePath, AllocError>
+    ensures { IfOk result (λ path. path ≡ new_changelog_path) }
+{
+    path_of(alloc, false, b"00changelog.i.a")
+}
+
+/// The path of the changelog's index.
+fn index_path(alloc: Global) -> Result<StorePath, AllocError>
+    ensures { IfOk result (λ path. path ≡ changelog_index) }
+{
+    path_of(alloc, false, b"00changelog.i")
 }
 
 /// The path of a file's new text, from which it is renamed to the file.
@@ -96,11 +122,8 @@ impl Gathered {
             before,
             bytes,
         } = appending;
-        let name = Bytes::from_slice(alloc, past(path.bytes(), 6))?;
-        self.journal.push(JournalLine {
-            name,
-            offset: before,
-        })?;
+        let line = journal_line(alloc, past(path.bytes(), 6), before)?;
+        self.journal.push(line)?;
         self.ops.push(Op::Append { path, bytes })?;
         Ok(())
     }
@@ -126,6 +149,30 @@ impl Gathered {
         Ok(())
     }
 
+    /// Adds the making of a new index, whose bytes it takes over.
+    fn make_index(&mut self, alloc: Global, bytes: Bytes) -> Result<(), AllocError>
+        ensures adds { OnOk result (Adds self.old self.new (MakeIndex bytes ∷ [])) }
+        ensures journal { self.new.journal.items ≡ self.old.journal.items }
+    {
+        let path = new_index_path(alloc)?;
+        self.ops.push(Op::Create { path, bytes })?;
+        Ok(())
+    }
+
+    /// Adds the rename of the new index to the old one, which had this length.
+    fn rename_index(&mut self, alloc: Global, before: u64) -> Result<(), AllocError>
+        requires { All HasPath self.now.journal.items }
+        ensures adds { OnOk result (Adds self.old self.new (RenameIndex before ∷ [])) }
+        ensures paths { OnOk result (All HasPath self.new.journal.items) }
+    {
+        self.journal
+            .push(journal_line(alloc, b"00changelog.i", before)?)?;
+        let from = new_index_path(alloc)?;
+        let to = index_path(alloc)?;
+        self.ops.push(Op::Rename { from, to })?;
+        Ok(())
+    }
+
     /// Adds a change.
     pub fn add(&mut self, alloc: Global, change: Change) -> Result<(), AllocError>
         requires in_store { IsInStore change }
@@ -136,6 +183,8 @@ impl Gathered {
         match change {
             Change::Append(appending) => self.append(alloc, appending),
             Change::Replace(replacing) => self.replace(alloc, replacing),
+            Change::MakeIndex(bytes) => self.make_index(alloc, bytes),
+            Change::RenameIndex(before) => self.rename_index(alloc, before),
         }
     }
 

@@ -62,6 +62,10 @@ pub struct Replacing {
 pub enum Change {
     Append(Appending),
     Replace(Replacing),
+    /// A new index of the changelog is made beside the old one, whose bytes it begins with.
+    MakeIndex(Bytes),
+    /// The new index takes the place of the old one, which had this length, 0 where it was absent.
+    RenameIndex(u64),
 }
 
 impl Change {
@@ -71,17 +75,17 @@ impl Change {
     {
         match self {
             Change::Append(appending) => starts(appending.path.bytes(), b"store/"),
-            Change::Replace(_) => true,
+            Change::Replace(_) | Change::MakeIndex(_) | Change::RenameIndex(_) => true,
         }
     }
 
-    /// The length before of the file that is appended to, 0 for a file that is replaced.
+    /// The length before of the file that is appended to, 0 for every other change.
     pub fn length_before(&self) -> u64
         ensures { result ≡ length_before self.now }
     {
         match self {
             Change::Append(appending) => appending.before,
-            Change::Replace(_) => 0,
+            Change::Replace(_) | Change::MakeIndex(_) | Change::RenameIndex(_) => 0,
         }
     }
 }
@@ -171,7 +175,8 @@ impl Replacings {
 /// texts are renamed behind it.
 ///
 /// A commit appends, renames the phase roots where they change, publishes by the append of the changelog's new entry, and
-/// renames the dirstate and the bookmarks behind it. A phase or bookmark command is published by its one rename.
+/// renames the dirstate and the bookmarks behind it. An import makes a new index of the changelog and publishes by its
+/// rename, and is as a commit besides. A phase or bookmark command is published by its one rename.
 #[derive(Debug, Drop)]
 pub struct Parts {
     pub before: Changes,

@@ -108,6 +108,7 @@ fn add_stray_removals(alloc: Global, ops: &mut Vec<Op>) -> Result<(), AllocError
     add_removal(alloc, b"journal.backup.bookmarks", ops)?;
     add_removal(alloc, b"journal.new.bookmarks", ops)?;
     add_removal(alloc, b"journal.new.requires", ops)?;
+    add_removal(alloc, b"store/00changelog.i.a", ops)?;
     Ok(())
 }
 

@@ -28,12 +28,12 @@ ghost use Rattle.hgs_world.specs.declared.working.Working.{Working};
 
 use hgs_legal::laws::pieces_end;
 use hgs_machine::laws::{machines_go_on, machines_may_stop_anywhere, progress_stays};
-use hgs_pieces::laws::{
-    refusals_are_for_files, refusals_are_pieces, turned_away_writers_keep_open_trees,
-};
 use hgs_recover::laws::{nothing_but_leftovers_is_removed, recovering_leads_back};
 use hgs_stands::laws::requires_alone;
 use hgs_writer::laws::calls_leave_what_they_answer;
+use hgs_writer::piece_laws::{
+    refusals_are_for_files, refusals_are_pieces, turned_away_writers_keep_open_trees,
+};
 
 /// What a writer has done, and what an event makes it do more, is what it has done then: parts of operations, failures, and
 /// operations up to a goal, whatever events come.

@@ -2,6 +2,10 @@
 #![tactic(auto)]
 
 #[cfg(test)]
+mod files;
+#[cfg(test)]
+mod given;
+#[cfg(test)]
 mod loading;
 #[cfg(test)]
 mod machine;

@@ -1,6 +1,6 @@
 //! A store of one changeset with the file `a`, in memory. The nodes were computed with SHA-1 elsewhere.
-use hgs_files::files::Files;
-use hgs_files::path::StorePath;
+use crate::files::put;
+use crate::given::given;
 use hgs_loading::store::history;
 use hgs_loading::whole::test_requires;
 use hgs_mem::mem::MemFiles;
@@ -40,7 +40,7 @@ fn store(alloc: Global) -> Result<MemFiles, Fail> {
         (b"store/00manifest.i", MANIFEST),
         (b"store/00manifest.d", MANIFEST_CHUNK),
     ] {
-        files.put(&StorePath::new(alloc, path)?, bytes)?;
+        put(alloc, &mut files, path, bytes)?;
     }
     Ok(files)
 }
@@ -49,17 +49,19 @@ fn store(alloc: Global) -> Result<MemFiles, Fail> {
 fn a_store_is_loaded(rt: HostRuntime) -> Result<(), Fail> {
     let alloc = rt.alloc();
     let mut files = store(alloc)?;
-    test_requires(alloc, &mut files)?;
-    let loaded = history(alloc, &mut files)?;
-    assert!(rt; loaded.files.bookmarks.bytes.is_none());
-    assert_eq!(rt; loaded.files.bookmarks.bookmarks.len(), 0);
-    assert_eq!(rt; loaded.files.dirstate.dirstate.paths.len(), 1);
-    assert_eq!(rt; loaded.files.roots.roots.len(), 1);
-    assert!(rt; loaded.files.fncache.fncache.contains(b"a", Ext::D));
-    assert_eq!(rt; loaded.changelog.len(), 1);
-    assert_eq!(rt; loaded.manifest.len(), 1);
-    assert_eq!(rt; loaded.working.first, Some(0));
-    assert_eq!(rt; loaded.working.second, None);
-    assert_eq!(rt; loaded.phases.get(0), Phase::Draft);
+    given(test_requires(alloc, &mut files))?;
+    let loaded = given(history(alloc, &mut files))?;
+    assert!(rt;
+        loaded.files.bookmarks.bytes.is_none()
+            && loaded.files.bookmarks.bookmarks.len() == 0
+            && loaded.files.dirstate.dirstate.paths.len() == 1
+            && loaded.files.roots.roots.len() == 1
+            && loaded.files.fncache.fncache.contains(b"a", Ext::D)
+            && loaded.changelog.len() == 1
+            && loaded.manifest.len() == 1
+            && loaded.working.first == Some(0)
+            && loaded.working.second == None
+            && loaded.phases.get(0) == Phase::Draft
+    );
     Ok(())
 }

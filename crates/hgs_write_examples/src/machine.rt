@@ -3,9 +3,10 @@ ghost use Rattle.std.specs.Prelude.{IfOk};
 ghost use Rattle.hgs_files.specs.Tree.{Tree};
 ghost use Rattle.hgs_machine.specs.Planned.{IsPlanned};
 
+use crate::files::{put, store_path};
+use crate::given::given;
 use hgs_bytes::bytes::Bytes;
-use hgs_files::files::{Files, Reads};
-use hgs_files::path::StorePath;
+use hgs_files::files::Reads;
 use hgs_machine::carry::carry_out;
 use hgs_machine::ended::{Ended, Published, Short};
 use hgs_machine::laws::plans_can_be_carried_out;
@@ -20,10 +21,12 @@ fn plan_of(alloc: Global) -> Result<Plan, AllocError>
     ensures { IfOk result (λ plan. (t : Tree) → IsPlanned t plan) }
 {
     plans_can_be_carried_out();
+    let text = Bytes::from_slice(alloc, b"new")?;
+    let standing = Bytes::from_slice(alloc, b"old")?;
     let bookmarks = Replacing {
         file: ReplacedFile::Bookmarks,
-        text: Bytes::from_slice(alloc, b"new")?,
-        standing: Some(Bytes::from_slice(alloc, b"old")?),
+        text,
+        standing: Some(standing),
     };
     assemble(
         alloc,
@@ -35,6 +38,13 @@ fn plan_of(alloc: Global) -> Result<Plan, AllocError>
     )
 }
 
+/// The same plan, or the end of the test.
+fn planned(alloc: Global) -> Result<Plan, Fail>
+    ensures { IfOk result (λ plan. (t : Tree) → IsPlanned t plan) }
+{
+    given(plan_of(alloc))
+}
+
 /// Files with bookmarks and both locks.
 fn files_before(alloc: Global) -> Result<MemFiles, Fail> {
     let mut files = MemFiles::new(alloc)?;
@@ -44,30 +54,23 @@ fn files_before(alloc: Global) -> Result<MemFiles, Fail> {
     Ok(files)
 }
 
-fn put(alloc: Global, files: &mut MemFiles, path: &[u8], bytes: &[u8]) -> Result<(), Fail> {
-    files.put(&StorePath::new(alloc, path)?, bytes)?;
-    Ok(())
-}
-
 /// The bytes of a file, none where it is absent.
 fn bytes_of(alloc: Global, files: &mut MemFiles, path: &[u8]) -> Result<Option<Vec<u8>>, Fail> {
+    let path = store_path(alloc, path)?;
     let mut bytes = Vec::new(alloc);
-    match files.read(&StorePath::new(alloc, path)?, 0, 100, &mut bytes)? {
-        Some(_) => Ok(Some(bytes)),
-        None => Ok(None),
-    }
+    let read = given(files.read(&path, 0, 100, &mut bytes))?;
+    Ok(read.map(|_| bytes))
 }
 
 fn is_there(alloc: Global, files: &mut MemFiles, path: &[u8]) -> Result<bool, Fail> {
-    Ok(bytes_of(alloc, files, path)?.is_some())
+    let bytes = bytes_of(alloc, files, path)?;
+    Ok(bytes.is_some())
 }
 
 /// Whether the bookmarks have this text.
 fn reads(alloc: Global, files: &mut MemFiles, text: &[u8]) -> Result<bool, Fail> {
-    match bytes_of(alloc, files, b"bookmarks")? {
-        Some(bytes) => Ok(bytes.as_slice() == text),
-        None => Ok(false),
-    }
+    let bytes = bytes_of(alloc, files, b"bookmarks")?;
+    Ok(bytes.is_some_and(|bytes| bytes.as_slice() == text))
 }
 
 /// Whether the files stand as this end says: as before, as after, or with the journal.
@@ -110,21 +113,24 @@ fn is_one_left(alloc: Global, files: &mut MemFiles) -> Result<bool, Fail> {
 fn each_call_fails_in_turn(rt: HostRuntime) -> Result<(), Fail> {
     let alloc = rt.alloc();
     let mut ends = Vec::new(alloc);
-    for call in 0..17 {
+    for call in 0..18 {
         let mut files = files_before(alloc)?;
-        files.fail(files.calls().saturating_add(call), 1)?;
-        let ended = carry_out(&mut files, plan_of(alloc)?);
+        given(files.fail(files.calls().saturating_add(call), 1))?;
+        let plan = planned(alloc)?;
+        let ended = carry_out(&mut files, plan);
         let mut left = files.restart();
-        assert!(rt; stands_so(alloc, &mut left, ended)?);
-        let is_finished = !matches!(ended.outcome, Short::Unfinished(_));
-        assert!(rt; !is_finished || is_one_left(alloc, &mut left)?);
-        ends.push(match ended.outcome {
+        let stands = stands_so(alloc, &mut left, ended)?;
+        assert!(rt; stands);
+        let is_swept = is_one_left(alloc, &mut left)?;
+        assert!(rt; is_swept || matches!(ended.outcome, Short::Unfinished(_)));
+        let letter = match ended.outcome {
             Short::Fault => b'f',
             Short::Unfinished(_) => b'u',
             _ if ended.swept => b'd',
             _ => b'l',
-        })?;
+        };
+        ends.push(letter)?;
     }
-    assert_eq!(rt; ends.as_slice(), b"fffffulllllllllld".as_slice());
+    assert_eq!(rt; ends.as_slice(), b"fffffullllllllllld".as_slice());
     Ok(())
 }

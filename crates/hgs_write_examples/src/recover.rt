@@ -1,6 +1,7 @@
 //! Recovering over files in memory: a transaction that was left open, and each call that fails or stops in turn.
-use hgs_files::files::{Files, Reads};
-use hgs_files::path::StorePath;
+use crate::files::{put, store_path};
+use crate::given::given;
+use hgs_files::files::Reads;
 use hgs_mem::mem::MemFiles;
 use hgs_recover::answer::{RecoverAnswer, Recovered};
 use hgs_recover::recover::recover;
@@ -46,11 +47,6 @@ const BEFORE: [(&[u8], Option<&[u8]>); 10] = [
     (b"journal.backup.dirstate", None),
 ];
 
-fn put(alloc: Global, files: &mut MemFiles, path: &[u8], bytes: &[u8]) -> Result<(), Fail> {
-    files.put(&StorePath::new(alloc, path)?, bytes)?;
-    Ok(())
-}
-
 /// A transaction that was left open.
 fn open(alloc: Global) -> Result<MemFiles, Fail> {
     let mut files = MemFiles::new(alloc)?;
@@ -67,11 +63,13 @@ fn has(
     path: &[u8],
     wanted: Option<&[u8]>,
 ) -> Result<bool, Fail> {
+    let path = store_path(alloc, path)?;
     let mut bytes = Vec::new(alloc);
-    match files.read(&StorePath::new(alloc, path)?, 0, 100, &mut bytes)? {
-        Some(_) => Ok(wanted == Some(bytes.as_slice())),
-        None => Ok(wanted.is_none()),
-    }
+    let read = given(files.read(&path, 0, 100, &mut bytes))?;
+    Ok(match read {
+        Some(_) => wanted == Some(bytes.as_slice()),
+        None => wanted.is_none(),
+    })
 }
 
 /// Whether the files are those before the transaction.
@@ -86,7 +84,7 @@ fn is_before(alloc: Global, files: &mut MemFiles) -> Result<bool, Fail> {
 
 fn text_of(alloc: Global, recovered: &Recovered) -> Result<Vec<u8>, Fail> {
     let mut text = Vec::from_slice(alloc, b"> ")?;
-    recovered.print(alloc, &mut text)?;
+    given(recovered.print(alloc, &mut text))?;
     Ok(text)
 }
 
@@ -96,19 +94,20 @@ fn an_open_transaction_is_undone_once(rt: HostRuntime) -> Result<(), Fail> {
     let mut files = open(alloc)?;
     let first = recover(alloc, &mut files);
     assert_eq!(rt; first.status(), 0);
-    assert_eq!(rt;
-        text_of(alloc, &first)?.as_slice(),
-        b"> transaction undone\n".as_slice()
-    );
-    assert!(rt; is_before(alloc, &mut files)?);
+    let text = text_of(alloc, &first)?;
+    assert_eq!(rt; text.as_slice(), b"> transaction undone\n".as_slice());
+    let is_undone = is_before(alloc, &mut files)?;
+    assert!(rt; is_undone);
     put(alloc, &mut files, b"wlock", b"me")?;
     let second = recover(alloc, &mut files);
     assert_eq!(rt; second.status(), 1);
+    let text = text_of(alloc, &second)?;
     assert_eq!(rt;
-        text_of(alloc, &second)?.as_slice(),
+        text.as_slice(),
         b"> no interrupted transaction available\n".as_slice()
     );
-    assert!(rt; is_before(alloc, &mut files)?);
+    let is_undone = is_before(alloc, &mut files)?;
+    assert!(rt; is_undone);
     Ok(())
 }
 
@@ -124,20 +123,22 @@ fn recovers(alloc: Global, files: MemFiles) -> Result<bool, Fail> {
 fn each_call_fails_in_turn(rt: HostRuntime) -> Result<(), Fail> {
     let alloc = rt.alloc();
     let mut ends = Vec::new(alloc);
-    for call in 0..26 {
+    for call in 0..27 {
         let mut files = open(alloc)?;
-        files.fail(call, 1)?;
+        given(files.fail(call, 1))?;
         let recovered = recover(alloc, &mut files);
-        ends.push(match recovered.outcome {
+        let letter = match recovered.outcome {
             RecoverAnswer::Fault => b'f',
             RecoverAnswer::Unfinished => b'u',
             RecoverAnswer::Restored if recovered.swept => b'd',
             RecoverAnswer::Restored => b'l',
             _ => b'?',
-        })?;
-        assert!(rt; recovers(alloc, files)?);
+        };
+        ends.push(letter)?;
+        let is_undone = recovers(alloc, files)?;
+        assert!(rt; is_undone);
     }
-    assert_eq!(rt; ends.as_slice(), b"ffffffuuuuuuulllllllllllld".as_slice());
+    assert_eq!(rt; ends.as_slice(), b"ffffffuuuuuuullllllllllllld".as_slice());
     Ok(())
 }
 
@@ -168,9 +169,11 @@ fn what_cannot_be_removed_keeps_no_other(rt: HostRuntime) -> Result<(), Fail> {
     let alloc = rt.alloc();
     for call in 13..25 {
         let mut files = open(alloc)?;
-        files.fail(call, 1)?;
+        given(files.fail(call, 1))?;
         recover(alloc, &mut files);
-        assert!(rt; is_one_left(alloc, &mut files.restart())?);
+        let mut left = files.restart();
+        let is_swept = is_one_left(alloc, &mut left)?;
+        assert!(rt; is_swept);
     }
     Ok(())
 }
@@ -178,12 +181,13 @@ fn what_cannot_be_removed_keeps_no_other(rt: HostRuntime) -> Result<(), Fail> {
 #[test]
 fn each_call_stops_in_turn(rt: HostRuntime) -> Result<(), Fail> {
     let alloc = rt.alloc();
-    for call in 0..26 {
+    for call in 0..27 {
         for bytes in 0..7 {
             let mut files = open(alloc)?;
             files.stop(call, bytes);
             recover(alloc, &mut files);
-            assert!(rt; recovers(alloc, files)?);
+            let is_undone = recovers(alloc, files)?;
+            assert!(rt; is_undone);
         }
     }
     Ok(())
@@ -196,8 +200,9 @@ fn what_is_left_is_said(rt: HostRuntime) -> Result<(), Fail> {
         outcome: RecoverAnswer::NothingToDo,
         swept: false,
     };
+    let text = text_of(alloc, &recovered)?;
     assert_eq!(rt;
-        text_of(alloc, &recovered)?.as_slice(),
+        text.as_slice(),
         b"> no interrupted transaction available\nleftover files remain\n".as_slice()
     );
     Ok(())

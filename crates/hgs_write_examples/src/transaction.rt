@@ -1,7 +1,8 @@
 //! Whole transactions in words: a first commit of one file, and a bookmark that is set where bookmarks stand.
+use crate::files::store_path;
+use crate::given::given;
 use hgs_bytes::bytes::Bytes;
 use hgs_files::op::Op;
-use hgs_files::path::StorePath;
 use hgs_transaction::assemble::{Plan, assemble};
 use hgs_transaction::parts::{
     Appending, Change, Changes, Parts, ReplacedFile, Replacing, Replacings,
@@ -61,42 +62,57 @@ fn planned(alloc: Global, parts: Parts) -> Result<Option<Plan>, AllocError> {
 }
 
 fn appended(alloc: Global, path: &[u8], bytes: &[u8]) -> Result<Change, Fail> {
+    let path = store_path(alloc, path)?;
+    let bytes = Bytes::from_slice(alloc, bytes)?;
     Ok(Change::Append(Appending {
-        path: StorePath::new(alloc, path)?,
+        path,
         before: 0,
-        bytes: Bytes::from_slice(alloc, bytes)?,
+        bytes,
     }))
 }
+
+/// A file that is made.
+fn made(alloc: Global, file: ReplacedFile, text: &[u8]) -> Result<Replacing, Fail> {
+    let text = Bytes::from_slice(alloc, text)?;
+    Ok(Replacing {
+        file,
+        text,
+        standing: None,
+    })
+}
+
+/// What a first commit of one file `a` appends before it is published.
+const APPENDED: [(&[u8], &[u8]); 6] = [
+    (b"store/data/a.d", b"chunk"),
+    (b"store/data/a.i", b"entry"),
+    (b"store/fncache", b"names"),
+    (b"store/00manifest.d", b"chunk"),
+    (b"store/00manifest.i", b"entry"),
+    (b"store/00changelog.d", b"chunk"),
+];
 
 /// The parts of a first commit with one file `a`; its contents are named by what they are.
 fn first_commit(alloc: Global) -> Result<Parts, Fail> {
     let mut before = Vec::new(alloc);
-    before.push(appended(alloc, b"store/data/a.d", b"chunk")?)?;
-    before.push(appended(alloc, b"store/data/a.i", b"entry")?)?;
-    before.push(appended(alloc, b"store/fncache", b"names")?)?;
-    before.push(appended(alloc, b"store/00manifest.d", b"chunk")?)?;
-    before.push(appended(alloc, b"store/00manifest.i", b"entry")?)?;
-    before.push(appended(alloc, b"store/00changelog.d", b"chunk")?)?;
-    before.push(Change::Replace(Replacing {
-        file: ReplacedFile::PhaseRoots,
-        text: Bytes::from_slice(alloc, b"roots")?,
-        standing: None,
-    }))?;
+    for (path, bytes) in APPENDED {
+        let change = appended(alloc, path, bytes)?;
+        before.push(change)?;
+    }
+    let roots = made(alloc, ReplacedFile::PhaseRoots, b"roots")?;
+    before.push(Change::Replace(roots))?;
     let mut after = Vec::new(alloc);
-    after.push(Replacing {
-        file: ReplacedFile::Dirstate,
-        text: Bytes::from_slice(alloc, b"parents")?,
-        standing: None,
-    })?;
+    let parents = made(alloc, ReplacedFile::Dirstate, b"parents")?;
+    after.push(parents)?;
+    let publishing = appended(alloc, b"store/00changelog.i", b"entry")?;
     Ok(Parts {
         before: Changes::from_vec(before),
-        publishing: appended(alloc, b"store/00changelog.i", b"entry")?,
+        publishing,
         after: Replacings::from_vec(after),
     })
 }
 
 const FIRST_OPS: &[u8] =
-    b"create store/journal.new.phaseroots roots\ncreate journal.new.dirstate parents\ncreate store/journal.backupfiles 2\n\x00phaseroots\x00\x000\nplain\x00dirstate\x00\x000\n\ncreate store/journal data/a.d\x000\ndata/a.i\x000\nfncache\x000\n00manifest.d\x000\n00manifest.i\x000\n00changelog.d\x000\n00changelog.i\x000\n\nappend store/data/a.d chunk\nappend store/data/a.i entry\nappend store/fncache names\nappend store/00manifest.d chunk\nappend store/00manifest.i entry\nappend store/00changelog.d chunk\nrename store/journal.new.phaseroots store/phaseroots\nappend store/00changelog.i entry\nrename journal.new.dirstate dirstate\nremove store/journal\nremove store/journal.backupfiles\nremove store/journal.backup.phaseroots\nremove store/journal.new.phaseroots\nremove journal.backup.dirstate\nremove journal.new.dirstate\nremove journal.backup.bookmarks\nremove journal.new.bookmarks\nremove journal.new.requires\nremove store/lock\nremove wlock\n";
+    b"create store/journal.new.phaseroots roots\ncreate journal.new.dirstate parents\ncreate store/journal.backupfiles 2\n\x00phaseroots\x00\x000\nplain\x00dirstate\x00\x000\n\ncreate store/journal data/a.d\x000\ndata/a.i\x000\nfncache\x000\n00manifest.d\x000\n00manifest.i\x000\n00changelog.d\x000\n00changelog.i\x000\n\nappend store/data/a.d chunk\nappend store/data/a.i entry\nappend store/fncache names\nappend store/00manifest.d chunk\nappend store/00manifest.i entry\nappend store/00changelog.d chunk\nrename store/journal.new.phaseroots store/phaseroots\nappend store/00changelog.i entry\nrename journal.new.dirstate dirstate\nremove store/journal\nremove store/journal.backupfiles\nremove store/journal.backup.phaseroots\nremove store/journal.new.phaseroots\nremove journal.backup.dirstate\nremove journal.new.dirstate\nremove journal.backup.bookmarks\nremove journal.new.bookmarks\nremove journal.new.requires\nremove store/00changelog.i.a\nremove store/lock\nremove wlock\n";
 
 const FIRST_UNDO: &[u8] =
     b"remove store/00changelog.i\nremove store/00changelog.d\nremove store/00manifest.i\nremove store/00manifest.d\nremove store/fncache\nremove store/data/a.i\nremove store/data/a.d\nremove store/phaseroots\nremove dirstate\nremove store/journal\n";
@@ -107,15 +123,19 @@ fn a_first_commit(rt: HostRuntime) -> Result<(), Fail> {
     let Some(plan) = planned(rt.alloc(), parts)? else {
         panic!(rt; "a file is not in the store");
     };
-    assert_eq!(rt; words(rt.alloc(), &plan.ops)?.as_slice(), FIRST_OPS);
-    assert_eq!(rt; words(rt.alloc(), &plan.undo)?.as_slice(), FIRST_UNDO);
-    assert_eq!(rt; plan.publish, 11);
-    assert_eq!(rt; plan.commit, 13);
+    let ops = given(words(rt.alloc(), &plan.ops))?;
+    let undo = given(words(rt.alloc(), &plan.undo))?;
+    assert!(rt;
+        ops.as_slice() == FIRST_OPS
+            && undo.as_slice() == FIRST_UNDO
+            && plan.publish == 11
+            && plan.commit == 13
+    );
     Ok(())
 }
 
 const BOOKMARK_OPS: &[u8] =
-    b"create journal.backup.bookmarks old\ncreate journal.new.bookmarks new\ncreate store/journal.backupfiles 2\nplain\x00bookmarks\x00journal.backup.bookmarks\x000\n\ncreate store/journal \nrename journal.new.bookmarks bookmarks\nremove store/journal\nremove store/journal.backupfiles\nremove store/journal.backup.phaseroots\nremove store/journal.new.phaseroots\nremove journal.backup.dirstate\nremove journal.new.dirstate\nremove journal.backup.bookmarks\nremove journal.new.bookmarks\nremove journal.new.requires\nremove store/lock\nremove wlock\n";
+    b"create journal.backup.bookmarks old\ncreate journal.new.bookmarks new\ncreate store/journal.backupfiles 2\nplain\x00bookmarks\x00journal.backup.bookmarks\x000\n\ncreate store/journal \nrename journal.new.bookmarks bookmarks\nremove store/journal\nremove store/journal.backupfiles\nremove store/journal.backup.phaseroots\nremove store/journal.new.phaseroots\nremove journal.backup.dirstate\nremove journal.new.dirstate\nremove journal.backup.bookmarks\nremove journal.new.bookmarks\nremove journal.new.requires\nremove store/00changelog.i.a\nremove store/lock\nremove wlock\n";
 
 const BOOKMARK_UNDO: &[u8] =
     b"create journal.new.bookmarks old\nrename journal.new.bookmarks bookmarks\nremove store/journal\n";
@@ -123,10 +143,12 @@ const BOOKMARK_UNDO: &[u8] =
 #[test]
 fn a_bookmark(rt: HostRuntime) -> Result<(), Fail> {
     let alloc = rt.alloc();
+    let text = Bytes::from_slice(alloc, b"new")?;
+    let standing = Bytes::from_slice(alloc, b"old")?;
     let bookmarks = Replacing {
         file: ReplacedFile::Bookmarks,
-        text: Bytes::from_slice(alloc, b"new")?,
-        standing: Some(Bytes::from_slice(alloc, b"old")?),
+        text,
+        standing: Some(standing),
     };
     let parts = Parts {
         before: Changes::from_vec(Vec::new(alloc)),
@@ -136,9 +158,13 @@ fn a_bookmark(rt: HostRuntime) -> Result<(), Fail> {
     let Some(plan) = planned(alloc, parts)? else {
         panic!(rt; "a file is not in the store");
     };
-    assert_eq!(rt; words(alloc, &plan.ops)?.as_slice(), BOOKMARK_OPS);
-    assert_eq!(rt; words(alloc, &plan.undo)?.as_slice(), BOOKMARK_UNDO);
-    assert_eq!(rt; plan.publish, 4);
-    assert_eq!(rt; plan.commit, 5);
+    let ops = given(words(alloc, &plan.ops))?;
+    let undo = given(words(alloc, &plan.undo))?;
+    assert!(rt;
+        ops.as_slice() == BOOKMARK_OPS
+            && undo.as_slice() == BOOKMARK_UNDO
+            && plan.publish == 4
+            && plan.commit == 5
+    );
     Ok(())
 }

@@ -22,14 +22,14 @@ use Rattle.hgs_model.specs.Repo.{Repo}
 use Rattle.hgs_model.specs.Step.{Next, step}
 use Rattle.hgs_model.specs.Valid.{IsNewChange, IsValid}
 use Rattle.hgs_model.specs.declared.command.Command.{Command}
-use Rattle.hgs_model.specs.declared.command.Command.TheVariants.{Commit, Mark, Move, Unmark}
+use Rattle.hgs_model.specs.declared.command.Command.TheVariants.{Commit, Import, Mark, Move, Unmark}
 use Rattle.hgs_model.specs.declared.command.NewChange.{NewChange}
 use Rattle.hgs_model.specs.declared.command.Refusal.{Refusal}
 use Rattle.hgs_model.specs.declared.command.Refusal.TheVariants as refusals
 use Rattle.hgs_ops.specs.Operations.{strays}
 use Rattle.hgs_ops.specs.Unhindered.{IsReady}
-use Rattle.hgs_planned.specs.Commits.{AnswersWith}
-use Rattle.hgs_pieces.specs.Made.{IsPieceOf}
+use Rattle.hgs_writer.specs.Commits.{AnswersWith}
+use Rattle.hgs_writer.specs.Made.{IsPieceOf}
 use Rattle.hgs_load.specs.declared.answer.ReadAnswer.{ReadAnswer}
 use Rattle.hgs_load.specs.declared.answer.ReadAnswer.TheVariants as reads
 use Rattle.hgs_stands.specs.Open.{IsOpen}
@@ -99,6 +99,8 @@ module _ (ends : (t : Tree) (r next : Repo) (log : List Op) → Stands t r → P
 -- a refusal of the command is answered as such
 refusal-answered : (r : Repo) (e : Refusal) (u : Tree) → Stands u r → IsAnswered r (Err e) (outcome_of_plan (plans.Refused e)) u
 refusal-answered r refusals.UnknownRevision u s = (refl, s)
+refusal-answered r refusals.UnknownPath u s = (refl, s)
+refusal-answered r (refusals.CopyOver path) u s = (refl, s)
 refusal-answered r (refusals.NeedsForce rev) u s = (refl, s)
 refusal-answered r (refusals.NothingChanged rev) u s = (refl, s)
 
@@ -149,6 +151,7 @@ module _ (laws : Below) where
   -- a step that is planned is the one that the repository makes
   pub planned-step : (u : Tree) (r : Repo) (l : Loaded) (command : Command) (step_is : Step) → IsFit command → Stands u r → IsLoadedOf u l → ComesTo u l command (Ok step_is) → IsStepFor u r command step_is
   planned-step u r l (Commit n) step_is fit s is comes = commit-step laws u r l n s is fit step_is comes.0
+  planned-step u r l (Import changes) step_is fit s is comes = absurd comes
   planned-step u r l (Move name to force) step_is fit s is comes = step-for u r (Move name to force) step_is (planned l (move_of l name to force)) (λ next. tt) comes (laws.moved u r l name to force s is)
   planned-step u r l (Mark mark name) step_is fit s is comes = step-for u r (Mark mark name) step_is (planned l (mark_of l mark name)) (λ next. tt) comes (laws.marked u r l mark name s is)
   planned-step u r l (Unmark mark) step_is fit s is comes = step-for u r (Unmark mark) step_is (planned l (unmark_of l mark)) (λ next. tt) comes (laws.unmarked u r l mark s is)
@@ -166,6 +169,7 @@ module _ (laws : Below) where
   refused-answered u r l (Commit n) (plans.NameClash p) v fit s is comes after = commit-answered u r l n (plans.NameClash p) v refl fit s is comes.0 after
   refused-answered u r l (Commit n) (plans.InTheWay p) v fit s is comes after = commit-answered u r l n (plans.InTheWay p) v refl fit s is comes.0 after
   refused-answered u r l (Commit n) (plans.Collision p rev) v fit s is comes after = commit-answered u r l n (plans.Collision p rev) v refl fit s is comes.0 after
+  refused-answered u r l (Import changes) fault v fit s is comes after = absurd comes
   refused-answered u r l (Move name to force) fault v fit s is comes after = given-answered u r (Move name to force) fault (step r (Move name to force)) (planned l (move_of l name to force)) v comes (laws.moved u r l name to force s is) after
   refused-answered u r l (Mark mark name) fault v fit s is comes after = given-answered u r (Mark mark name) fault (step r (Mark mark name)) (planned l (mark_of l mark name)) v comes (laws.marked u r l mark name s is) after
   refused-answered u r l (Unmark mark) fault v fit s is comes after = given-answered u r (Unmark mark) fault (step r (Unmark mark)) (planned l (unmark_of l mark)) v comes (laws.unmarked u r l mark s is) after

@@ -19,7 +19,7 @@ use Rattle.hgs_machine.specs.declared.locks.LockRefusal.TheVariants as locked
 use Rattle.hgs_model.specs.declared.command.Command.{Command}
 use Rattle.hgs_model.specs.declared.command.Refusal.{Refusal}
 use Rattle.hgs_model.specs.declared.command.Refusal.TheVariants as refusals
-use Rattle.hgs_pieces.specs.Made.{HasNoLocks, HasNoStrays, IsOver}
+use Rattle.hgs_writer.specs.Made.{HasNoLocks, HasNoStrays, IsOver}
 use Rattle.hgs_load.specs.declared.answer.ReadAnswer.{ReadAnswer}
 use Rattle.hgs_load.specs.declared.answer.ReadAnswer.TheVariants as reads
 use Rattle.hgs_steps.specs.declared.fault.PlanFault.{PlanFault}
@@ -59,6 +59,8 @@ read-not-held reads.Memory holder e = cc
 
 refusal-not-held : (refusal : Refusal) (holder : Option (List ℕ)) → outcome_of_refusal refusal ≡ LockHeld holder → ⊥
 refusal-not-held refusals.UnknownRevision holder e = cc
+refusal-not-held refusals.UnknownPath holder e = cc
+refusal-not-held (refusals.CopyOver path) holder e = cc
 refusal-not-held (refusals.NeedsForce rev) holder e = cc
 refusal-not-held (refusals.NothingChanged rev) holder e = cc
 

@@ -21,7 +21,7 @@ use Rattle.hgs_model.specs.Repo.{Repo}
 use Rattle.hgs_model.specs.Step.{Next, step}
 use Rattle.hgs_model.specs.Valid.{IsNewChange, IsValid}
 use Rattle.hgs_model.specs.declared.command.Command.{Command}
-use Rattle.hgs_model.specs.declared.command.Command.TheVariants.{Commit, Mark, Move, Unmark}
+use Rattle.hgs_model.specs.declared.command.Command.TheVariants.{Commit, Import, Mark, Move, Unmark}
 use Rattle.hgs_model.specs.declared.command.NewChange.{NewChange}
 use Rattle.hgs_model.specs.declared.command.Refusal.{Refusal}
 use Rattle.hgs_ops.specs.Growth.{grows_inline}
@@ -31,9 +31,9 @@ use Rattle.hgs_path.specs.declared.name.Ext.{Ext}
 use Rattle.hgs_path.specs.declared.name.Ext.TheVariants.{I, D}
 use Rattle.hgs_path.specs.ListedNames.{names_of}
 use Rattle.hgs_path.specs.StoreName.{store_name}
-use Rattle.hgs_planned.specs.Commits.{AnswersWith, CanBeRead}
-use Rattle.hgs_planned.specs.Free.{HasRoomFor, IsFree, new_lines}
-use Rattle.hgs_planned.specs.Ready.{NeedsNoTest}
+use Rattle.hgs_writer.specs.Commits.{AnswersWith, CanBeRead}
+use Rattle.hgs_writer.specs.Free.{HasRoomFor, IsFree, new_lines}
+use Rattle.hgs_writer.specs.Ready.{NeedsNoTest}
 use Rattle.hgs_load.specs.Answer.{is_of_outside}
 use Rattle.hgs_load.specs.declared.answer.ReadAnswer.{ReadAnswer}
 use Rattle.hgs_loading.specs.Small.{most_fncache}
@@ -75,6 +75,7 @@ module _ (laws : Below) (t : Tree) (who : List ℕ) (locking : List Op) (locks :
 
   pub has-under-locks : (r : Repo) (command : Command) → HasWhatItNeeds t r command → HasWhatItNeeds (after_all locking t) r command
   has-under-locks r (Commit n) has = λ next e. needs-stay r next.0 (has next e)
+  has-under-locks r (Import changes) has = λ next e. needs-stay r next.0 (has next e)
   has-under-locks r (Move name to force) has = tt
   has-under-locks r (Mark mark name) has = tt
   has-under-locks r (Unmark mark) has = tt
@@ -87,6 +88,7 @@ module _ (laws : Below) (t : Tree) (who : List ℕ) (locking : List Op) (locks :
 
   pub reads-under-locks : (r : Repo) (command : Command) → ReadsWithin t r command → ReadsWithin (after_all locking t) r command
   reads-under-locks r (Commit n) within = (within.0, read-stays r within.1)
+  reads-under-locks r (Import changes) within = (within.0, read-stays r within.1)
   reads-under-locks r (Move name to force) within = tt
   reads-under-locks r (Mark mark name) within = tt
   reads-under-locks r (Unmark mark) within = tt
@@ -126,6 +128,7 @@ module _ (laws : Below) (t : Tree) (who : List ℕ) (locking : List Op) (locks :
 
   commit-before : (r : Repo) (command : Command) (stepped : Result Next Refusal) → IsCommitWithoutRoom (after_all locking t) r command stepped → IsCommitWithoutRoom t r command stepped
   commit-before r (Commit n) stepped lacks = lacks-before r stepped lacks
+  commit-before r (Import changes) stepped lacks = lacks-before r stepped lacks
   commit-before r (Move name to force) stepped lacks = lacks
   commit-before r (Mark mark name) stepped lacks = lacks
   commit-before r (Unmark mark) stepped lacks = lacks
@@ -136,6 +139,7 @@ module _ (laws : Below) (t : Tree) (who : List ℕ) (locking : List Op) (locks :
 
   limit-before : (r : Repo) (command : Command) (which : Which) (stepped : Result Next Refusal) → PassesLimit (after_all locking t) r command which stepped → PassesLimit t r command which stepped
   limit-before r (Commit n) which stepped passes = lacks-before r stepped passes
+  limit-before r (Import changes) which stepped passes = lacks-before r stepped passes
   limit-before r (Move name to force) which stepped passes = passed-before r which stepped passes
   limit-before r (Mark mark name) which stepped passes = passed-before r which stepped passes
   limit-before r (Unmark mark) which stepped passes = passed-before r which stepped passes
@@ -149,9 +153,12 @@ module _ (laws : Below) (t : Tree) (who : List ℕ) (locking : List Op) (locks :
   outcome-before r command stepped (outcomes.LockHeld holder) is = is
   outcome-before r command stepped outcomes.Abandoned is = is
   outcome-before r command stepped outcomes.UnknownRevision is = is
+  outcome-before r command stepped outcomes.UnknownPath is = is
+  outcome-before r command stepped (outcomes.CopyOver path) is = is
   outcome-before r command stepped (outcomes.NothingChanged rev) is = is
   outcome-before r command stepped (outcomes.Damaged damage) is = is
   outcome-before r command stepped outcomes.Fault is = is
+  outcome-before r command stepped (outcomes.Unsettled rev node) is = is
   outcome-before r command stepped (outcomes.Unfinished published) is = (is.0, sym form-stays ∙ is.1)
   outcome-before r command stepped (outcomes.NameClash path) is = is
   outcome-before r command stepped (outcomes.NeedsForce rev) is = is
@@ -166,12 +173,14 @@ IsFit command = Unit {0}
 
 pub valid-fit : (command : Command) → IsValid command → IsFit command
 valid-fit (Commit n) valid = valid
+valid-fit (Import changes) valid = tt
 valid-fit (Move name to force) valid = tt
 valid-fit (Mark mark name) valid = tt
 valid-fit (Unmark mark) valid = tt
 
 pub reads-fit : (t : Tree) (r : Repo) (command : Command) → ReadsWithin t r command → IsFit command
 reads-fit t r (Commit n) within = within.0
+reads-fit t r (Import changes) within = tt
 reads-fit t r (Move name to force) within = tt
 reads-fit t r (Mark mark name) within = tt
 reads-fit t r (Unmark mark) within = tt

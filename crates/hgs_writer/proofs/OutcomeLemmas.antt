@@ -23,7 +23,7 @@ use Rattle.hgs_model.specs.Repo.{Repo}
 use Rattle.hgs_model.specs.Step.{Next, step}
 use Rattle.hgs_model.specs.Valid.{IsNewChange}
 use Rattle.hgs_model.specs.declared.command.Command.{Command}
-use Rattle.hgs_model.specs.declared.command.Command.TheVariants.{Commit, Mark, Move, Unmark}
+use Rattle.hgs_model.specs.declared.command.Command.TheVariants.{Commit, Import, Mark, Move, Unmark}
 use Rattle.hgs_model.specs.declared.command.NewChange.{NewChange}
 use Rattle.hgs_model.specs.declared.command.Refusal.{Refusal}
 use Rattle.hgs_model.specs.declared.command.Refusal.TheVariants as refusals
@@ -38,7 +38,7 @@ use Rattle.hgs_load.specs.Open.{most_bookmarks_text, most_dirstate, most_roots}
 use Rattle.hgs_loading.specs.Small.{most_fncache}
 use Rattle.hgs_stands.specs.Stands.{Stands, has_inline_log}
 use Rattle.hgs_steps.specs.Fault.{is_memory}
-use Rattle.hgs_planned.specs.Commits.{AnswersWith}
+use Rattle.hgs_writer.specs.Commits.{AnswersWith}
 use Rattle.hgs_steps.specs.Planned.{AnswersAs, IsLoadedOf, passes_limit}
 use Rattle.hgs_steps.specs.Steps.{mark_of, move_of, planned, unmark_of}
 use Rattle.hgs_steps.specs.declared.loaded.Loaded.{Loaded}
@@ -75,6 +75,8 @@ within-locks files t r who locking locks within =
 
 refusal-outcome : (t : Tree) (r : Repo) (command : Command) (e : Refusal) → IsOutcomeOf t r command (Err e) (outcome_of_plan (plans.Refused e))
 refusal-outcome t r command refusals.UnknownRevision = refl
+refusal-outcome t r command refusals.UnknownPath = refl
+refusal-outcome t r command (refusals.CopyOver path) = refl
 refusal-outcome t r command (refusals.NeedsForce rev) = refl
 refusal-outcome t r command (refusals.NothingChanged rev) = refl
 
@@ -153,6 +155,7 @@ module _ (laws : Below) (files : FilesLaw) (reads_of : (t : Tree) (r : Repo) →
   refused-outcome u r l (Commit n) (plans.NameClash p) within s is comes = commit-outcome u r l n (plans.NameClash p) refl within.0 s is comes.0
   refused-outcome u r l (Commit n) (plans.InTheWay p) within s is comes = commit-outcome u r l n (plans.InTheWay p) refl within.0 s is comes.0
   refused-outcome u r l (Commit n) (plans.Collision p rev) within s is comes = commit-outcome u r l n (plans.Collision p rev) refl within.0 s is comes.0
+  refused-outcome u r l (Import changes) fault within s is comes = absurd comes
   refused-outcome u r l (Move name to force) fault within s is comes = given-outcome u r (Move name to force) fault (step r (Move name to force)) (planned l (move_of l name to force)) (λ which next e. e) comes (laws.moved u r l name to force s is)
   refused-outcome u r l (Mark mark name) fault within s is comes = given-outcome u r (Mark mark name) fault (step r (Mark mark name)) (planned l (mark_of l mark name)) (λ which next e. e) comes (laws.marked u r l mark name s is)
   refused-outcome u r l (Unmark mark) fault within s is comes = given-outcome u r (Unmark mark) fault (step r (Unmark mark)) (planned l (unmark_of l mark)) (λ which next e. e) comes (laws.unmarked u r l mark s is)
@@ -161,6 +164,7 @@ module _ (laws : Below) (files : FilesLaw) (reads_of : (t : Tree) (r : Repo) →
   fault-comes : (u : Tree) (r : Repo) (l : Loaded) (command : Command) (fault : CommitFault) → ReadsWithin u r command → Stands u r → IsLoadedOf u l → ComesTo u l command (Err fault) → IsOutcomeOf u r command (step r command) (outcome_of_commit fault)
   fault-comes u r l command (commits.Refused f) within s is comes = refused-outcome u r l command f within s is comes
   fault-comes u r l (Commit n) (commits.Unread e) within s is comes = unread-outcome u r l n e within s is comes.0
+  fault-comes u r l (Import changes) (commits.Unread e) within s is comes = absurd comes
   fault-comes u r l (Move name to force) (commits.Unread e) within s is comes = absurd comes
   fault-comes u r l (Mark mark name) (commits.Unread e) within s is comes = absurd comes
   fault-comes u r l (Unmark mark) (commits.Unread e) within s is comes = absurd comes

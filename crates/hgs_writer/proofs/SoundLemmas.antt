@@ -1,5 +1,5 @@
 -- The parts of a commit are sound.
-use Rattle.std.proofs.Common.{◌≡◌, ◌<◌, ◌*◌, ℕ, List, [], ◌∷◌, ◌++◌, Bool, true, false, ◌||◌, not, ◌&&◌, length, map, flat_map, codes, IfSome, Option, Some, None, refl, sym, ◌∙◌, ap, subst, arith}
+use Rattle.std.proofs.Common.{◌≡◌, ◌<◌, ◌*◌, ℕ, List, [], ◌∷◌, ◌++◌, Bool, true, false, ◌||◌, not, ◌&&◌, length, map, flat_map, codes, IfSome, Option, Some, None, refl, sym, ◌∙◌, ap, subst, append_assoc, arith}
 use Rattle.std.specs.List.{list_all, list_any}
 use Rattle.std.proofs.lemmas.List.Folds.{list_any-append}
 use Rattle.std.proofs.lemmas.List.Elements.{filter_map-append}
@@ -10,13 +10,13 @@ use Rattle.hgs_files.specs.declared.op.Op.TheVariants as ops
 use Rattle.hgs_files.specs.Tree.{Tree, bytes_at, same_path, touches}
 use Rattle.hgs_journal.specs.Names.{backups_path, journal_path}
 use Rattle.hgs_journal.specs.Texts.{backups_text, journal_text}
-use Rattle.hgs_machine.specs.Sound.{AreOnce, AreSound, IsPublished}
+use Rattle.hgs_machine.specs.Sound.{AreMadeFirst, AreOnce, AreSound, IsPublished}
 use Rattle.hgs_ops.specs.Replaced.{backup_put, new_put, new_rename}
 use Rattle.hgs_load.specs.View.{changelog_index}
 use Rattle.hgs_revlog.specs.Log.{Log}
 use Rattle.hgs_transaction.specs.Assembled.{before_publishing, preparing, texts_put}
 use Rattle.hgs_transaction.specs.declared.parts.Change.{Change}
-use Rattle.hgs_transaction.specs.declared.parts.Change.TheVariants.{Append, Replace}
+use Rattle.hgs_transaction.specs.declared.parts.Change.TheVariants.{Append, MakeIndex, RenameIndex, Replace}
 use Rattle.hgs_transaction.specs.declared.parts.Parts.{Parts}
 use Rattle.hgs_transaction.specs.declared.parts.ReplacedFile.{ReplacedFile}
 use Rattle.hgs_transaction.specs.declared.parts.ReplacedFile.TheVariants.{PhaseRoots, Dirstate, Bookmarks}
@@ -82,6 +82,8 @@ appends_free (Append a ∷ changes) h =
     let path = (both (begins_with a.path (codes "store/")) (not (same_path a.path changelog_index)) b.0).1 in
     or_false (same_path a.path changelog_index) (list_any touch (map change_op changes)) (is_false (same_path a.path changelog_index) path) (appends_free changes b.1)
 appends_free (Replace x ∷ changes) h = cc
+appends_free (MakeIndex bytes ∷ changes) h = cc
+appends_free (RenameIndex before ∷ changes) h = cc
 
 roots_free : (roots : Option Replacing) → list_any touch (map change_op (optional_replace roots)) ≡ false
 roots_free None = refl
@@ -99,6 +101,8 @@ none_replaced : (changes : List Change) → list_all is_beside changes ≡ true 
 none_replaced [] h = refl
 none_replaced (Append a ∷ changes) h = none_replaced changes (both (is_beside_path a.path) (list_all is_beside changes) h).1
 none_replaced (Replace x ∷ changes) h = cc
+none_replaced (MakeIndex bytes ∷ changes) h = cc
+none_replaced (RenameIndex before ∷ changes) h = cc
 
 all_replaced : (files : List Replacing) → replacings_of (map (λ x. Replace x) files) ≡ files
 all_replaced [] = refl
@@ -135,6 +139,8 @@ once (Some x) after r a = (roots_apart x after r a, after_once after a)
 publishing_none : (log : Log) (c : Change) → IsEntryBehind log c → replacings_of (c ∷ []) ≡ []
 publishing_none log (Append a) h = refl
 publishing_none log (Replace x) h = absurd h
+publishing_none log (MakeIndex bytes) h = absurd h
+publishing_none log (RenameIndex before) h = absurd h
 
 replaced : (log : Log) (p : Parts) (are : ArePartsOfCommit log p) → replacings_of (all_changes p) ≡ replacings_of (optional_replace are.roots) ++ p.after
 replaced log p are =
@@ -149,9 +155,41 @@ published t log p (Append a) h l free =
     let sized : 0 < length a.bytes = (let e = h.2 in omega (arith, e)) in
     (sized, h.1 ∙ sym l ∙ ap (λ q. length (bytes_at t q)) (sym h.0), ap (λ q. list_any (λ op. touches op q) (before_publishing p)) h.0 ∙ free)
 published t log p (Replace x) h l free = absurd h
+published t log p (MakeIndex bytes) h l free = absurd h
+published t log p (RenameIndex before) h l free = absurd h
+
+-- ---- no new index of the changelog is renamed
+
+appends_first : (changes more : List Change) → list_all is_beside changes ≡ true → AreMadeFirst false more → AreMadeFirst false (changes ++ more)
+appends_first [] more h first = first
+appends_first (Append a ∷ changes) more h first = appends_first changes more (both (is_beside_path a.path) (list_all is_beside changes) h).1 first
+appends_first (Replace x ∷ changes) more h first = cc
+appends_first (MakeIndex bytes ∷ changes) more h first = cc
+appends_first (RenameIndex before ∷ changes) more h first = cc
+
+replaced_first : (files : List Replacing) → AreMadeFirst false (map (λ x. Replace x) files)
+replaced_first [] = tt
+replaced_first (x ∷ files) = replaced_first files
+
+roots_first : (roots : Option Replacing) (more : List Change) → AreMadeFirst false more → AreMadeFirst false (optional_replace roots ++ more)
+roots_first None more first = first
+roots_first (Some x) more first = first
+
+publishing_first : (log : Log) (c : Change) (more : List Change) → IsEntryBehind log c → AreMadeFirst false more → AreMadeFirst false (c ∷ more)
+publishing_first log (Append a) more h first = first
+publishing_first log (Replace x) more h first = absurd h
+publishing_first log (MakeIndex bytes) more h first = absurd h
+publishing_first log (RenameIndex before) more h first = absurd h
+
+made_first : (log : Log) (p : Parts) → ArePartsOfCommit log p → AreMadeFirst false (all_changes p)
+made_first log p are =
+    let behind : List Change = p.publishing ∷ map (λ x. Replace x) p.after in
+    subst (AreMadeFirst false) (sym (ap (λ l. l ++ behind) are.before ∙ append_assoc are.appends (optional_replace are.roots) behind))
+    (appends_first are.appends (optional_replace are.roots ++ behind) are.beside (roots_first are.roots behind (publishing_first log p.publishing (map (λ x. Replace x) p.after) are.publishing (replaced_first p.after))))
 
 pub commit_sound : (t : Tree) (log : Log) (p : Parts) → ArePartsOfCommit log p → length (bytes_at t changelog_index) ≡ 64 * length log.entries → AreSound t p
 commit_sound t log p are l = record {
   once = subst AreOnce (sym (replaced log p are)) (once are.roots p.after are.are_roots are.after);
+  made = made_first log p are;
   publishing = published t log p p.publishing are.publishing l (before_free log p are);
 }

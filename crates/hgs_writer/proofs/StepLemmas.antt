@@ -14,7 +14,7 @@ use Rattle.hgs_steps.specs.Steps.{Accepted, alone, are_too_many, planned, step_w
 use Rattle.hgs_transaction.specs.declared.parts.Replacing.{Replacing}
 
 alone_sound : (t : Tree) (x : Replacing) → AreSound t (alone x)
-alone_sound t x = record { once = (refl, tt); publishing = tt }
+alone_sound t x = record { once = (refl, tt); made = tt; publishing = tt }
 
 step_is : (x y : Step) → (let a : Result Step PlanFault = Ok x in a ≡ Ok y) → x ≡ y
 step_is x y e = cc

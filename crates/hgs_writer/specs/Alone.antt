@@ -1,7 +1,7 @@
 -- What a call that was alone leaves of a tree that stands for a repository, by its answer.
 use Rattle.std.specs.Prelude.{◌≡◌, ◌⊎◌, ℕ, List, [], Bool, true, false, Result, Ok, Err, IsOk}
 use Rattle.hgs_answers.specs.declared.outcome.Outcome.{Outcome}
-use Rattle.hgs_answers.specs.declared.outcome.Outcome.TheVariants.{Done, LockHeld, Abandoned, UnknownRevision, NothingChanged, Fault, Unfinished, Limit, NameClash, InTheWay, Collision, NeedsForce, Memory}
+use Rattle.hgs_answers.specs.declared.outcome.Outcome.TheVariants.{Done, LockHeld, Abandoned, UnknownRevision, UnknownPath, CopyOver, NothingChanged, Fault, Unfinished, Limit, NameClash, InTheWay, Collision, NeedsForce, Memory, Unsettled}
 use Rattle.hgs_answers.specs.declared.outcome.Published.{Published}
 use Rattle.hgs_answers.specs.declared.outcome.Published.TheVariants.{No, Yes, Unknown}
 use Rattle.hgs_files.specs.declared.op.Op.{Op}
@@ -12,28 +12,30 @@ use Rattle.hgs_index.specs.declared.node.Node.{Node}
 use Rattle.hgs_legal.specs.Pieces.{LeavesJournal, Piece}
 use Rattle.hgs_model.specs.Repo.{Repo}
 use Rattle.hgs_model.specs.Step.{Next, step}
-use Rattle.hgs_model.specs.Valid.{IsNewChange}
+use Rattle.hgs_model.specs.Valid.{AreNewChanges, IsNewChange}
 use Rattle.hgs_model.specs.declared.command.Command.{Command}
-use Rattle.hgs_model.specs.declared.command.Command.TheVariants.{Commit}
+use Rattle.hgs_model.specs.declared.command.Command.TheVariants.{Commit, Import}
 use Rattle.hgs_model.specs.declared.command.Refusal.{Refusal}
 use Rattle.hgs_model.specs.declared.command.Refusal.TheVariants as refusals
 use Rattle.hgs_ops.specs.Operations.{strays}
 use Rattle.hgs_stands.specs.Open.{IsOpen}
 use Rattle.hgs_stands.specs.Stands.{Stands, has_inline_log}
 use Rattle.hgs_steps.specs.Planned.{passes_limit}
-use Rattle.hgs_planned.specs.Commits.{CanBeRead}
-use Rattle.hgs_planned.specs.Free.{IsFree}
-use Rattle.hgs_planned.specs.Ready.{NeedsNoTest}
+use Rattle.hgs_writer.specs.Commits.{CanBeRead}
+use Rattle.hgs_writer.specs.Free.{IsFree}
+use Rattle.hgs_writer.specs.Ready.{NeedsNoTest}
 
--- Where a commit is accepted, the tree has what it needs of it that no test tells. A phase or bookmark command needs nothing.
+-- Where a commit or an import is accepted, the tree has what it needs of it that no test tells. A phase or bookmark command needs nothing.
 abbrev pub HasWhatItNeeds : Tree → Repo → Command → Type 0
 HasWhatItNeeds t r (Commit n) = (next : Next) → step r (Commit n) ≡ Ok next → NeedsNoTest t r next.0
+HasWhatItNeeds t r (Import changes) = (next : Next) → step r (Import changes) ≡ Ok next → NeedsNoTest t r next.0
 HasWhatItNeeds t r command = Unit {0}
 
--- A record can hold the commit, and the trees and the filelogs that it reads are within the limits. Another command reads no more
--- than what is loaded for each.
+-- A record can hold the commit, or records the changesets of the import, and the trees and the filelogs that it reads are within the
+-- limits. Another command reads no more than what is loaded for each.
 abbrev pub ReadsWithin : Tree → Repo → Command → Type 0
 ReadsWithin t r (Commit n) = IsNewChange n × CanBeRead t r
+ReadsWithin t r (Import changes) = AreNewChanges changes × CanBeRead t r
 ReadsWithin t r command = Unit {0}
 
 -- The command was accepted, the tree stands for the next repository, and its changeset is answered.
@@ -52,10 +54,13 @@ IsLeftOpen r Unknown u = IsOpen strays u r
 abbrev pub IsAnswered : Repo → Result Next Refusal → Outcome → Tree → Type 0
 IsAnswered r stepped (Done rev node) u = IsDoneAs stepped rev node u
 IsAnswered r stepped UnknownRevision u = (stepped ≡ Err refusals.UnknownRevision) × Stands u r
+IsAnswered r stepped UnknownPath u = (stepped ≡ Err refusals.UnknownPath) × Stands u r
+IsAnswered r stepped (CopyOver path) u = (stepped ≡ Err (refusals.CopyOver path)) × Stands u r
 IsAnswered r stepped (NeedsForce rev) u = (stepped ≡ Err (refusals.NeedsForce rev)) × Stands u r
 IsAnswered r stepped (NothingChanged rev) u = (stepped ≡ Err (refusals.NothingChanged rev)) × Stands u r
 IsAnswered r stepped (Unfinished published) u = IsOk stepped × IsLeftOpen r published u
 IsAnswered r stepped Abandoned u = ⊥
+IsAnswered r stepped (Unsettled rev node) u = ⊥
 IsAnswered r stepped _ u = Stands u r
 
 -- What a stop within the call leaves, by what was done until then: where that is nothing or a piece that leads back, the
@@ -90,9 +95,10 @@ IsAccepted r passes stepped = (next : Next) × (stepped ≡ Ok next) × (passes_
 abbrev pub MayBeWritten : Tree → Repo → Result Next Refusal → Type 0
 MayBeWritten t r stepped = IsAccepted r false stepped × (has_inline_log t ≡ false)
 
--- The repository accepts the commit.
+-- The repository accepts the commit or the import.
 abbrev pub IsAcceptedCommit : Command → Result Next Refusal → Type 0
 IsAcceptedCommit (Commit n) stepped = IsOk stepped
+IsAcceptedCommit (Import changes) stepped = IsOk stepped
 IsAcceptedCommit command stepped = ⊥
 
 -- It does, and there is no room for it: a limit would be passed, a file stands in the way, or a node stands already.
@@ -102,6 +108,7 @@ LacksRoom t r (Ok next) = IsFree t r next.0 → ⊥
 
 abbrev pub IsCommitWithoutRoom : Tree → Repo → Command → Result Next Refusal → Type 0
 IsCommitWithoutRoom t r (Commit n) stepped = LacksRoom t r stepped
+IsCommitWithoutRoom t r (Import changes) stepped = LacksRoom t r stepped
 IsCommitWithoutRoom t r command stepped = ⊥
 
 -- The limit is passed: by the bookmarks, or by a changelog or manifest that is inline, to which no writer appends.
@@ -110,13 +117,14 @@ IsPassed t r which stepped =
     ((which ≡ Bookmarks) × IsAccepted r true stepped)
     ⊎ ((which ≡ Inline) × IsAccepted r false stepped × (has_inline_log t ≡ true))
 
--- It is passed for want of room for a commit, or so by another command.
+-- It is passed for want of room for a commit or an import, or so by another command.
 abbrev pub PassesLimit : Tree → Repo → Command → Which → Result Next Refusal → Type 0
 PassesLimit t r (Commit n) which stepped = LacksRoom t r stepped
+PassesLimit t r (Import changes) which stepped = LacksRoom t r stepped
 PassesLimit t r command which stepped = IsPassed t r which stepped
 
 -- What a command comes to where the files are within the limits: where the repository accepts it, it is done, or left
--- unfinished, or passes a limit, or if it is a commit there is no room for it, or it is told of a clash of names; else it is
+-- unfinished, or passes a limit, or if it is a commit or an import there is no room for it, or it is told of a clash of names; else it is
 -- refused as the repository refuses it. A lock that is held, a fault and want of memory may stand in place of each.
 abbrev pub IsOutcomeOf : Tree → Repo → Command → Result Next Refusal → Outcome → Type 0
 IsOutcomeOf t r command stepped (LockHeld holder) = Unit {0}
@@ -129,6 +137,8 @@ IsOutcomeOf t r command stepped (NameClash path) = IsAcceptedCommit command step
 IsOutcomeOf t r command stepped (InTheWay path) = IsCommitWithoutRoom t r command stepped
 IsOutcomeOf t r command stepped (Collision path rev) = IsCommitWithoutRoom t r command stepped
 IsOutcomeOf t r command stepped UnknownRevision = stepped ≡ Err refusals.UnknownRevision
+IsOutcomeOf t r command stepped UnknownPath = stepped ≡ Err refusals.UnknownPath
+IsOutcomeOf t r command stepped (CopyOver path) = stepped ≡ Err (refusals.CopyOver path)
 IsOutcomeOf t r command stepped (NeedsForce rev) = stepped ≡ Err (refusals.NeedsForce rev)
 IsOutcomeOf t r command stepped (NothingChanged rev) = stepped ≡ Err (refusals.NothingChanged rev)
 IsOutcomeOf t r command stepped _ = ⊥

@@ -19,11 +19,11 @@ use Rattle.hgs_model.specs.declared.phase.Phase.{Phase}
 use Rattle.hgs_ops.specs.Operations.{lock_path, strays, wlock_path}
 use Rattle.hgs_path.specs.declared.name.Ext.{Ext}
 use Rattle.hgs_path.specs.StoreName.{store_name}
-use Rattle.hgs_planned.specs.Commits.{AnswersAs as CommitAnswersAs}
+use Rattle.hgs_writer.specs.Commits.{AnswersAs as CommitAnswersAs}
 use Rattle.hgs_commit.specs.Commit.{commit_in}
 use Rattle.hgs_bytes.specs.Bytes.{same}
 use Rattle.hgs_ops.specs.Unhindered.{IsReady}
-use Rattle.hgs_pieces.specs.Made.{IsPieceOf}
+use Rattle.hgs_writer.specs.Made.{IsPieceOf}
 use Rattle.hgs_stands.specs.Open.{IsOpen}
 use Rattle.hgs_stands.specs.Stands.{Stands}
 use Rattle.hgs_steps.specs.Planned.{AnswersAs, IsLoadedOf}

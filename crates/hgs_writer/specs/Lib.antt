@@ -6,3 +6,15 @@ pub mod Outcomes
 pub mod Planning
 pub mod Refusals
 pub mod Written
+pub mod CommitsBelow
+pub mod Logs
+pub mod Files
+pub mod NewTexts
+pub mod Trees
+pub mod Growth
+pub mod Ready
+pub mod Commits
+pub mod StepsBelow
+pub mod Free
+pub mod Made
+pub mod Turns

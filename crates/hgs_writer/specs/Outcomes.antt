@@ -30,6 +30,8 @@ outcome_of_read _ = outcomes.Memory
 -- by the refusal of the command
 abbrev pub outcome_of_refusal : Refusal → Outcome
 outcome_of_refusal refusals.UnknownRevision = outcomes.UnknownRevision
+outcome_of_refusal refusals.UnknownPath = outcomes.UnknownPath
+outcome_of_refusal (refusals.CopyOver path) = outcomes.CopyOver path
 outcome_of_refusal (refusals.NeedsForce rev) = outcomes.NeedsForce rev
 outcome_of_refusal (refusals.NothingChanged rev) = outcomes.NothingChanged rev
 

@@ -8,7 +8,7 @@ use Rattle.hgs_commit.specs.declared.fault.CommitFault.TheVariants.{Unread, Refu
 use Rattle.hgs_files.specs.Tree.{Tree}
 use Rattle.hgs_loading.specs.Store.{Loaded as Read, loaded_in}
 use Rattle.hgs_model.specs.declared.command.Command.{Command}
-use Rattle.hgs_model.specs.declared.command.Command.TheVariants.{Commit, Move, Mark, Unmark}
+use Rattle.hgs_model.specs.declared.command.Command.TheVariants.{Commit, Import, Move, Mark, Unmark}
 use Rattle.hgs_path.specs.Fncache.{listing}
 use Rattle.hgs_load.specs.Answer.{is_of_outside}
 use Rattle.hgs_load.specs.Marks.{working_of}
@@ -42,9 +42,11 @@ GivesStep (Ok step) answer = answer ≡ Ok step
 GivesStep (Err (Unread e)) answer = ⊥
 GivesStep (Err (Refused fault)) answer = MatchBool (is_memory fault) ⊤ (answer ≡ Err fault)
 
--- What a command comes to by what was loaded of a tree; a commit also reads it. The parts of its step have a commit's shape.
+-- What a command comes to by what was loaded of a tree; a commit also reads it. The parts of its step have a commit's shape. No
+-- import comes to anything, since none can be asked for yet.
 abbrev pub ComesTo : Tree → Loaded → Command → Result Step CommitFault → Type 0
 ComesTo t l (Commit n) result = Steps l n t result × IfOk result (λ step. ArePartsOfCommit l.changelog step.parts)
+ComesTo t l (Import changes) result = ⊥
 ComesTo t l (Move rev phase force) result = GivesStep result (planned l (move_of l rev phase force))
 ComesTo t l (Mark name rev) result = GivesStep result (planned l (mark_of l name rev))
 ComesTo t l (Unmark name) result = GivesStep result (planned l (unmark_of l name))

@@ -34,6 +34,8 @@ fn of_refusal(refusal: Refusal) -> Outcome
 {
     match refusal {
         Refusal::UnknownRevision => Outcome::UnknownRevision,
+        Refusal::UnknownPath => Outcome::UnknownPath,
+        Refusal::CopyOver(path) => Outcome::CopyOver(path),
         Refusal::NeedsForce(rev) => Outcome::NeedsForce(rev),
         Refusal::NothingChanged(rev) => Outcome::NothingChanged(rev),
     }

@@ -19,7 +19,7 @@ ghost use Rattle.hgs_model.specs.Valid.{IsValid};
 ghost use Rattle.hgs_model.specs.declared.command.Command.{Command};
 ghost use Rattle.hgs_model.specs.declared.command.Refusal.{Refusal};
 ghost use Rattle.hgs_ops.specs.Unhindered.{IsReady};
-ghost use Rattle.hgs_pieces.specs.Made.{HasNoLocks, HasNoStrays};
+ghost use Rattle.hgs_writer.specs.Made.{HasNoLocks, HasNoStrays};
 ghost use Rattle.hgs_load.specs.View.{changelog_index};
 ghost use Rattle.hgs_revlog.specs.Log.{Log};
 ghost use Rattle.hgs_revlog.specs.Loaded.{AreEntries};
@@ -38,15 +38,15 @@ ghost use Rattle.hgs_writer.specs.Planning.{IsLoadedFrom};
 ghost use Rattle.hgs_writer.specs.Written.{IsCarriedOut, IsWritten};
 ghost use Rattle.hgs_writer.specs.declared.plan.Planned.{Planned};
 
+use crate::commit_laws::commits_agree;
+use crate::piece_laws::{
+    locks_do_not_matter, refusals_are_for_files, refusals_are_pieces, swept_calls_leave_no_locks,
+    swept_calls_leave_no_strays, transactions_are_pieces,
+};
 use hgs_index::laws::held_index_length;
 use hgs_legal::laws::{fronts_are_pieces, pieces_end};
 use hgs_loading::laws::indexes_are_read_whole;
 use hgs_path::laws::filelogs_have_their_own_names;
-use hgs_pieces::laws::{
-    locks_do_not_matter, refusals_are_for_files, refusals_are_pieces, swept_calls_leave_no_locks,
-    swept_calls_leave_no_strays, transactions_are_pieces,
-};
-use hgs_planned::laws::commits_agree;
 use hgs_revlog::laws::{entries_of_revisions, whole_index};
 use hgs_shown::laws::older_parts_stay;
 use hgs_steps::laws::{bookmark_commands_agree, phase_commands_agree};

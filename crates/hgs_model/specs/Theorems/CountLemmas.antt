@@ -239,7 +239,7 @@ not-among path (f ∷ tree) e = by (bool (same f.path path)) (not-among path tre
 pub filelog-same : (h : History) (c : Changeset) (path : List ℕ) → among path (tree_paths c.tree) ≡ false → filelog_with h c path ≡ h.filelog path
 filelog-same h c path e = ap (λ o. log_with_file h c o (h.filelog path)) (not-among path c.tree e)
 
-unused-from : (h : History) (changesets : List Changeset) (path : List ℕ) → uses changesets path ≡ false → (history_from h changesets).filelog path ≡ h.filelog path
+pub unused-from : (h : History) (changesets : List Changeset) (path : List ℕ) → uses changesets path ≡ false → (history_from h changesets).filelog path ≡ h.filelog path
 unused-from h [] path e = refl
 unused-from h (c ∷ changesets) path e = unused-from (with_changeset h c) changesets path (right (among path (tree_paths c.tree)) e) ∙ filelog-same h c path (left (among path (tree_paths c.tree)) e)
   where

@@ -2,21 +2,23 @@
 use Rattle.std.proofs.Common.{◌≡◌, ◌⊎◌, ℕ, zero, suc, ◌+◌, ◌<◌, ◌≤◌, List, [], ◌∷◌, ◌++◌, Bool, true, false, cond, ◌&&◌, ◌||◌, not, length, map, get_or, refl, sym, ◌∙◌, ap, subst, inl, inr, arith, length-append}
 use Rattle.std.specs.Prelude.{Option, Some, None, Result, Ok, Err, IfSome, slice_get, slice_index, slice_index_or, ◌==◌, filter, nat_le, max}
 use Rattle.std.specs.List.{AllByRecursion, list_any, list_all}
+use Rattle.std.specs.Str.{is_utf8}
 use Rattle.std.proofs.lemmas.Bool.Decides.{nat_tests}
-use Rattle.hgs_bytes.specs.Bytes.{same, is_below}
+use Rattle.hgs_bytes.specs.Bytes.{among, same, is_below}
 use Rattle.hgs_bytes.specs.Path.{components, is_line_byte}
 use Rattle.hgs_bytes.specs.Theorems.ByteLemmas.{same-eq}
 use Rattle.hgs_bytes.specs.Text.{ascends, Lacks}
 use Rattle.hgs_index.specs.ChangeText.{IsChange, IsLineText}
 use Rattle.hgs_index.specs.FileText.{unpacked, prefix_of, body_of}
-use Rattle.hgs_index.specs.Theorems.FileTextLemmas.{unpacked-plain, unpacked-joins}
+use Rattle.hgs_index.specs.MarkName.{ends_in_space, is_digit, is_mark_name, is_name_end, reserved_names}
+use Rattle.hgs_index.specs.Theorems.FileTextLemmas.{unpacked-block, unpacked-plain, unpacked-joins}
 use Rattle.hgs_index.specs.TrackedPath.{is_tracked, is_forbidden}
 use Rattle.hgs_index.specs.Revision.{Revision, Parents, ParentsBefore}
 use Rattle.hgs_model.specs.declared.command.NewChange.{NewChange}
 use Rattle.hgs_model.specs.declared.files.NewFile.{NewFile}
 use Rattle.hgs_model.specs.Repo.{Repo, TreeFile, Bookmark, Changeset, all_parents, tree_paths, file_text}
 use Rattle.hgs_model.specs.History.{History, no_history, history, history_from, with_changeset, EachChangeset, Placed, placed_at, placed_of, kept, kept_of, file_parents, text_at, changeset_text_value, manifest_with, manifest_number, changed_paths, removed_paths, is_changed, inserted, in_order, first_of, rev_of_file}
-use Rattle.hgs_model.specs.Valid.{IsNewChange, new_paths}
+use Rattle.hgs_model.specs.Valid.{IsNewChange, ends_in, is_branch_name, is_source, new_paths}
 use Rattle.hgs_model.specs.IsRepo.{IsRepo, IsPhase, IsNextChangeset, HasKeptPrefix, phase_at}
 use Rattle.hgs_model.specs.Names.{named, means_no_parent}
 use Rattle.std.proofs.lemmas.Option.{slice_get-get_or}
@@ -26,10 +28,11 @@ use Rattle.std.proofs.lemmas.List.{length-map}
 use Rattle.hgs_model.specs.declared.phase.Phase.{Phase}
 use Rattle.hgs_model.specs.declared.phase.Phase.TheVariants.{Public, Draft, Secret}
 use Rattle.hgs_model.specs.Phase.{phase_number}
-use Rattle.hgs_model.specs.Step.{Next, Answer, or_unknown, named_all, as_parents, new_prefix, new_file, new_changeset, nothing_changed, unchanged_from, refused_where, done_at, with_new, with_optional_mark, step_commit, ◌>>=◌}
+use Rattle.hgs_model.specs.Step.{Next, Answer, branch_extras, copies_hold, copy_block, fresh_prefix, placed_node, source_file, or_unknown, named_all, as_parents, new_prefix, new_file, new_changeset, nothing_changed, unchanged_from, refused_where, done_at, with_new, with_optional_mark, step_commit, step_import, steps_from, ◌>>=◌}
 use Rattle.hgs_model.specs.declared.command.Refusal.{Refusal}
 use Rattle.hgs_model.specs.declared.command.Refusal.TheVariants.{UnknownRevision, NothingChanged}
 use Rattle.hgs_model.specs.Theorems.BookmarkLemmas.{with_mark-ordered, with_mark-all}
+use Rattle.hgs_model.specs.Theorems.CopyLemmas.{copy-block}
 use Rattle.hgs_model.specs.Theorems.ListLemmas.{some-same, none-some, never, and-left, and-right, and-both, heads, ascends-cons, ascends-head, ascends-tail, below-or, all-push, all-map, all-join, all-mapped, filter-all}
 use Rattle.hgs_model.specs.Theorems.StepLemmas.{named-below, parent-before}
 
@@ -88,10 +91,15 @@ step_commit-did r n next answer is e = by (named_all r n.parents) refl e
     }
     after parents below (Some rev) c h = err-ok (NothingChanged rev) (next, answer) h
 
+    copied : (parents : Parents) → AreBelow (length r.changesets) parents → (held : Result (Unit {0}) Refusal)
+        → (held >>= λ copied. refused_where (nothing_changed r (new_changeset (history r.changesets) parents n)) >>= λ unchanged. Ok (done_at (with_new r (new_changeset (history r.changesets) parents n) n) (length r.changesets))) ≡ Ok (next, answer) → Committed r n next
+    copied parents below (Err w) h = err-ok w (next, answer) h
+    copied parents below (Ok it) h = after parents below (nothing_changed r (new_changeset (history r.changesets) parents n)) refl h
+
     by : (all : Result (List ℕ) Refusal) → named_all r n.parents ≡ all
-        → (all >>= λ revs. refused_where (nothing_changed r (new_changeset (history r.changesets) (as_parents revs) n)) >>= λ unchanged. Ok (done_at (with_new r (new_changeset (history r.changesets) (as_parents revs) n) n) (length r.changesets))) ≡ Ok (next, answer) → Committed r n next
+        → (all >>= λ revs. copies_hold (history r.changesets) (as_parents revs) n.files >>= λ copied. refused_where (nothing_changed r (new_changeset (history r.changesets) (as_parents revs) n)) >>= λ unchanged. Ok (done_at (with_new r (new_changeset (history r.changesets) (as_parents revs) n) n) (length r.changesets))) ≡ Ok (next, answer) → Committed r n next
     by (Err w) a h = err-ok w (next, answer) h
-    by (Ok revs) a h = after (as_parents revs) (as_parents-below (length r.changesets) revs (named_all-below r n.parents revs is a)) (nothing_changed r (new_changeset (history r.changesets) (as_parents revs) n)) refl h
+    by (Ok revs) a h = copied (as_parents revs) (as_parents-below (length r.changesets) revs (named_all-below r n.parents revs is a)) (copies_hold (history r.changesets) (as_parents revs) n.files) h
 
 -- ---- one more changeset
 
@@ -288,16 +296,38 @@ kept-same log (Some a) None body rev e = by (same (body_of (text_at log a)) body
 joined-text : (text body : List ℕ) → body_of text ≡ body → unpacked (prefix_of text ++ body) ≡ (prefix_of text, body)
 joined-text text body e = subst (λ b. unpacked (prefix_of text ++ b) ≡ (prefix_of text, b)) e (ap unpacked (unpacked-joins text))
 
-file-unpacked : (h : History) (parents : Parents) (f : NewFile) → unpacked (file_text (new_file h parents f)) ≡ ((new_file h parents f).prefix, (new_file h parents f).body)
-file-unpacked h parents f = by (kept h parents f.path f.body) refl
+-- the source of a file can stand in a block
+abbrev HasSource : NewFile → Type 0
+HasSource f = IfSome f.from (λ path. is_source path ≡ true)
+
+not-true : (b : Bool) → not b ≡ true → b ≡ false
+not-true true e = sym e
+not-true false e = refl
+
+lines-of : (a b c d : Bool) → (a && b && not c && not d) ≡ true → c ≡ false
+lines-of true true true d e = sym e
+lines-of true true false d e = refl
+lines-of true false c d e = never (sym e)
+lines-of false b c d e = never (sym e)
+
+fresh-unpacked : (h : History) (parents : Parents) (from : Option (List ℕ)) (body : List ℕ) → IfSome from (λ path. is_source path ≡ true) → unpacked (fresh_prefix h parents from body ++ body) ≡ (fresh_prefix h parents from body, body)
+fresh-unpacked h parents None body good = unpacked-plain body
+fresh-unpacked h parents (Some path) body good =
+    unpacked-block (copy_block path (placed_node (h.filelog path) (source_file h parents path))) body
+    (copy-block path (placed_node (h.filelog path) (source_file h parents path))
+    (no-lf path (lines-of (nat_le 1 (length path)) (nat_le (length path) 1024) (list_any is_line_byte path) (list_any is_forbidden (components path)) (and-left (is_tracked path) _ good)))
+    (not-true (ends_in 1 path) (and-right (is_tracked path) _ good)))
+
+file-unpacked : (h : History) (parents : Parents) (f : NewFile) → HasSource f → unpacked (file_text (new_file h parents f)) ≡ ((new_file h parents f).prefix, (new_file h parents f).body)
+file-unpacked h parents f good = by (kept h parents f.path f.body) refl
   where
     by : (o : Option ℕ) → kept h parents f.path f.body ≡ o → unpacked (new_prefix h parents f o ++ f.body) ≡ (new_prefix h parents f o, f.body)
-    by None e = unpacked-plain f.body
+    by None e = fresh-unpacked h parents f.from f.body good
     by (Some rev) e = joined-text (text_at (h.filelog f.path) rev) f.body (kept-same (h.filelog f.path) (file_parents h parents f.path).0 (file_parents h parents f.path).1 f.body rev e)
 
-all-new : (h : History) (parents : Parents) (files : List NewFile) → AllByRecursion (λ (f : TreeFile). unpacked (file_text f) ≡ (f.prefix, f.body)) (map (new_file h parents) files)
-all-new h parents [] = tt
-all-new h parents (f ∷ files) = (file-unpacked h parents f, all-new h parents files)
+all-new : (h : History) (parents : Parents) (files : List NewFile) → AllByRecursion HasSource files → AllByRecursion (λ (f : TreeFile). unpacked (file_text f) ≡ (f.prefix, f.body)) (map (new_file h parents) files)
+all-new h parents [] good = tt
+all-new h parents (f ∷ files) good = (file-unpacked h parents f good.0, all-new h parents files good.1)
 
 kept-prefixes : (h : History) (parents : Parents) (n : NewChange) (files : List NewFile) → AllByRecursion (HasKeptPrefix h (new_changeset h parents n)) (map (new_file h parents) files)
 kept-prefixes h parents n [] = tt
@@ -319,6 +349,32 @@ user-line user le e = record { some_byte = grind (arith, nat_tests); no_lf = by 
         step_on false true g rec = never g
         step_on false false g rec = (refl, rec g)
 
+-- extras of a branch are within a line
+ends-lack : (name : List ℕ) → list_any is_name_end name ≡ false → Lacks 10 name
+ends-lack [] e = tt
+ends-lack (b ∷ name) e = by (b == 58) (b == 0) (b == 10) (b == 13) e (ends-lack name)
+  where
+    by : (x y z w : Bool) → ((x || y || z || w) || list_any is_name_end name) ≡ false → (list_any is_name_end name ≡ false → Lacks 10 name) → (z ≡ false) × Lacks 10 name
+    by true y z w h rec = never h
+    by false true z w h rec = never h
+    by false false true w h rec = never h
+    by false false false true h rec = never h
+    by false false false false h rec = (refl, rec h)
+
+mark-line : (name : List ℕ) → is_mark_name name ≡ true → Lacks 10 name
+mark-line name e = ends-lack name (by (not (length name == 0)) (nat_le (length name) 255) (not (among name reserved_names)) (list_any is_name_end name) (not (list_all is_digit name)) (not (ends_in_space name)) (is_utf8 name) e)
+  where
+    by : (a b c d f g h : Bool) → (a && b && c && not d && f && g && h) ≡ true → d ≡ false
+    by true true true true f g h k = sym k
+    by true true true false f g h k = refl
+    by true true false d f g h k = never (sym k)
+    by true false c d f g h k = never (sym k)
+    by false b c d f g h k = never (sym k)
+
+branch-line : (o : Option (List ℕ)) → IfSome o (λ name. is_branch_name name ≡ true) → Lacks 10 (branch_extras o)
+branch-line None good = tt
+branch-line (Some name) good = (refl, (refl, (refl, (refl, (refl, (refl, (refl, mark-line name (and-left (is_mark_name name) _ (and-left (is_mark_name name && not (list_any (λ b. b == 92) name)) _ good)))))))))
+
 new-spelled : (h : History) (parents : Parents) (n : NewChange) → ArePlaced h.placed → IsNewChange n → list_all is_tracked (tree_paths (new_changeset h parents n).tree) ≡ true → IsChange (changeset_text_value h (new_changeset h parents n))
 new-spelled h parents n placed good paths = record {
   node = (node_at-node (manifest_with h (new_changeset h parents n)) (manifest_number h (new_changeset h parents n))).size;
@@ -326,7 +382,7 @@ new-spelled h parents n placed good paths = record {
   user = user-line n.user good.user_least good.user_line;
   seconds = good.seconds;
   offset = good.offset;
-  extras = tt;
+  extras = branch-line n.branch good.branch;
   files = changed-lines h (new_changeset h parents n) placed paths;
   ordered = in_order-ordered (tree_paths (filter (is_changed h (new_changeset h parents n)) (new_changeset h parents n).tree) ++ removed_paths h (new_changeset h parents n));
   texts = and-both _ _ (is_utf8-from_IsUtf8 n.user good.user_utf8) (is_utf8-from_IsUtf8 n.description good.description);
@@ -342,7 +398,7 @@ new-change-is-next r n parents is good changed =
     record {
       paths = paths;
       ordered = ap ascends (new-paths-same (history r.changesets) parents n.files) ∙ good.ordered;
-      texts = all-new (history r.changesets) parents n.files;
+      texts = all-new (history r.changesets) parents n.files good.sources;
       prefixes = kept-prefixes (history r.changesets) parents n n.files;
       spelled = new-spelled (history r.changesets) parents n (placed-tracked r is) good paths;
       other = first-none (unchanged_from r.changesets parents.0 parents.1 (new_changeset (history r.changesets) parents n).tree) _ changed;
@@ -390,3 +446,17 @@ commit-keeps r n next answer is good e =
     narrow : (n : ℕ) (o : Option ℕ) → IfSome o (λ a. a < n) → IfSome o (λ a. a < 0 + n)
     narrow n None h = tt
     narrow n (Some a) h = omega arith
+
+-- ---- an import
+
+pub steps-keep : (next : Next) (changes : List NewChange) (done : Repo) (answer : Answer) → IsRepo next.0 → AllByRecursion IsNewChange changes → steps_from next changes ≡ Ok (done, answer) → IsRepo done
+steps-keep next [] done answer is good e = subst IsRepo (ap (λ (p : Next). p.0) (ok-same next next (done, answer) e)) is
+steps-keep next (n ∷ changes) done answer is good e = by (λ after it h. steps-keep after changes done answer it good.1 h) (step_commit next.0 n) refl e
+  where
+    by : ((after : Next) → IsRepo after.0 → steps_from after changes ≡ Ok (done, answer) → IsRepo done) → (o : Result Next Refusal) → step_commit next.0 n ≡ o → (o >>= λ after. steps_from after changes) ≡ Ok (done, answer) → IsRepo done
+    by rec (Err w) c h = err-ok w (done, answer) h
+    by rec (Ok after) c h = rec after (commit-keeps next.0 n after.0 after.1 is good.0 c) h
+
+pub import-keeps : (r : Repo) (changes : List NewChange) (done : Repo) (answer : Answer) → IsRepo r → AllByRecursion IsNewChange changes → step_import r changes ≡ Ok (done, answer) → IsRepo done
+import-keeps r [] done answer is good e = err-ok (NothingChanged 0) (done, answer) e
+import-keeps r (n ∷ changes) done answer is good e = steps-keep (r, record { rev = 0; node = [] }) (n ∷ changes) done answer is good e

@@ -14,7 +14,8 @@ use Rattle.hgs_journal.specs.Texts.{backups_text}
 use Rattle.hgs_stands.specs.Places.{bookmarks_path, dirstate_path, roots_path}
 use Rattle.hgs_ops.specs.Operations.{wlock_path, lock_path, preparations}
 use Rattle.hgs_ops.specs.Replaced.{Replacement, backup_put, new_put, new_rename, only_if, standing_file, marks_with, roots_with, dirstate_with}
-use Rattle.hgs_ops.specs.Theorems.Touch.{touches, touched, untouched, within, touched-within, only_appends, appends_at, appended, appended-at, all-append, bool, never, apply-other, or-left, or-both, and-left, and-right, and-both}
+use Rattle.hgs_ops.specs.Growth.{appends_at, appended}
+use Rattle.hgs_ops.specs.Theorems.Touch.{touches, touched, untouched, within, touched-within, only_appends, appended-at, all-append, bool, never, apply-other, or-left, or-both, and-left, and-right, and-both}
 use Rattle.hgs_ops.specs.Theorems.Replace.{aside, end, gone-none}
 
 -- the paths that a transaction writes beside the revlogs and the list of files
@@ -66,7 +67,7 @@ aside-files true false roots dirstate marks = ((refl, refl), ((refl, refl), tt))
 aside-files false true roots dirstate marks = ((refl, refl), ((refl, refl), tt))
 aside-files false false roots dirstate marks = ((refl, refl), tt)
 
-small-files : (rc bk : Bool) (roots dirstate marks : List ℕ) → AllByRecursion (IsSmall is_quiet) (files_of rc bk roots dirstate marks)
+pub small-files : (rc bk : Bool) (roots dirstate marks : List ℕ) → AllByRecursion (IsSmall is_quiet) (files_of rc bk roots dirstate marks)
 small-files true true roots dirstate marks = ((refl, refl), ((refl, refl), ((refl, refl), tt)))
 small-files true false roots dirstate marks = ((refl, refl), ((refl, refl), tt))
 small-files false true roots dirstate marks = ((refl, refl), ((refl, refl), tt))
@@ -134,7 +135,7 @@ second-untouched : (bk : Bool) (dirstate marks q : List ℕ) → touched q (new_
 second-untouched true dirstate marks q e = e
 second-untouched false dirstate marks q e = or-both _ _ (or-left _ _ e) refl
 
-first-within : (rc : Bool) (roots : List ℕ) → list_all (within is_quiet) (first_of rc roots) ≡ true
+pub first-within : (rc : Bool) (roots : List ℕ) → list_all (within is_quiet) (first_of rc roots) ≡ true
 first-within true roots = refl
 first-within false roots = refl
 

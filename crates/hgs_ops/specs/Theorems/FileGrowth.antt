@@ -16,8 +16,8 @@ use Rattle.hgs_model.specs.Theorems.ListLemmas.{all-map, ascends-head, ascends-t
 use Rattle.hgs_path.specs.declared.name.Ext.TheVariants.{I, D}
 use Rattle.hgs_path.specs.StoreName.{store_name}
 use Rattle.hgs_stands.specs.Theorems.ApartLemmas.{kinds-apart}
-use Rattle.hgs_ops.specs.Growth.{append_some, filelog_growth, filelogs_grow, grown, grows_inline, new_data, new_entries, new_items}
-use Rattle.hgs_ops.specs.Theorems.Touch.{touched, touched-append, appended, appended-append, appended-none, all-append, bool, never, or-left, or-right, or-both, same-sym}
+use Rattle.hgs_ops.specs.Growth.{append_some, appended, filelog_growth, filelogs_grow, grown, grows_inline, new_data, new_entries, new_items}
+use Rattle.hgs_ops.specs.Theorems.Touch.{touched, touched-append, appended-append, appended-none, all-append, bool, never, or-left, or-right, or-both, same-sym}
 use Rattle.hgs_ops.specs.Theorems.CommitTree.{is_append}
 
 -- ---- an append that may be left out

@@ -12,7 +12,7 @@ use Rattle.hgs_index.specs.Revision.{Revision}
 use Rattle.hgs_journal.specs.Covers.{journal_paths, no_repeat}
 use Rattle.hgs_journal.specs.Names.{in_store}
 use Rattle.hgs_model.specs.declared.command.Command.{Command}
-use Rattle.hgs_model.specs.declared.command.Command.TheVariants.{Commit, Move, Mark, Unmark}
+use Rattle.hgs_model.specs.declared.command.Command.TheVariants.{Commit, Import, Move, Mark, Unmark}
 use Rattle.hgs_model.specs.History.{history, uses}
 use Rattle.hgs_model.specs.Repo.{Changeset, Repo, tree_paths}
 use Rattle.hgs_model.specs.Theorems.ListLemmas.{ascends-tail}
@@ -184,7 +184,7 @@ away-store : (p : List ℕ) → among p fixed ≡ true → (q : List ℕ) (ext :
 away-store p e q ext = same-sym (store_name q ext) p (not-fixed (store_name q ext) p e (stores-fixed q ext))
 
 -- what holds of these paths holds of all that the growth appends to
-record Everywhere (P : List ℕ → Type 0) : Type 0 where
+pub record Everywhere (P : List ℕ → Type 0) : Type 0 where
   pub stores : (q : List ℕ) (ext : Ext) → P (store_name q ext)
   pub list : P fncache_path
   pub index : P manifest_index
@@ -219,7 +219,7 @@ module _ (t : Tree) (r next : Repo) (un : IsUnhindered t r next) where
   three-each : (P : List ℕ → Type 0) → Everywhere P → EachPath P (fl ++ fn ++ mf)
   three-each P e = each-joined P (fl ++ fn) mf (two-each P e.stores e.list) (mf-each P e.index e.chunks)
 
-  growth-each : (P : List ℕ → Type 0) → Everywhere P → P changelog_data → EachPath P (growth t r next)
+  pub growth-each : (P : List ℕ → Type 0) → Everywhere P → P changelog_data → EachPath P (growth t r next)
   growth-each P e a = each-joined P (fl ++ fn ++ mf) cl (three-each P e) (some-each P changelog_data (part_data t r next) refl a)
 
   growth-once : no_repeat (named t (growth t r next)) ≡ true
@@ -281,6 +281,7 @@ module _ (t : Tree) (r next : Repo) (un : IsUnhindered t r next) where
 -- the journal of a command names each file once
 pub journal-once : (t : Tree) (r next : Repo) (command : Command) → IsReady t r command next → no_repeat (journal_paths (journal_of t r command next)) ≡ true
 journal-once t r next (Commit n) ready = commit-once t r next ready.0 (roots_change r next) (roots_of next) (new_changelog_entry t r next)
+journal-once t r next (Import changes) ready = commit-once t r next ready.0 (roots_change r next) (roots_of next) (new_changelog_entry t r next)
 journal-once t r next (Move rev phase force) ready = refl
 journal-once t r next (Mark name rev) ready = refl
 journal-once t r next (Unmark name) ready = refl

@@ -1,5 +1,5 @@
 -- Phase roots that stay: what they give where one more changeset stands behind the others.
-use Rattle.std.proofs.Common.{◌≡◌, ◌⊎◌, ℕ, zero, suc, ◌+◌, ◌<◌, List, [], ◌∷◌, ◌++◌, Bool, true, false, cond, ◌||◌, not, length, map, refl, sym, ◌∙◌, ap, subst, inl, inr, arith, length-append}
+use Rattle.std.proofs.Common.{◌≡◌, ◌⊎◌, ℕ, zero, suc, ◌+◌, ◌<◌, List, [], ◌∷◌, ◌++◌, Bool, true, false, cond, ◌&&◌, ◌||◌, not, length, map, refl, sym, ◌∙◌, ap, subst, inl, inr, arith, append_assoc, append-nil, length-append}
 use Rattle.std.specs.Prelude.{◌==◌, nat_lt, Option, Some, None, IfSome, slice_get, slice_index_or}
 use Rattle.std.specs.List.{list_all, list_any, position_or_len, range_with_len}
 use Rattle.std.proofs.lemmas.Bool.Decides.{nat_tests}
@@ -7,7 +7,8 @@ use Rattle.std.proofs.lemmas.List.{length-map}
 use Rattle.hgs_bytes.specs.Bytes.{same, among}
 use Rattle.hgs_index.specs.declared.entry.Entry.{Entry}
 use Rattle.hgs_index.specs.Ancestor.{ancestors_at, ancestors_from, is_ancestor}
-use Rattle.hgs_index.specs.Revision.{Parents}
+use Rattle.hgs_index.specs.Revision.{Parents, ParentsBefore}
+use Rattle.hgs_index.specs.Theorems.RevlogLemmas.{map-append}
 use Rattle.hgs_model.specs.declared.phase.Phase.{Phase}
 use Rattle.hgs_model.specs.declared.phase.Phase.TheVariants.{Public}
 use Rattle.hgs_model.specs.Phase.{greater}
@@ -167,3 +168,52 @@ phases-more roots entries e known first second =
           | inl old ↦ or-front (phases_by roots entries) (inherited (phases_by roots entries) e ∷ []) i Public (omega (arith, old, counted)) ∙ phase-at roots entries i old ∙ sym (phase-front roots entries e i old known)
           | inr new ↦ or-last (phases_by roots entries) (inherited (phases_by roots entries) e) i Public (omega (arith, new, counted)) ∙ sym (last i new)
         ]
+
+-- ---- more changesets behind
+
+among-more : (x : List ℕ) (xs ys : List (List ℕ)) → among x xs ≡ true → among x (xs ++ ys) ≡ true
+among-more x [] ys e = never (sym e)
+among-more x (y ∷ xs) ys e = by (same x y) (among-more x xs ys) e
+  where
+    by : (z : Bool) → (among x xs ≡ true → among x (xs ++ ys) ≡ true) → (z || among x xs) ≡ true → (z || among x (xs ++ ys)) ≡ true
+    by true rec g = refl
+    by false rec g = rec g
+
+and-both : (a b : Bool) → a ≡ true → b ≡ true → (a && b) ≡ true
+and-both true b e f = f
+and-both false b e f = e
+
+pub roots-known : (known more : List (List ℕ)) (roots : List Root) → list_all (is_known known) roots ≡ true → list_all (is_known (known ++ more)) roots ≡ true
+roots-known known more [] e = refl
+roots-known known more (m ∷ roots) e = and-both _ _ (among-more m.node.0 known more (and-left _ _ e)) (roots-known known more roots (and-right (among m.node.0 known) _ e))
+
+entry-before : (n : ℕ) (xs ys : List Entry) (e : Entry) → ParentsBefore n (history_of (xs ++ e ∷ ys)) → IfSome e.p1 (λ a. a < n + length xs) × IfSome e.p2 (λ b. b < n + length xs)
+entry-before n [] ys e before = (narrow e.p1 before.0, narrow e.p2 before.1)
+  where
+    narrow : (o : Option ℕ) → IfSome o (λ a. a < n) → IfSome o (λ a. a < n + 0)
+    narrow None h = tt
+    narrow (Some a) h = omega arith
+entry-before n (x ∷ xs) ys e before = let h = entry-before (suc n) xs ys e before.2 in (narrow e.p1 h.0, narrow e.p2 h.1)
+  where
+    narrow : (o : Option ℕ) → IfSome o (λ a. a < suc n + length xs) → IfSome o (λ a. a < n + suc (length xs))
+    narrow None h = tt
+    narrow (Some a) h = omega arith
+
+from-none : (n : ℕ) (o : Option ℕ) → IfSome o (λ a. a < 0 + n) → IfSome o (λ a. a < n)
+from-none n None h = tt
+from-none n (Some a) h = omega arith
+
+-- roots of known nodes that give the same phases do so with more changesets behind
+pub phases-many : (a b : List Root) (entries more : List Entry) → list_all (is_known (nodes_of entries)) a ≡ true → list_all (is_known (nodes_of entries)) b ≡ true → ParentsBefore 0 (history_of (entries ++ more)) → phases_by a entries ≡ phases_by b entries
+    → phases_by a (entries ++ more) ≡ phases_by b (entries ++ more)
+phases-many a b entries [] ka kb before e = ap (phases_by a) (append-nil entries) ∙ e ∙ sym (ap (phases_by b) (append-nil entries))
+phases-many a b entries (x ∷ more) ka kb before e =
+    let two = entry-before 0 entries more x before in
+    let next : phases_by a (entries ++ x ∷ []) ≡ phases_by b (entries ++ x ∷ []) = phases-more a entries x ka (from-none (length entries) x.p1 two.0) (from-none (length entries) x.p2 two.1) ∙ (λ i. e i ++ inherited (e i) x ∷ []) ∙ sym (phases-more b entries x kb (from-none (length entries) x.p1 two.0) (from-none (length entries) x.p2 two.1)) in
+    let known : nodes_of (entries ++ x ∷ []) ≡ nodes_of entries ++ x.node.0 ∷ [] = map-append (λ (y : Entry). y.node.0) entries (x ∷ []) in
+    let joined : (entries ++ x ∷ []) ++ more ≡ entries ++ x ∷ more = append_assoc entries (x ∷ []) more in
+    ap (phases_by a) (sym joined)
+    ∙ phases-many a b (entries ++ x ∷ []) more
+    (ap (λ ns. list_all (is_known ns) a) known ∙ roots-known (nodes_of entries) (x.node.0 ∷ []) a ka) (ap (λ ns. list_all (is_known ns) b) known ∙ roots-known (nodes_of entries) (x.node.0 ∷ []) b kb)
+    (subst (λ (l : List Entry). ParentsBefore 0 (history_of l)) (sym joined) before) next
+    ∙ ap (phases_by b) joined

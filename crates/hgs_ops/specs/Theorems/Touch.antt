@@ -1,12 +1,13 @@
 -- What a list of operations leaves at a path: untouched, appended to, put and renamed, removed.
 use Rattle.std.proofs.Common.{◌≡◌, ◌⊎◌, ℕ, List, [], ◌∷◌, ◌++◌, Bool, true, false, cond, ◌&&◌, ◌||◌, not, refl, sym, ◌∙◌, ap, inl, inr, append_assoc, append-nil}
-use Rattle.std.specs.Prelude.{Option, Some, None, unwrap_or, flat_map, if◌then◌else◌}
+use Rattle.std.specs.Prelude.{Option, Some, None, unwrap_or}
 use Rattle.std.specs.List.{list_any, list_all}
 use Rattle.hgs_bytes.specs.Bytes.{same}
 use Rattle.hgs_bytes.specs.Theorems.ByteLemmas.{same-refl, same-eq}
 use Rattle.hgs_files.specs.declared.op.Op.{Op}
 use Rattle.hgs_files.specs.declared.op.Op.TheVariants.{Append, Cut, Rename, Remove, Create, Sync, Settle}
 use Rattle.hgs_files.specs.Tree.{Tree, bytes_at, same_path, with_file, shortened, renamed, apply, after_all}
+use Rattle.hgs_ops.specs.Growth.{appended, appends_at}
 use Rattle.hgs_files.specs.Theorems.TreeLemmas.{same_path-eq, with_file-same, with_file-other, after_all-append}
 
 pub bool : (b : Bool) → (b ≡ true) ⊎ (b ≡ false)
@@ -161,14 +162,6 @@ put-renamed xs ys zs new file text t a b =
     ∙ rename-to v new file text (v new) (untouched ys u new a ∙ with_file-same (after_all xs t) new (Some text))
 
 -- ---- appended to
-
--- the bytes that an operation appends at a path
-abbrev pub appends_at : List ℕ → Op → List ℕ
-appends_at p (Append path bytes) = if same path p then bytes else []
-appends_at p _ = []
-
-abbrev pub appended : List ℕ → List Op → List ℕ
-appended p ops = flat_map (appends_at p) ops
 
 -- an append, or an operation at other paths
 abbrev pub only_appends : List ℕ → Op → Bool

@@ -9,7 +9,7 @@ use Rattle.hgs_model.specs.declared.command.NewChange.{NewChange}
 use Rattle.hgs_model.specs.Valid.{IsNewChange}
 use Rattle.hgs_input.specs.declared.fault.InputFault.{InputFault}
 use Rattle.hgs_input.specs.Front.{IsRecordBefore, left}
-use Rattle.hgs_input.specs.Record.{record_text}
+use Rattle.hgs_input.specs.Record.{Wording, record_text}
 use Rattle.hgs_input.specs.Read.{Rest, ◌>>=◌, bad_at, line_or_cut, next_line, required_at, and_then, where_true, record_from, is_memory}
 
 pub record Bound {A B : Type 0} (x : Result A InputFault) (f : A → Result B InputFault) (y : B) : Type 0 where
@@ -88,12 +88,12 @@ RecordsStand = (r rest : Rest) (c : NewChange) → record_from r ≡ Ok (c, rest
 
 -- a record is read where other bytes stand behind it
 abbrev pub RecordsRead : Type 0
-RecordsRead = (says_draft : Bool) (c : NewChange) (whole : ℕ) (behind : List ℕ) → IsNewChange c → record_from (left whole (record_text says_draft c ++ behind)) ≡ Ok (c, left whole behind)
+RecordsRead = (says : Wording) (c : NewChange) (whole : ℕ) (behind : List ℕ) → IsNewChange c → record_from (left whole (record_text says c ++ behind)) ≡ Ok (c, left whole behind)
 
 pub record_fewer : RecordsStand → (r : Rest) (p : NewChange × Rest) → record_from r ≡ Ok p → length p.1.bytes ≤ length r.bytes
 record_fewer stand r p e =
     let h = stand r p.1 p.0 e in
-    let size = ap length h.text ∙ length-append (record_text h.says_draft p.0) p.1.bytes in
+    let size = ap length h.text ∙ length-append (record_text h.says p.0) p.1.bytes in
     omega (arith, size)
 
 -- ---- the fault that the definition gives, where want of memory is free

@@ -7,7 +7,7 @@ use Rattle.hgs_load.specs.Answer.{is_of_outside}
 use Rattle.hgs_index.specs.Manifest.{Row, last_path}
 use Rattle.hgs_model.specs.declared.files.NewFile.{NewFile}
 use Rattle.hgs_path.specs.Fncache.{listing}
-use Rattle.hgs_commit.specs.Files.{OfFile, can_follow, file_in, new_path, view_file}
+use Rattle.hgs_commit.specs.Files.{OfFile, can_follow, file_in, new_path, source_node, view_file}
 use Rattle.hgs_commit.specs.NewTree.{tree_of}
 use Rattle.hgs_commit.specs.Obstacles.{ClashBehind, Met, either_list, met_of, noting, with_all}
 use Rattle.hgs_commit.specs.Tree.{ClashIn, OfTree, files_in, row_at, with_file}
@@ -24,17 +24,18 @@ pub loop-file-init : goal.loop-file-init
 loop-file-init g c =
     let lists = listing c.args.fncache.now in
     let link = c.args.link in
+    let sources = c.args.sources.now in
     let files = c.args.new_files.now in
     let tree : OfTree = tree_of c.args.tree.now in
     let m : Met = met_of c.args.met.now in
     let start : 0 + length files ≡ length files = omega arith in
     let listed : either_list lists (listing c.empty-new_paths.result) ≡ lists = either-none lists (listing c.empty-new_paths.result) c.empty-new_paths.ensures in
     record {
-      found = alone-free g.R.Reads.alone (g.R.Reads.seen c.args.files.now) (g.R.Reads.start c.args.files.now) (λ t. given lists link tree m files t ≡ given lists link tree m files t) (λ t. refl);
+      found = alone-free g.R.Reads.alone (g.R.Reads.seen c.args.files.now) (g.R.Reads.start c.args.files.now) (λ t. given lists link sources tree m files t ≡ given lists link sources tree m files t) (λ t. refl);
       clash =
           alone-free g.R.Reads.alone (g.R.Reads.seen c.args.files.now) (g.R.Reads.start c.args.files.now)
-          (λ t. (clash : Option (List ℕ)) → ClashIn (either_list lists (listing c.empty-new_paths.result)) (files_in lists link files tree.first tree.second t) c.args.met.now.clash clash → ClashIn lists (files_in lists link files tree.first tree.second t) c.args.met.now.clash clash)
-          (λ t clash h. (let P : (List ℕ → Ext → Bool) → Type 0 = λ l. ClashIn l (files_in lists link files tree.first tree.second t) c.args.met.now.clash clash in subst P listed h));
+          (λ t. (clash : Option (List ℕ)) → ClashIn (either_list lists (listing c.empty-new_paths.result)) (files_in lists link sources files tree.first tree.second t) c.args.met.now.clash clash → ClashIn lists (files_in lists link sources files tree.first tree.second t) c.args.met.now.clash clash)
+          (λ t clash h. (let P : (List ℕ → Ext → Bool) → Type 0 = λ l. ClashIn l (files_in lists link sources files tree.first tree.second t) c.args.met.now.clash clash in subst P listed h));
       order = ap (λ l. can_follow (last_path l) files) c.requires.empty ∙ c.requires.order;
       count = ap (λ l. length l + length files) c.requires.empty ∙ start;
       few = c.requires.few;
@@ -55,8 +56,11 @@ loop-file-preserved g c =
     let before = i.later in
     let lists = listing c.args.fncache.now in
     let link = c.args.link in
+    let sources = c.args.sources.now in
     let file : NewFile = c.in-Some.file.now in
     let behind = c.in-Some.behind.now in
+    let said = c.source_node-source.result.0 in
+    let source_is : said ≡ source_node sources file.from = c.source_node-source.ensures in
     let tree : OfTree = tree_of c.loop-file.tree in
     let tree_next : OfTree = tree_of c.add.new.self in
     let m : Met = met_of c.loop-file.met in
@@ -74,7 +78,7 @@ loop-file-preserved g c =
     c.in_ok-rows.ensures.first c.in_ok-rows.ensures.second c.in_ok-rows.ensures.rows c.in_ok-rows.ensures.changed (ap (λ v. v.items) c.in_ok-rows.ensures.growth) (ap (λ v. v.items) c.in_ok-rows.ensures.lines)
     c.in_ok-add.ensures.first c.in_ok-add.ensures.second c.in_ok-add.ensures.rows c.in_ok-add.ensures.changed c.in_ok-add.ensures.growth c.in_ok-add.ensures.lines in
     let noted_alike : met_of c.file_of.new.met ≡ m_next = sym c.with_new.ensures.met in
-    let at_file : Tree → Type 0 = λ t. noting m (file_in lists link file first second t) ≡ Ok (x, met_of c.file_of.new.met) in
+    let at_file : Tree → Type 0 = λ t. noting m (file_in lists link file said first second t) ≡ Ok (x, met_of c.file_of.new.met) in
     let entered : after ≡ with_all base (new_path x.new x.row.path) =
     ap (either_list lists) (c.in_ok-new_paths.ensures.paths ∙ ap (λ p. with_all (listing c.loop-file.new_paths) (new_path x.new p)) (c.as_slice-path.ensures ∙ sym path)) ∙ either-all lists (listing c.loop-file.new_paths) (new_path x.new x.row.path) in
     let told : ClashBehind base (new_path x.new x.row.path) c.loop-file.met.clash c.with_new.new.met.clash =
@@ -84,21 +88,21 @@ loop-file-preserved g c =
     record {
       found =
           alone-both g.R.Reads.alone (g.R.Reads.seen c.loop-file.files) (g.R.Reads.seen c.file_of.new.files) (g.R.Reads.start c.loop-file.files) (g.R.Reads.start c.file_of.new.files)
-          (λ t. given lists link tree m c.loop-file.rest.now t ≡ given lists link (tree_of c.args.tree.now) (met_of c.args.met.now) c.args.new_files.now t)
+          (λ t. given lists link sources tree m c.loop-file.rest.now t ≡ given lists link sources (tree_of c.args.tree.now) (met_of c.args.met.now) c.args.new_files.now t)
           at_file
-          (λ t. given lists link tree_next m_next behind t ≡ given lists link (tree_of c.args.tree.now) (met_of c.args.met.now) c.args.new_files.now t)
+          (λ t. given lists link sources tree_next m_next behind t ≡ given lists link sources (tree_of c.args.tree.now) (met_of c.args.met.now) c.args.new_files.now t)
           c.in-Ok.ensures.still c.in-Ok.ensures.same_start
-          (λ t p q. sym (next lists link file behind tree first second t is_first is_second x m m_next tree_next path is (q ∙ ap (λ n. Ok (x, n)) noted_alike)) ∙ ap (λ l. given lists link tree m l t) (sym split) ∙ p)
+          (λ t p q. sym (next lists link sources file behind tree first second t is_first is_second x m m_next tree_next path is (ap (λ s. noting m (file_in lists link file s first second t)) (sym source_is) ∙ q ∙ ap (λ n. Ok (x, n)) noted_alike)) ∙ ap (λ l. given lists link sources tree m l t) (sym split) ∙ p)
           i.found c.in-Ok.ensures.found;
       clash =
           alone-both g.R.Reads.alone (g.R.Reads.seen c.loop-file.files) (g.R.Reads.seen c.file_of.new.files) (g.R.Reads.start c.loop-file.files) (g.R.Reads.start c.file_of.new.files)
-          (λ t. (clash : Option (List ℕ)) → ClashIn base (files_in lists link c.loop-file.rest.now tree.first tree.second t) c.loop-file.met.clash clash → ClashIn lists (files_in lists link c.args.new_files.now c.args.tree.now.first c.args.tree.now.second t) c.args.met.now.clash clash)
+          (λ t. (clash : Option (List ℕ)) → ClashIn base (files_in lists link sources c.loop-file.rest.now tree.first tree.second t) c.loop-file.met.clash clash → ClashIn lists (files_in lists link sources c.args.new_files.now c.args.tree.now.first c.args.tree.now.second t) c.args.met.now.clash clash)
           at_file
-          (λ t. (clash : Option (List ℕ)) → ClashIn after (files_in lists link behind tree_next.first tree_next.second t) c.with_new.new.met.clash clash → ClashIn lists (files_in lists link c.args.new_files.now c.args.tree.now.first c.args.tree.now.second t) c.args.met.now.clash clash)
+          (λ t. (clash : Option (List ℕ)) → ClashIn after (files_in lists link sources behind tree_next.first tree_next.second t) c.with_new.new.met.clash clash → ClashIn lists (files_in lists link sources c.args.new_files.now c.args.tree.now.first c.args.tree.now.second t) c.args.met.now.clash clash)
           c.in-Ok.ensures.still c.in-Ok.ensures.same_start
           (λ t p q clash k. p clash (
-          let P : List NewFile → Type 0 = λ l. ClashIn base (files_in lists link l tree.first tree.second t) c.loop-file.met.clash clash in
-          subst P (sym split) (next-clash lists link file behind tree first second t is_first is_second base after x m (met_of c.file_of.new.met) tree_next path is q entered c.loop-file.met.clash c.with_new.new.met.clash clash told k)
+          let P : List NewFile → Type 0 = λ l. ClashIn base (files_in lists link sources l tree.first tree.second t) c.loop-file.met.clash clash in
+          subst P (sym split) (next-clash lists link sources file behind tree first second t is_first is_second base after x m (met_of c.file_of.new.met) tree_next path is (ap (λ s. noting m (file_in lists link file s first second t)) (sym source_is) ∙ q) entered c.loop-file.met.clash c.with_new.new.met.clash clash told k)
           ))
           i.clash c.in-Ok.ensures.found;
       order = next_order c.parent_files.new.self.rows c.add.new.self.rows r c.in-Some.file.now c.loop-file.rest.now c.in-Some.behind.now split c.in-Ok.ensures.path grown (ap (λ q. can_follow (last_path q) c.loop-file.rest.now) rows ∙ i.order);
@@ -116,8 +120,11 @@ returns-in-Err-clause-found g c =
     let split : c.loop-file.rest.now ≡ c.in-Some.file.now ∷ c.in-Some.behind.now = c.in-Some.ensures.cases.0 in
     let lists = listing c.args.fncache.now in
     let link = c.args.link in
+    let sources = c.args.sources.now in
     let file : NewFile = c.in-Some.file.now in
     let behind = c.in-Some.behind.now in
+    let said = c.source_node-source.result.0 in
+    let source_is : said ≡ source_node sources file.from = c.source_node-source.ensures in
     let tree : OfTree = tree_of c.loop-file.tree in
     let m : Met = met_of c.loop-file.met in
     let e = c.in-Err.refusal in
@@ -126,10 +133,10 @@ returns-in-Err-clause-found g c =
     let is_first : first ≡ row_at file.path tree.first = c.in_ok-rows.ensures.found.0 ∙ ap (λ p. row_at p tree.first) c.as_slice-path.ensures in
     let is_second : second ≡ row_at file.path tree.second = c.in_ok-rows.ensures.found.1 ∙ ap (λ p. row_at p tree.second) c.as_slice-path.ensures in
     alone-both g.R.Reads.alone (g.R.Reads.seen c.loop-file.files) (g.R.Reads.seen c.file_of.new.files) (g.R.Reads.start c.loop-file.files) (g.R.Reads.start c.file_of.new.files)
-    (λ t. given lists link tree m c.loop-file.rest.now t ≡ given lists link (tree_of c.args.tree.now) (met_of c.args.met.now) c.args.new_files.now t)
-    (λ t. MatchBool (is_of_outside e) ⊤ (noting m (file_in lists link file first second t) ≡ Err e))
-    (λ t. MatchBool (is_of_outside e) ⊤ (given lists link (tree_of c.args.tree.now) (met_of c.args.met.now) c.args.new_files.now t ≡ Err e))
+    (λ t. given lists link sources tree m c.loop-file.rest.now t ≡ given lists link sources (tree_of c.args.tree.now) (met_of c.args.met.now) c.args.new_files.now t)
+    (λ t. MatchBool (is_of_outside e) ⊤ (noting m (file_in lists link file said first second t) ≡ Err e))
+    (λ t. MatchBool (is_of_outside e) ⊤ (given lists link sources (tree_of c.args.tree.now) (met_of c.args.met.now) c.args.new_files.now t ≡ Err e))
     c.in-Err.ensures.still c.in-Err.ensures.same_start
-    (λ t p q. either (is_of_outside e) (noting m (file_in lists link file first second t) ≡ Err e) (given lists link (tree_of c.args.tree.now) (met_of c.args.met.now) c.args.new_files.now t ≡ Err e)
-    (λ k. sym p ∙ ap (λ l. given lists link tree m l t) split ∙ none lists link file behind tree first second t is_first is_second m e k) q)
+    (λ t p q. either (is_of_outside e) (noting m (file_in lists link file said first second t) ≡ Err e) (given lists link sources (tree_of c.args.tree.now) (met_of c.args.met.now) c.args.new_files.now t ≡ Err e)
+    (λ k. sym p ∙ ap (λ l. given lists link sources tree m l t) split ∙ none lists link sources file behind tree first second t is_first is_second m e (ap (λ s. noting m (file_in lists link file s first second t)) (sym source_is) ∙ k)) q)
     i.found c.in-Err.ensures.found

@@ -12,8 +12,8 @@ use Rattle.hgs_commit.proofs.file.add_files.Given as goal
 
 abbrev pub invariant-loop-file : goal.invariant-loop-file
 invariant-loop-file g l = record {
-  found : g.R.Reads.alone ≡ true → IfSome (g.R.Reads.seen l.files) (λ log. given (listing l.fncache) l.link (tree_of l.tree) (met_of l.met) l.rest (after_all log (g.R.Reads.start l.files)) ≡ given (listing l.fncache) l.link (tree_of l.fn.tree) (met_of l.fn.met) l.fn.new_files (after_all log (g.R.Reads.start l.files)));
-  clash : g.R.Reads.alone ≡ true → IfSome (g.R.Reads.seen l.files) (λ log. (clash : Option (List ℕ)) → ClashIn (either_list (listing l.fncache) (listing l.new_paths)) (files_in (listing l.fncache) l.link l.rest l.tree.first l.tree.second (after_all log (g.R.Reads.start l.files))) l.met.clash clash → ClashIn (listing l.fncache) (files_in (listing l.fncache) l.link l.fn.new_files l.fn.tree.first l.fn.tree.second (after_all log (g.R.Reads.start l.files))) l.fn.met.clash clash);
+  found : g.R.Reads.alone ≡ true → IfSome (g.R.Reads.seen l.files) (λ log. given (listing l.fncache) l.link l.sources (tree_of l.tree) (met_of l.met) l.rest (after_all log (g.R.Reads.start l.files)) ≡ given (listing l.fncache) l.link l.sources (tree_of l.fn.tree) (met_of l.fn.met) l.fn.new_files (after_all log (g.R.Reads.start l.files)));
+  clash : g.R.Reads.alone ≡ true → IfSome (g.R.Reads.seen l.files) (λ log. (clash : Option (List ℕ)) → ClashIn (either_list (listing l.fncache) (listing l.new_paths)) (files_in (listing l.fncache) l.link l.sources l.rest l.tree.first l.tree.second (after_all log (g.R.Reads.start l.files))) l.met.clash clash → ClashIn (listing l.fncache) (files_in (listing l.fncache) l.link l.sources l.fn.new_files l.fn.tree.first l.fn.tree.second (after_all log (g.R.Reads.start l.files))) l.fn.met.clash clash);
   order : can_follow (last_path l.tree.rows) l.rest ≡ true;
   count : length l.tree.rows + length l.rest ≡ length l.fn.new_files;
   few : length l.fn.new_files ≤ 20000;

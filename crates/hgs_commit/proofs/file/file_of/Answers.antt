@@ -15,20 +15,22 @@ pub returns-in-Err-clause-found : goal.returns-in-Err-clause-found
 returns-in-Err-clause-found g c =
     let lists = listing c.args.fncache.now in
     let file = c.args.file.now in
+    let source = c.args.source.now.0 in
     let first = option_map told_of_found c.args.rows.first in
     let second = option_map told_of_found c.args.rows.second in
     let e = c.in-Err.refusal in
     let m = met_of c.args.met.now in
     alone-one g.R.Reads.alone (g.R.Reads.seen c.load_filelog.new.files) (g.R.Reads.start c.load_filelog.new.files)
     (λ t. MatchBool (is_of_outside e) ⊤ (filelog_in lists c.as_slice.result.now t ≡ Err e))
-    (λ t. MatchBool (is_of_outside e) ⊤ (noting m (file_in lists c.args.link file first second t) ≡ Err e))
-    (λ t h. in-unread lists c.args.link file first second t m e (subst (λ p. MatchBool (is_of_outside e) ⊤ (filelog_in lists p t ≡ Err e)) c.as_slice.ensures h))
+    (λ t. MatchBool (is_of_outside e) ⊤ (noting m (file_in lists c.args.link file source first second t) ≡ Err e))
+    (λ t h. in-unread lists c.args.link file source first second t m e (subst (λ p. MatchBool (is_of_outside e) ⊤ (filelog_in lists p t ≡ Err e)) c.as_slice.ensures h))
     c.in-Err.ensures.found
 
 pub returns-in-Err-parents_by-clause-found : goal.returns-in-Err-parents_by-clause-found
 returns-in-Err-parents_by-clause-found g c =
     let lists = listing c.args.fncache.now in
     let file = c.args.file.now in
+    let source = c.args.source.now.0 in
     let first = option_map told_of_found c.args.rows.first in
     let second = option_map told_of_found c.args.rows.second in
     let f = view_filelog c.in-Ok.filelog in
@@ -36,6 +38,6 @@ returns-in-Err-parents_by-clause-found g c =
     let m = met_of c.args.met.now in
     alone-one g.R.Reads.alone (g.R.Reads.seen c.load_filelog.new.files) (g.R.Reads.start c.load_filelog.new.files)
     (λ t. filelog_in lists c.as_slice.result.now t ≡ Ok f)
-    (λ t. MatchBool (is_of_outside e) ⊤ (noting m (file_in lists c.args.link file first second t) ≡ Err e))
-    (λ t is. in-orphan lists c.args.link file first second t f (ap (λ p. filelog_in lists p t) (sym c.as_slice.ensures) ∙ is) m e c.in-Err-parents_by.ensures.parents)
+    (λ t. MatchBool (is_of_outside e) ⊤ (noting m (file_in lists c.args.link file source first second t) ≡ Err e))
+    (λ t is. in-orphan lists c.args.link file source first second t f (ap (λ p. filelog_in lists p t) (sym c.as_slice.ensures) ∙ is) m e c.in-Err-parents_by.ensures.parents)
     c.in-Ok.ensures.found

@@ -1,12 +1,12 @@
-use Rattle.std.proofs.Common.{rules, ℕ, zero, suc, ◌<◌, ◌≤◌, ◌^◌, ◌≡◌, ◌++◌, List, [], ◌∷◌, true, length, refl, arith}
-use Rattle.std.specs.Prelude.{codes, decimal}
+use Rattle.std.proofs.Common.{rules, ℕ, zero, suc, ◌<◌, ◌≤◌, ◌^◌, ◌≡◌, ◌++◌, List, [], ◌∷◌, true, length, refl, sym, subst, arith}
+use Rattle.std.specs.Prelude.{codes, decimal, IfSome}
 use Rattle.std.specs.List.{AllByRecursion, list_all}
 use Rattle.std.proofs.lemmas.Fmt.{length-decimal-le, IsAscii-decimal}
 use Rattle.std.proofs.lemmas.Str.{IsUtf8-from_ascii, IsAscii-append}
 use Rattle.hgs_bytes.specs.Text.{Lacks}
 use Rattle.hgs_index.specs.TrackedPath.{is_tracked}
 use Rattle.hgs_model.specs.declared.files.NewFile.{NewFile}
-use Rattle.hgs_model.specs.Valid.{IsNewChange, new_paths}
+use Rattle.hgs_model.specs.Valid.{IsNewChange, is_source, new_paths}
 use Rattle.hgs_gen.specs.Generated.{generated, files_after, parents_of}
 use Rattle.hgs_gen.proofs.PathLemmas.{IsGood, no_directory}
 use Rattle.hgs_gen.proofs.ChangeLemmas.{files-good, files-ascend, files-few, number-lacks, IsFile}
@@ -28,6 +28,10 @@ all-good : (files : List NewFile) → AllByRecursion IsFile files → AllByRecur
 all-good [] all = tt
 all-good (f ∷ files) all = (all.0.path, all-good files all.1)
 
+no-sources : (files : List NewFile) → AllByRecursion IsFile files → AllByRecursion (λ (f : NewFile). IfSome f.from (λ path. is_source path ≡ true)) files
+no-sources [] all = tt
+no-sources (f ∷ files) all = (subst (λ o. IfSome o (λ path. is_source path ≡ true)) (sym all.0.source) tt, no-sources files all.1)
+
 all-short : (files : List NewFile) → AllByRecursion IsFile files → AllByRecursion (λ (f : NewFile). length f.body ≤ 16777216) files
 all-short [] all = tt
 all-short (f ∷ files) all = let short = all.0.short in (omega (arith, short), all-short files all.1)
@@ -47,12 +51,14 @@ valid seed made a b =
       seconds = search (rules, b);
       offset = search rules;
       bookmark = tt;
+      branch = tt;
       description = IsUtf8-from_ascii (codes "c" ++ decimal made) (IsAscii-append (codes "c") (decimal made) (search rules) (IsAscii-decimal made small));
       description_most = omega (arith, digits);
       count = let few = files-few seed (suc made) in omega (arith, few, b);
       paths = tracked (files_after seed (suc made)) files;
       ordered = files-ascend seed (suc made);
       apart = no_directory (new_paths (files_after seed (suc made))) (all-good (files_after seed (suc made)) files);
+      sources = no-sources (files_after seed (suc made)) files;
       bodies = all-short (files_after seed (suc made)) files;
     }
 

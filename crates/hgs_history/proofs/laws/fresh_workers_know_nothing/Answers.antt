@@ -1,6 +1,6 @@
 use Rattle.std.proofs.Common.{List, [], ◌∙◌, sym, subst}
 use Rattle.std.specs.Prelude.{IfSome, Option, ◌≡◌, Some}
-use Rattle.hgs_asked.specs.Beside.{IsKnown}
+use Rattle.hgs_history.specs.Beside.{IsKnown}
 use Rattle.hgs_files.specs.declared.op.Op.{Op}
 use Rattle.hgs_load.specs.View.{View}
 use Rattle.hgs_history.proofs.laws.fresh_workers_know_nothing.Goals as goal

@@ -15,6 +15,7 @@ returns c = record {
       fronts = c.journals_begin.ensures.fronts;
       whole = c.journals_begin.ensures.whole;
       changed = c.transactions_stay_covered.ensures.parts;
+      free = c.transactions_stay_covered.ensures.free;
       leads = c.undo_leads_back.ensures.leads;
       kept = c.undo_leads_back.ensures.kept;
       parts = c.undo_may_stop.ensures.parts;

@@ -10,6 +10,7 @@ returns c = λ t r next command who answer s valid accepted ready. stopped below
       fronts = c.journals_begin.ensures.fronts;
       whole = c.journals_begin.ensures.whole;
       changed = c.transactions_stay_covered.ensures.parts;
+      free = c.transactions_stay_covered.ensures.free;
       leads = c.undo_leads_back.ensures.leads;
       kept = c.undo_leads_back.ensures.kept;
       parts = c.undo_may_stop.ensures.parts;

@@ -96,6 +96,15 @@ returns-in-Phase-clause-told g c = λ alone.
     let P : Command → Type 0 = λ k. OfReply (question_of k) seen start (λ reply. IsReplied reply old new c.write_contents-in-Phase.result) in
     subst P (sym c.in-Phase.is) (c.write_contents-in-Phase.ensures.told alone)
 
+pub returns-in-Set-clause-told : goal.returns-in-Set-clause-told
+returns-in-Set-clause-told g c = λ alone.
+    let seen = g.R.Reads.seen c.args.files.now in
+    let start = g.R.Reads.start c.args.files.now in
+    let old = g.K.Sink.written c.args.out.now in
+    let new = g.K.Sink.written c.write_set.new.out in
+    let P : Command → Type 0 = λ k. OfReply (question_of k) seen start (λ reply. IsReplied reply old new c.write_set.result) in
+    subst P (sym c.in-Set.is) (c.write_set.ensures.told alone)
+
 pub returns-in-Log-clause-given : goal.returns-in-Log-clause-given
 returns-in-Log-clause-given g c =
     let P : Command → Type 0 = λ k. ReadsOnly (g.R.Reads.given c.args.files.now) (g.R.Reads.given c.write_log.new.files) (g.R.Reads.seen c.args.files.now) (g.R.Reads.start c.args.files.now) (g.R.Reads.seen c.write_log.new.files) (question_reads (question_of k)) in
@@ -130,6 +139,11 @@ pub returns-in-Phase-clause-given : goal.returns-in-Phase-clause-given
 returns-in-Phase-clause-given g c =
     let P : Command → Type 0 = λ k. ReadsOnly (g.R.Reads.given c.args.files.now) (g.R.Reads.given c.write_contents-in-Phase.new.files) (g.R.Reads.seen c.args.files.now) (g.R.Reads.start c.args.files.now) (g.R.Reads.seen c.write_contents-in-Phase.new.files) (question_reads (question_of k)) in
     subst P (sym c.in-Phase.is) c.write_contents-in-Phase.ensures.given
+
+pub returns-in-Set-clause-given : goal.returns-in-Set-clause-given
+returns-in-Set-clause-given g c =
+    let P : Command → Type 0 = λ k. ReadsOnly (g.R.Reads.given c.args.files.now) (g.R.Reads.given c.write_set.new.files) (g.R.Reads.seen c.args.files.now) (g.R.Reads.start c.args.files.now) (g.R.Reads.seen c.write_set.new.files) (question_reads (question_of k)) in
+    subst P (sym c.in-Set.is) c.write_set.ensures.given
 
 pub returns-in-Shown-clause-given : goal.returns-in-Shown-clause-given
 returns-in-Shown-clause-given g c =

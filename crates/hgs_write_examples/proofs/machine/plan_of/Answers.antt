@@ -11,7 +11,7 @@ use Rattle.hgs_write_examples.proofs.machine.plan_of.Goals as goal
 one-replaced : (before : List Change) (after : List Replacing) (x : Replacing) (t : Tree) → before ≡ [] → after ≡ [] → AreSound t (record { before = before; publishing = Replace x; after = after })
 one-replaced before after x t eb ea =
     subst (λ (l : List Change). AreSound t (record { before = l; publishing = Replace x; after = after })) (sym eb)
-    (subst (λ (l : List Replacing). AreSound t (record { before = []; publishing = Replace x; after = l })) (sym ea) (record { once = (refl, tt); publishing = tt }))
+    (subst (λ (l : List Replacing). AreSound t (record { before = []; publishing = Replace x; after = l })) (sym ea) (record { once = (refl, tt); made = tt; publishing = tt }))
 
 pub returns : goal.returns
 returns c =

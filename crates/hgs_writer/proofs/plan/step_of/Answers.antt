@@ -1,3 +1,5 @@
+use Rattle.std.proofs.Common.{subst}
+use Rattle.hgs_model.specs.Valid.{CanBeAsked}
 use Rattle.hgs_writer.proofs.PlanLemmas.{always-at-rest, at-rest, commit-comes, mark-comes, move-comes, unmark-comes, weaker}
 use Rattle.hgs_commit.specs.Commit.{Steps}
 use Rattle.hgs_writer.specs.Planning.{ComesTo}
@@ -31,3 +33,6 @@ pub returns-in-Unmark-clause-comes : goal.returns-in-Unmark-clause-comes
 returns-in-Unmark-clause-comes g c =
     always-at-rest g.R.Reads.alone (g.R.Reads.seen c.args.files.now) (g.R.Reads.start c.args.files.now) (λ t. ComesTo t c.args.loaded c.args.command.now c.unmarked.result)
     (λ t. unmark-comes t c.args.loaded c.args.command.now c.in-Unmark.name c.as_slice-in-Unmark.result.now c.unmarked.result c.in-Unmark.is c.as_slice-in-Unmark.ensures c.unmarked.ensures.comes)
+
+pub returns-in-Import-clause-comes : goal.returns-in-Import-clause-comes
+returns-in-Import-clause-comes g c = absurd (subst CanBeAsked c.in-Import.is c.requires.valid)

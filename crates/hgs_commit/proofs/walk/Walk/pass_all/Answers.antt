@@ -8,5 +8,5 @@ loop-self-preserved c =
     let want = c.args.passed.now.items ++ map (λ r. r.path) c.args.self in
     record {
       within = (let a = c.loop-self-test.true in let b = c.len.ensures in omega (arith, a, b));
-      told = told_next c.loop-self.self-inside.manifest c.loop-self.self-inside.next (view_row c.row-row.result) c.loop-self.passed.items c.push_path.new.passed.items want c.row-row.ensures c.in_ok-push_path.ensures c.loop-self.invariant.told;
+      told = told_next c.loop-self.self-inside.manifest.now c.loop-self.self-inside.next (view_row c.row-row.result) c.loop-self.passed.items c.push_path.new.passed.items want c.row-row.ensures c.in_ok-push_path.ensures c.loop-self.invariant.told;
     }

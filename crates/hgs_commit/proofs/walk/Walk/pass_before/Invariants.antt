@@ -4,10 +4,10 @@ use Rattle.hgs_commit.proofs.walk.Walk.pass_before.Given as goal
 
 abbrev pub invariant-loop-self : goal.invariant-loop-self
 invariant-loop-self l = record {
-  within : l.self-inside.next ≤ length l.self-inside.manifest;
-  rest : from_path l.path (drop l.self-inside.next l.self-inside.manifest) ≡ from_path l.path l.fn.self;
-  told : l.passed.items ++ map (λ r. r.path) (before l.path (drop l.self-inside.next l.self-inside.manifest)) ≡ l.fn.passed.items ++ map (λ r. r.path) (before l.path l.fn.self);
+  within : l.self-inside.next ≤ length l.self-inside.manifest.now;
+  rest : from_path l.path (drop l.self-inside.next l.self-inside.manifest.now) ≡ from_path l.path l.fn.self;
+  told : l.passed.items ++ map (λ r. r.path) (before l.path (drop l.self-inside.next l.self-inside.manifest.now)) ≡ l.fn.passed.items ++ map (λ r. r.path) (before l.path l.fn.self);
 }
 
 abbrev pub decreases-loop-self : goal.decreases-loop-self
-decreases-loop-self l = length l.self-inside.manifest - l.self-inside.next
+decreases-loop-self l = length l.self-inside.manifest.now - l.self-inside.next

@@ -1,0 +1,24 @@
+use Rattle.std.proofs.Common.{◌≡◌, ◌∙◌, ◌+◌, ◌-◌, ◌||◌, false, sym, ap, subst, length, arith}
+use Rattle.hgs_phases.specs.Moves.{is_marked}
+use Rattle.hgs_phases.specs.Phases.{history_of}
+use Rattle.hgs_phases.specs.Theorems.PhaseLemmas.{history-length}
+use Rattle.hgs_members.proofs.PassLemmas.{Rooted, root_first, root_next, root_done, set-when-length}
+use Rattle.hgs_members.proofs.passes.keep_roots.Goals as goal
+
+pub loop-rev-init : goal.loop-rev-init
+loop-rev-init c =
+    let long = history-length c.args.known.now.entries in
+    let n = c.len-rev.ensures in
+    (c.requires, λ b. root_first c.len-rev.result (history_of c.args.known.now.entries) c.args.marks.now.items (omega arith) (c.requires ∙ sym long))
+
+pub loop-rev-preserved : goal.loop-rev-preserved
+loop-rev-preserved c =
+    let some = c.loop-rev-test.true in
+    let next : c.loop-rev.rev ≡ c.loop-rev.rev - 1 + 1 = omega arith in (
+      ap length c.root.ensures ∙ set-when-length (is_marked c.loop-rev.marks.items c.entry.result.now.p1 || is_marked c.loop-rev.marks.items c.entry.result.now.p2) false c.loop-rev.marks.items (c.loop-rev.rev - 1) ∙ c.loop-rev.invariant.0,
+      λ b. root_next (c.loop-rev.rev - 1) c.args.known.now.entries c.args.marks.now.items c.loop-rev.marks.items c.root.new.marks.items c.entry.result.now b c.entry.ensures c.root.ensures
+          (subst (λ m. Rooted m (history_of c.args.known.now.entries) c.args.marks.now.items c.loop-rev.marks.items) next (c.loop-rev.invariant.1 b)),
+    )
+
+pub returns-clause-exact : goal.returns-clause-exact
+returns-clause-exact c = λ b. root_done c.loop-rev.rev (history_of c.args.known.now.entries) c.args.marks.now.items c.loop-rev.marks.items (let past = c.loop-rev-test.false in omega arith) (c.loop-rev.invariant.1 b)

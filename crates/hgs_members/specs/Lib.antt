@@ -1,0 +1,4 @@
+pub mod Members
+pub mod Passes
+pub mod Story
+pub mod Text

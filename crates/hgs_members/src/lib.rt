@@ -1,0 +1,10 @@
+//! The members of sets of revisions over a loaded repository, and how these are found.
+#![tactic(auto)]
+
+pub mod answer;
+pub mod eval;
+pub mod laws;
+pub mod members;
+mod operand;
+mod passes;
+pub mod text;

@@ -1,5 +1,0 @@
-use Rattle.hgs_pieces.proofs.LockLemmas.{carried-no-locks, released-no-locks, turned-away-no-locks}
-use Rattle.hgs_pieces.proofs.laws.swept_calls_leave_no_locks.Goals as goal
-
-pub returns : goal.returns
-returns c = record { carried = carried-no-locks; released = released-no-locks; turned_away = turned-away-no-locks }

@@ -1,0 +1,4 @@
+pub mod HoldsLemmas
+pub mod PrintedLemmas
+pub mod StoryLemmas
+pub mod WholeLemmas

@@ -1,8 +1,0 @@
-use Rattle.hgs_turns.proofs.Resting.{resting-journal, resting-stands}
-use Rattle.hgs_turns.proofs.laws.states_at_rest_stand.Goals as goal
-
-pub returns : goal.returns
-returns c = record {
-  stands = resting-stands c.numbers_rise.ensures.files c.stops_are_safe.ensures.ends;
-  journal = resting-journal c.numbers_rise.ensures.files c.stops_are_safe.ensures.ends;
-}

@@ -1,0 +1,15 @@
+use Rattle.hgs_files.specs.Tree.{after_all}
+use Rattle.hgs_ops.specs.Operations.{strays}
+use Rattle.hgs_writer.proofs.LockedReadyLemmas.{ready-same}
+use Rattle.hgs_writer.proofs.UnderLemmas.{changes-same, parts-same, same-beside, stands-beside}
+use Rattle.hgs_writer.proofs.piece_laws.locks_do_not_matter.Goals as goal
+
+pub returns : goal.returns
+returns c = record {
+  others = λ t who locking path locked w l. same-beside who t locking locked path w l;
+  stands = λ t r who locking locked s. stands-beside c.other_files_do_not_matter.ensures.loose c.strays_are_apart.ensures.strays t (after_all locking t) r (same-beside who t locking locked) s;
+  parts = λ t r next command who p locking locked are.
+      (let beside = same-beside who t locking locked in
+      parts-same t (after_all locking t) r command next p beside (changes-same (λ path ext. c.files_are_not_loose.ensures.filelogs strays path ext c.strays_are_apart.ensures.strays) t (after_all locking t) r command next beside) are);
+  ready = λ t r next command who locking locked is. ready-same (λ path ext. c.files_are_not_loose.ensures.filelogs strays path ext c.strays_are_apart.ensures.strays) who t locking locked r command next is;
+}
