@@ -12,8 +12,8 @@ use Rattle.hgs_index.specs.ChangeText.{date_text}
 use Rattle.hgs_index.specs.declared.kinds.Which.TheVariants.{Record}
 use Rattle.hgs_model.specs.Valid.{AreNewChanges, IsNewChange}
 use Rattle.hgs_model.specs.declared.command.NewChange.{NewChange}
-use Rattle.hgs_input.specs.Front.{left}
-use Rattle.hgs_input.specs.Import.{AreRecordTexts, IsImport, end_line, import_from, import_text, most_records, next_record, read_import, record_at, records_from}
+use Rattle.hgs_input.specs.Front.{IsImportBefore, left}
+use Rattle.hgs_input.specs.Import.{AreRecordTexts, IsImport, IsImportText, end_line, import_from, import_text, most_records, next_record, read_import, record_at, records_from}
 use Rattle.hgs_input.specs.Read.{Rest, Reading, ◌>>=◌, bad_at, line_or_cut, looked_at, more, next_line, nothing_behind, place, record_from, start_of}
 use Rattle.hgs_input.specs.Record.{Wording, bookmark_text, branch_text, description_text, file_text, most_input, parent_text, phase_text, record_text}
 use Rattle.hgs_input.specs.declared.fault.InputFault.{InputFault}
@@ -150,17 +150,25 @@ records_found (suc n) changes r p few e =
 abbrev pub alone_behind : List NewChange × Rest → Result (List NewChange) InputFault
 alone_behind p = nothing_behind p.1 >>= λ _. Ok p.0
 
+-- they are the texts of an import where there were none before them
+found_text : (r rest : Rest) (all : List NewChange) (h : RecordsFound [] r all rest) → IsImportText (concat h.texts ++ line end_line) all
+found_text r rest all h = record { texts = h.texts; is = refl; records = subst (AreRecordTexts h.texts) (sym h.is) h.records; least = h.least; most = h.most }
+
+pub import_before : (r rest : Rest) (changes : List NewChange) → import_from r ≡ Ok (changes, rest) → IsImportBefore r changes rest
+import_before r rest changes e =
+    let found = records_found (length r.bytes) [] r (changes, rest) (omega arith) e in
+    record { text = concat found.texts ++ line end_line; is = found.before.is; records = found_text r rest changes found; whole = found.before.whole }
+
 pub import_found : (bytes : List ℕ) (changes : List NewChange) → read_import bytes ≡ Ok changes → IsImport bytes changes
 import_found bytes changes e =
     let a = bound (import_from (start_of bytes)) alone_behind changes e in
     let b = bound (nothing_behind a.value.1) (λ _. Ok a.value.0) changes a.gives in
-    let found = records_found (length (looked_at bytes)) [] (start_of bytes) a.value (omega arith) a.is in
+    let before = import_before (start_of bytes) a.value.1 a.value.0 a.is in
     let none = none_behind a.value.1 b.is in
-    let text = concat found.texts ++ line end_line in
-    let is : looked_at bytes ≡ text = found.before.is ∙ ap (λ t. text ++ t) none.0 ∙ append-nil text in
-    let room : length (looked_at bytes) ≤ most_input = subst (λ n. n ≤ most_input) found.before.whole none.1 in
+    let is : looked_at bytes ≡ before.text = before.is ∙ ap (λ t. before.text ++ t) none.0 ∙ append-nil before.text in
+    let room : length (looked_at bytes) ≤ most_input = subst (λ n. n ≤ most_input) before.whole none.1 in
     let few = looked-length bytes room in
-    let whole : IsImport (looked_at bytes) a.value.0 = record { texts = found.texts; is = is; records = subst (AreRecordTexts found.texts) (sym found.is) found.records; least = found.least; most = found.most; size = room } in
+    let whole : IsImport (looked_at bytes) a.value.0 = record { text = subst (λ t. IsImportText t a.value.0) (sym is) before.records; size = room } in
     subst (IsImport bytes) (ok_is a.value.0 changes b.gives) (subst (λ b. IsImport b a.value.0) (looked-whole bytes (omega (arith, few))) whole)
 
 -- ---- records are read
@@ -214,19 +222,23 @@ texts_longer (text ∷ texts) (c ∷ changes) are =
     let some = record_some are.0.says c in
     omega (arith, rest, size, is, some)
 
+pub import_front_back : (text : List ℕ) (changes : List NewChange) (w : ℕ) (behind : List ℕ) → IsImportText text changes → import_from (left w (text ++ behind)) ≡ Ok (changes, left w behind)
+import_front_back text changes w behind h =
+    let least = h.least in
+    let most = h.most in
+    let all = concat h.texts ++ (line end_line ++ behind) in
+    let is : text ++ behind ≡ all = ap (λ t. t ++ behind) h.is ∙ append_assoc (concat h.texts) (line end_line) behind in
+    let longer = texts_longer h.texts changes h.records in
+    let size = length-append (concat h.texts) (line end_line ++ behind) in
+    ap (λ b. records_from (length b) [] (left w b)) is ∙ records_back (length all) [] changes h.texts w behind (omega (arith, longer, size)) (omega (arith, most)) (omega (arith, least)) h.records
+
 pub import_back : (bytes : List ℕ) (changes : List NewChange) → IsImport bytes changes → read_import bytes ≡ Ok changes
 import_back bytes changes h =
     let w = length bytes in
     let small = h.size in
-    let least = h.least in
-    let most = h.most in
-    let text = concat h.texts ++ (line end_line ++ []) in
-    let is : bytes ≡ text = h.is ∙ ap (λ t. concat h.texts ++ t) (sym (append-nil (line end_line))) in
-    let longer = texts_longer h.texts changes h.records in
-    let size = length-append (concat h.texts) (line end_line ++ []) in
     ap (λ b. import_from (left (length b) b) >>= alone_behind) (looked-whole bytes (omega (arith, small)))
     ∙ then_ok (import_from (left w bytes)) (changes, left w []) alone_behind (Ok changes)
-    (ap (λ b. records_from (length b) [] (left w b)) is ∙ records_back (length text) [] changes h.texts w [] (omega (arith, longer, size)) (omega (arith, most)) (omega (arith, least)) h.records)
+    (ap (λ b. import_from (left w b)) (sym (append-nil bytes)) ∙ import_front_back bytes changes w [] h.text)
     (ap (λ t. (if t then Ok tt else Err (Limit Record)) >>= λ _. Ok changes) (le-leb w most_input small))
 
 -- ---- an import that is written
@@ -235,9 +247,11 @@ texts_of : (says : Wording) (changes : List NewChange) → AllByRecursion IsNewC
 texts_of says [] each = tt
 texts_of says (c ∷ changes) each = (record { says = says; is = refl; valid = each.0 }, texts_of says changes each.1)
 
+pub text_written : (says : Wording) (changes : List NewChange) → AreNewChanges changes → IsImportText (import_text says changes) changes
+text_written says changes h = record { texts = map (record_text says) changes; is = refl; records = texts_of says changes h.each; least = h.least; most = h.most }
+
 pub import_written : (says : Wording) (changes : List NewChange) → AreNewChanges changes → length (import_text says changes) ≤ most_input → read_import (import_text says changes) ≡ Ok changes
-import_written says changes h small =
-    import_back (import_text says changes) changes (record { texts = map (record_text says) changes; is = refl; records = texts_of says changes h.each; least = h.least; most = h.most; size = small })
+import_written says changes h small = import_back (import_text says changes) changes (record { text = text_written says changes h; size = small })
 
 each_valid : (texts : List (List ℕ)) (changes : List NewChange) → AreRecordTexts texts changes → AllByRecursion IsNewChange changes
 each_valid [] [] are = tt
@@ -245,5 +259,5 @@ each_valid [] (c ∷ changes) are = absurd are
 each_valid (text ∷ texts) [] are = absurd are
 each_valid (text ∷ texts) (c ∷ changes) are = (are.0.valid, each_valid texts changes are.1)
 
-pub import_valid : (bytes : List ℕ) (changes : List NewChange) → IsImport bytes changes → AreNewChanges changes
-import_valid bytes changes h = record { least = h.least; most = h.most; each = each_valid h.texts changes h.records }
+pub text_valid : (text : List ℕ) (changes : List NewChange) → IsImportText text changes → AreNewChanges changes
+text_valid text changes h = record { least = h.least; most = h.most; each = each_valid h.texts changes h.records }

@@ -3,6 +3,7 @@ use Rattle.std.specs.Prelude.{◌≡◌, ◌⊎◌, ◌+◌, ℕ, List, ◌++◌
 use Rattle.hgs_model.specs.declared.command.NewChange.{NewChange}
 use Rattle.hgs_model.specs.Valid.{IsNewChange}
 use Rattle.hgs_input.specs.declared.fault.InputFault.{InputFault}
+use Rattle.hgs_input.specs.Import.{IsImportText}
 use Rattle.hgs_input.specs.Record.{Wording, record_text}
 use Rattle.hgs_input.specs.Read.{Rest, Reading, bad_at}
 
@@ -15,6 +16,13 @@ pub record IsRecordBefore (r : Rest) (c : NewChange) (rest : Rest) : Type 0 wher
   pub says : Wording
   pub text : r.bytes ≡ record_text says c ++ rest.bytes
   pub valid : IsNewChange c
+  pub whole : rest.whole ≡ r.whole
+
+-- so do the records of these changesets, with their last line
+pub record IsImportBefore (r : Rest) (changes : List NewChange) (rest : Rest) : Type 0 where
+  pub text : List ℕ
+  pub is : r.bytes ≡ text ++ rest.bytes
+  pub records : IsImportText text changes
   pub whole : rest.whole ≡ r.whole
 
 pub record SameFault {A : Type 0} (a b : Reading A) : Type 0 where

@@ -31,13 +31,17 @@ AreRecordTexts [] (c ∷ changes) = ⊥
 AreRecordTexts (text ∷ texts) [] = ⊥
 AreRecordTexts (text ∷ texts) (c ∷ changes) = IsRecordText text c × AreRecordTexts texts changes
 
--- the bytes are records of 1 to 10,000 changesets, the last line, and no more than an input may have
-pub record IsImport (bytes : List ℕ) (changes : List NewChange) : Type 0 where
+-- the text is records of 1 to 10,000 changesets and the last line
+pub record IsImportText (text : List ℕ) (changes : List NewChange) : Type 0 where
   pub texts : List (List ℕ)
-  pub is : bytes ≡ concat texts ++ line end_line
+  pub is : text ≡ concat texts ++ line end_line
   pub records : AreRecordTexts texts changes
   pub least : 1 ≤ length changes
   pub most : length changes ≤ most_records
+
+-- the bytes are such a text, and no more than an input may have
+pub record IsImport (bytes : List ℕ) (changes : List NewChange) : Type 0 where
+  pub text : IsImportText bytes changes
   pub size : length bytes ≤ most_input
 
 -- records that are worded alike

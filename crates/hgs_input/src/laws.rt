@@ -6,8 +6,8 @@ ghost use Rattle.hgs_model.specs.Valid.{AreNewChanges, IsNewChange};
 ghost use Rattle.hgs_model.specs.declared.command.NewChange.{NewChange};
 ghost use Rattle.hgs_index.specs.declared.kinds.Which.TheVariants.{FileText, Tree};
 ghost use Rattle.hgs_input.specs.declared.fault.InputFault.TheVariants.{BadInput, Limit};
-ghost use Rattle.hgs_input.specs.Front.{left, IsRecordBefore, Alike};
-ghost use Rattle.hgs_input.specs.Import.{IsImport, import_text, read_import};
+ghost use Rattle.hgs_input.specs.Front.{left, IsImportBefore, IsRecordBefore, Alike};
+ghost use Rattle.hgs_input.specs.Import.{IsImport, IsImportText, import_from, import_text, read_import};
 ghost use Rattle.hgs_input.specs.Read.{Rest, read_record, record_from, number_up_to};
 ghost use Rattle.hgs_input.specs.Record.{IsRecord, Wording, most_input, record_text};
 
@@ -76,4 +76,18 @@ pub fn imports_are_decided_by_fronts()
     ensures body { (front more : List ℕ) → read_import front ≡ Err (Limit FileText) → read_import (front ++ more) ≡ Err (Limit FileText) }
     ensures files { (front more : List ℕ) → read_import front ≡ Err (Limit Tree) → read_import (front ++ more) ≡ Err (Limit Tree) }
     ensures long { (front more : List ℕ) → most_input < length front → read_import (front ++ more) ≡ read_import front }
+{}
+
+/// The records of an import are read with their last line where other bytes stand behind it, and these are left; and what is read with
+/// bytes behind it are such records, of changesets that can be imported. Those of changesets that can be imported are such.
+pub fn imports_stand_in_front()
+    ensures read { (text : List ℕ) (changes : List NewChange) (whole : ℕ) (behind : List ℕ) → IsImportText text changes → import_from (left whole (text ++ behind)) ≡ Ok (changes, left whole behind) }
+    ensures is { (r rest : Rest) (changes : List NewChange) → import_from r ≡ Ok (changes, rest) → IsImportBefore r changes rest }
+    ensures valid { (text : List ℕ) (changes : List NewChange) → IsImportText text changes → AreNewChanges changes }
+    ensures written { (says : Wording) (changes : List NewChange) → AreNewChanges changes → IsImportText (import_text says changes) changes }
+{}
+
+/// What is read as an import of the front of an input is read of the whole, but where the front is cut.
+pub fn imports_are_read_alike()
+    ensures { (whole : ℕ) (tail bytes : List ℕ) → Alike whole tail (import_from (left whole bytes)) (import_from (left (whole + length tail) (bytes ++ tail))) }
 {}

@@ -1,7 +1,6 @@
 -- Marks on a stack that stand for sets.
 use Rattle.std.proofs.Common.{◌≡◌, ◌<◌, ◌≤◌, ℕ, zero, suc, ◌+◌, Bool, true, false, not, ◌&&◌, List, [], ◌∷◌, ◌++◌, length, drop, map, Option, Some, None, refl, sym, ◌∙◌, ap, subst, inl, inr, arith}
-use Rattle.std.specs.Prelude.{◌⊎◌, ◌↔◌, ◌==◌, ◌||◌, is_some, slice_get, slice_index_or, slice_set, replicate}
-use Rattle.std.proofs.lemmas.List.{get_or-set_same, get_or-set_other, length-set}
+use Rattle.std.specs.Prelude.{◌↔◌, ◌==◌, is_some, slice_get, slice_index_or, replicate}
 use Rattle.std.specs.Option.{option_to_list}
 use Rattle.hgs_phases.specs.Theorems.PhaseLemmas.{number-same, or-cases, or-left, or-right, same-number}
 use Rattle.hgs_model.specs.declared.phase.Phase.{Phase}
@@ -9,11 +8,12 @@ use Rattle.hgs_model.specs.Phase.{phase_number}
 use Rattle.hgs_revset.specs.Members.{Set, Name, Marked, All, InPhase, Not, Ancestors, Descendants, Heads, Roots, And, Or, Story, is_known, Has}
 use Rattle.hgs_revset.specs.Postfix.{after, all_known, on_one, on_two, set_of, step_known, stepped, IsWhole}
 use Rattle.hgs_members.specs.Passes.{IsMarked}
-use Rattle.hgs_members.specs.Members.{marks_in, marks_of, one_mark, takes_one, takes_two, AreEither, AreShown, Changes, Combines, Shows}
+use Rattle.hgs_members.specs.Members.{marks_in, marks_of, one_mark, takes_one, takes_two, AreShown, Changes, Combines, Shows}
 use Rattle.hgs_members.specs.declared.operand.Operand.{Operand}
 use Rattle.hgs_members.specs.declared.operand.Operand.TheVariants.{One, Many}
 use Rattle.hgs_revset.specs.declared.step.Step.{Step}
 use Rattle.hgs_revset.specs.declared.step.Step.TheVariants as steps
+use Rattle.hgs_members.proofs.OperandLemmas.{length-replicated, one-length, one-marked, marked-one}
 use Rattle.hgs_members.proofs.PassLemmas.{mark-low, false_is_not}
 
 -- ---- the last of a list
@@ -303,33 +303,6 @@ none_known s all a tree known none = ap (is_known s) (sym tree) ∙ sym known �
 pub stack_put : (s : Story) (a : Set) (old new : List Operand) (top : Operand) → new ≡ old ++ top ∷ [] → Shows s a (marks_in (length s.parents) top) → (sets : List Set) → AreShown s sets (marks_of s old) → AreShown s (a ∷ sets) (marks_of s new)
 stack_put s a old new top is shows sets h = (marks_in (length s.parents) top, marks_of s old, top-is s new old top is, shows, h)
 
-length-replicated : (n : ℕ) (b : Bool) → length (replicate n b) ≡ n
-length-replicated zero b = refl
-length-replicated (suc n) b = ap suc (length-replicated n b)
-
-unmarked-none : (n i : ℕ) → IsMarked (replicate n false) i → ⊥
-unmarked-none zero i h = false_is_not h
-unmarked-none (suc n) zero h = false_is_not h
-unmarked-none (suc n) (suc i) h = unmarked-none n i h
-
-one-length : (count rev : ℕ) → length (one_mark count rev) ≡ count
-one-length count rev = length-set (replicate count false) rev true ∙ length-replicated count false
-
-same-or-not : (i j : ℕ) → (i ≡ j) ⊎ (i ≡ j → ⊥)
-same-or-not zero zero = inl refl
-same-or-not zero (suc j) = inr (λ e. absurd (omega (arith, e)))
-same-or-not (suc i) zero = inr (λ e. absurd (omega (arith, e)))
-same-or-not (suc i) (suc j) = elim (same-or-not i j) [ inl e ↦ inl (ap suc e) | inr n ↦ inr (λ e. n (omega (arith, e))) ]
-
-one-marked : (count rev i : ℕ) → IsMarked (one_mark count rev) i → i ≡ rev
-one-marked count rev i h = elim (same-or-not i rev) [
-  | inl e ↦ e
-  | inr n ↦ absurd (unmarked-none count i (sym (get_or-set_other (replicate count false) rev i true false n) ∙ h))
-]
-
-marked-one : (count rev : ℕ) → rev < count → IsMarked (one_mark count rev) rev
-marked-one count rev lt = get_or-set_same (replicate count false) rev true false (let n = length-replicated count false in omega (arith, lt, n))
-
 some-same : (m n : ℕ) → Some m ≡ Some n → m ≡ n
 some-same m n e = cc
 
@@ -402,29 +375,11 @@ two_lengths s old middle below left right count counted stood next sets h =
     let n = length s.parents in
     ap (λ k. length (marks_in k left)) counted ∙ two_counts s (marks_of s old) (marks_of s middle) (marks_of s below) (marks_in n left) (marks_in n right) (top-is s old middle right stood) (top-is s middle below left next) sets h ∙ ap (λ k. length (marks_in k right)) (sym counted)
 
-pub two_stepped : (s : Story) (step : Step) (old middle new below : List Operand) (left right : Operand) (count : ℕ) (is : List Bool) → takes_two step ≡ true → count ≡ length s.parents → old ≡ middle ++ right ∷ [] → middle ≡ below ++ left ∷ [] → new ≡ below ++ Many is ∷ [] → Combines step (marks_in count left) (marks_in count right) is →
+pub two_stepped : (s : Story) (step : Step) (old middle new below : List Operand) (left right : Operand) (count : ℕ) (is : Operand) → takes_two step ≡ true → count ≡ length s.parents → old ≡ middle ++ right ∷ [] → middle ≡ below ++ left ∷ [] → new ≡ below ++ is ∷ [] → Combines step (marks_in count left) (marks_in count right) (marks_in count is) →
     (step_known s step ≡ true) × ((sets : List Set) → AreShown s sets (marks_of s old) → AreShown s (stepped step sets) (marks_of s new))
 two_stepped s step old middle new below left right count is two counted stood next stands c =
     let n = length s.parents in (
       two_known s step two,
-      two_shown s step (marks_of s old) (marks_of s middle) (marks_of s new) (marks_of s below) (marks_in n left) (marks_in n right) is two (top-is s old middle right stood) (top-is s middle below left next) (top-is s new below (Many is) stands) (subst (λ k. Combines step (marks_in k left) (marks_in k right) is) counted c),
+      two_shown s step (marks_of s old) (marks_of s middle) (marks_of s new) (marks_of s below) (marks_in n left) (marks_in n right) (marks_in n is) two (top-is s old middle right stood) (top-is s middle below left next) (top-is s new below is stands)
+          (subst (λ k. Combines step (marks_in k left) (marks_in k right) (marks_in k is)) counted c),
     )
-
--- one changeset more
-pub added_either : (left : List Bool) (count rev : ℕ) → length left ≡ count → AreEither left (one_mark count rev) (slice_set left rev true)
-added_either left count rev same = record {
-  count = length-set left rev true;
-  each = λ i lt. elim (same-or-not i rev) [
-    | inl e ↦ (
-        let here : rev < length left = omega (arith, lt, e) in
-        let both : IsMarked (one_mark count rev) i = subst (λ k. IsMarked (one_mark count rev) k) (sym e) (marked-one count rev (omega (arith, here, same))) in
-        ap (λ k. slice_index_or (slice_set left rev true) k false) e ∙ get_or-set_same left rev true false here ∙ sym (or-right (slice_index_or left i false) (slice_index_or (one_mark count rev) i false) both)
-        )
-    | inr n ↦ get_or-set_other left rev i true false n ∙ sym (or-none (slice_index_or left i false) (slice_index_or (one_mark count rev) i false) (λ h. n (one-marked count rev i h)))
-  ];
-}
-  where
-    or-none : (a b : Bool) → (b ≡ true → ⊥) → (a || b) ≡ a
-    or-none true b h = refl
-    or-none false true h = absurd (h refl)
-    or-none false false h = refl

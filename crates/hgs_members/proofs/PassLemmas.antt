@@ -1,13 +1,12 @@
 -- Passes over the history, one changeset after another.
 use Rattle.std.proofs.Common.{◌≡◌, ◌≢◌, ◌⊎◌, ◌<◌, ◌≤◌, ℕ, zero, suc, ◌+◌, Bool, true, false, ◌||◌, List, [], ◌∷◌, length, Option, Some, None, refl, sym, ◌∙◌, ap, subst, inl, inr, arith}
 use Rattle.std.specs.Prelude.{◌↔◌, ◌==◌, IfSome, slice_get, slice_index_or, slice_set, if◌then◌else◌}
-use Rattle.std.proofs.lemmas.List.{get_or-set_same, get_or-set_other, length-set}
+use Rattle.std.proofs.lemmas.Bool.{cases_lt}
+use Rattle.std.proofs.lemmas.List.{get_or-set_same, get_or-set_other, length-set, set-get_or}
 use Rattle.hgs_index.specs.Ancestor.{IsAncestor, itself, of_parent, IsParent}
 use Rattle.hgs_index.specs.Revision.{Parents, ParentsBefore}
-use Rattle.hgs_index.specs.declared.entry.Entry.{Entry}
 use Rattle.hgs_phases.specs.Moves.{is_marked, marked}
-use Rattle.hgs_phases.specs.Phases.{history_of}
-use Rattle.hgs_phases.specs.Theorems.PhaseLemmas.{or-cases, or-left, or-right, same-number, number-same, below-or-here, history-at, some_is}
+use Rattle.hgs_phases.specs.Theorems.PhaseLemmas.{or-cases, or-left, or-right, same-number, number-same, below-or-here, some_is}
 use Rattle.hgs_members.specs.Passes.{IsMarked, climbed, descended, unmarked, headed, rooted, AreAncestors, AreDescendants, AreHeads, AreRoots}
 
 -- ---- parents and ancestors
@@ -42,21 +41,26 @@ pub ancestor_further : (history : List Parents) (a b c : ℕ) → IsAncestor his
 ancestor_further history a b c h itself = h
 ancestor_further history a b c h (of_parent par rest) = of_parent par (ancestor_further history a b _ h rest)
 
--- the parents of an entry
-abbrev HasParent : Entry → ℕ → Type 0
-HasParent e p = (e.p1 ≡ Some p) ⊎ (e.p2 ≡ Some p)
+pub parents_at : (history : List Parents) (n : ℕ) → n < length history → slice_get history n ≡ Some (slice_index_or history n (None, None))
+parents_at [] n lt = absurd (omega (arith, lt))
+parents_at (x ∷ history) zero lt = refl
+parents_at (x ∷ history) (suc n) lt = parents_at history n (omega (arith, lt))
 
-parent-in : (entries : List Entry) (n : ℕ) (e : Entry) (p : ℕ) → slice_get entries n ≡ Some e → HasParent e p → IsParent (history_of entries) p n
-parent-in entries n e p there h = ((e.p1, e.p2), history-at entries n e there, h)
+-- a number is one of two parents
+abbrev HasParent : Parents → ℕ → Type 0
+HasParent e p = (e.0 ≡ Some p) ⊎ (e.1 ≡ Some p)
 
-parent-of : (entries : List Entry) (n : ℕ) (e : Entry) (p : ℕ) → slice_get entries n ≡ Some e → IsParent (history_of entries) p n → HasParent e p
-parent-of entries n e p there h = elim h.2 [
+parent-in : (history : List Parents) (n : ℕ) (e : Parents) (p : ℕ) → slice_get history n ≡ Some e → HasParent e p → IsParent history p n
+parent-in history n e p there h = (e, there, h)
+
+parent-of : (history : List Parents) (n : ℕ) (e : Parents) (p : ℕ) → slice_get history n ≡ Some e → IsParent history p n → HasParent e p
+parent-of history n e p there h = elim h.2 [
   | inl first ↦ inl (ap (λ (y : Parents). y.0) same ∙ first)
   | inr second ↦ inr (ap (λ (y : Parents). y.1) same ∙ second)
 ]
   where
-    same : (e.p1, e.p2) ≡ h.0
-    same = some_is (e.p1, e.p2) h.0 (sym (history-at entries n e there) ∙ h.1)
+    same : e ≡ h.0
+    same = some_is e h.0 (sym there ∙ h.1)
 
 -- ---- one mark
 
@@ -102,6 +106,9 @@ cleared-was marks q i h = elim (same-or-other q i) [
 cleared-stays : (marks : List Bool) (q i : ℕ) → i ≢ q → IsMarked marks i → IsMarked (slice_set marks q false) i
 cleared-stays marks q i ne h = get_or-set_other marks q i false false ne ∙ h
 
+below-or-above : (n i : ℕ) → (i < n) ⊎ (n ≤ i)
+below-or-above n i = cases_lt i n
+
 -- ---- marks of parents
 
 marked-was : (marks : List Bool) (o : Option ℕ) (i : ℕ) → IsMarked (marked marks o) i → IsMarked marks i ⊎ (o ≡ Some i)
@@ -140,55 +147,55 @@ is-marked-says marks (Some q) h = (q, refl, h)
 is-marked-by : (marks : List Bool) (o : Option ℕ) (p : ℕ) → o ≡ Some p → IsMarked marks p → is_marked marks o ≡ true
 is-marked-by marks o p e h = ap (is_marked marks) e ∙ h
 
-pub record Up (e : Entry) (marks : List Bool) : Type 0 where
+pub record Up (e : Parents) (marks : List Bool) : Type 0 where
   pub parent : ℕ
   pub is : HasParent e parent
   pub mark : IsMarked marks parent
 
-some-parent : (marks : List Bool) (e : Entry) → (is_marked marks e.p1 || is_marked marks e.p2) ≡ true → Up e marks
-some-parent marks e h = elim (or-cases (is_marked marks e.p1) (is_marked marks e.p2) h) [
-  | inl first ↦ (let k = is-marked-says marks e.p1 first in record { parent = k.0; is = inl k.1; mark = k.2 })
-  | inr second ↦ (let k = is-marked-says marks e.p2 second in record { parent = k.0; is = inr k.1; mark = k.2 })
+some-parent : (marks : List Bool) (e : Parents) → (is_marked marks e.0 || is_marked marks e.1) ≡ true → Up e marks
+some-parent marks e h = elim (or-cases (is_marked marks e.0) (is_marked marks e.1) h) [
+  | inl first ↦ (let k = is-marked-says marks e.0 first in record { parent = k.0; is = inl k.1; mark = k.2 })
+  | inr second ↦ (let k = is-marked-says marks e.1 second in record { parent = k.0; is = inr k.1; mark = k.2 })
 ]
 
-by-parent : (marks : List Bool) (e : Entry) (p : ℕ) → HasParent e p → IsMarked marks p → (is_marked marks e.p1 || is_marked marks e.p2) ≡ true
+by-parent : (marks : List Bool) (e : Parents) (p : ℕ) → HasParent e p → IsMarked marks p → (is_marked marks e.0 || is_marked marks e.1) ≡ true
 by-parent marks e p is h = elim is [
-  | inl first ↦ or-left (is_marked marks e.p1) (is_marked marks e.p2) (is-marked-by marks e.p1 p first h)
-  | inr second ↦ or-right (is_marked marks e.p1) (is_marked marks e.p2) (is-marked-by marks e.p2 p second h)
+  | inl first ↦ or-left (is_marked marks e.0) (is_marked marks e.1) (is-marked-by marks e.0 p first h)
+  | inr second ↦ or-right (is_marked marks e.0) (is_marked marks e.1) (is-marked-by marks e.1 p second h)
 ]
 
 -- ---- ancestors, from the last down
 
-climbed-was : (marks : List Bool) (n : ℕ) (e : Entry) (i : ℕ) → IsMarked (climbed marks n e) i → IsMarked marks i ⊎ (IsMarked marks n × HasParent e i)
+climbed-was : (marks : List Bool) (n : ℕ) (e : Parents) (i : ℕ) → IsMarked (climbed marks n e) i → IsMarked marks i ⊎ (IsMarked marks n × HasParent e i)
 climbed-was marks n e i h = by (slice_index_or marks n false) refl h
   where
-    by : (t : Bool) → slice_index_or marks n false ≡ t → IsMarked (if t then marked (marked marks e.p1) e.p2 else marks) i → IsMarked marks i ⊎ (IsMarked marks n × HasParent e i)
+    by : (t : Bool) → slice_index_or marks n false ≡ t → IsMarked (if t then marked (marked marks e.0) e.1 else marks) i → IsMarked marks i ⊎ (IsMarked marks n × HasParent e i)
     by false is k = inl k
-    by true is k = elim (marked-was (marked marks e.p1) e.p2 i k) [
+    by true is k = elim (marked-was (marked marks e.0) e.1 i k) [
       | inr second ↦ inr (is, inr second)
-      | inl before ↦ elim (marked-was marks e.p1 i before) [ inr first ↦ inr (is, inl first) | inl was ↦ inl was ]
+      | inl before ↦ elim (marked-was marks e.0 i before) [ inr first ↦ inr (is, inl first) | inl was ↦ inl was ]
     ]
 
-climbed-stays : (marks : List Bool) (n : ℕ) (e : Entry) (i : ℕ) → IsMarked marks i → IsMarked (climbed marks n e) i
+climbed-stays : (marks : List Bool) (n : ℕ) (e : Parents) (i : ℕ) → IsMarked marks i → IsMarked (climbed marks n e) i
 climbed-stays marks n e i h = by (slice_index_or marks n false)
   where
-    by : (t : Bool) → IsMarked (if t then marked (marked marks e.p1) e.p2 else marks) i
+    by : (t : Bool) → IsMarked (if t then marked (marked marks e.0) e.1 else marks) i
     by false = h
-    by true = marked-stays (marked marks e.p1) e.p2 i (marked-stays marks e.p1 i h)
+    by true = marked-stays (marked marks e.0) e.1 i (marked-stays marks e.0 i h)
 
-climbed-here : (marks : List Bool) (n : ℕ) (e : Entry) (i : ℕ) → i < length marks → IsMarked marks n → HasParent e i → IsMarked (climbed marks n e) i
+climbed-here : (marks : List Bool) (n : ℕ) (e : Parents) (i : ℕ) → i < length marks → IsMarked marks n → HasParent e i → IsMarked (climbed marks n e) i
 climbed-here marks n e i lt mark is =
-    subst (λ t. IsMarked (if t then marked (marked marks e.p1) e.p2 else marks) i) (sym mark) (elim is [
-      | inl first ↦ marked-stays (marked marks e.p1) e.p2 i (marked-here marks e.p1 i lt first)
-      | inr second ↦ marked-here (marked marks e.p1) e.p2 i (let size = marked-length marks e.p1 in omega (arith, size, lt)) second
+    subst (λ t. IsMarked (if t then marked (marked marks e.0) e.1 else marks) i) (sym mark) (elim is [
+      | inl first ↦ marked-stays (marked marks e.0) e.1 i (marked-here marks e.0 i lt first)
+      | inr second ↦ marked-here (marked marks e.0) e.1 i (let size = marked-length marks e.0 in omega (arith, size, lt)) second
     ])
 
-pub climbed-length : (marks : List Bool) (n : ℕ) (e : Entry) → length (climbed marks n e) ≡ length marks
+pub climbed-length : (marks : List Bool) (n : ℕ) (e : Parents) → length (climbed marks n e) ≡ length marks
 climbed-length marks n e = by (slice_index_or marks n false)
   where
-    by : (t : Bool) → length (if t then marked (marked marks e.p1) e.p2 else marks) ≡ length marks
+    by : (t : Bool) → length (if t then marked (marked marks e.0) e.1 else marks) ≡ length marks
     by false = refl
-    by true = marked-length (marked marks e.p1) e.p2 ∙ marked-length marks e.p1
+    by true = marked-length (marked marks e.0) e.1 ∙ marked-length marks e.0
 
 -- the changesets from n on have marked their parents
 pub record Climbed (n : ℕ) (history : List Parents) (first marks : List Bool) : Type 0 where
@@ -197,12 +204,20 @@ pub record Climbed (n : ℕ) (history : List Parents) (first marks : List Bool) 
   pub kept : (i : ℕ) → IsMarked first i → IsMarked marks i
   pub closed : (p c : ℕ) → n ≤ c → IsParent history p c → IsMarked marks c → IsMarked marks p
 
-pub climb_first : (n : ℕ) (history : List Parents) (first : List Bool) → length history ≤ n → length first ≡ length history → Climbed n history first first
-climb_first n history first past size = record {
+-- no changeset from n on is marked
+abbrev pub NoneFrom : ℕ → List Bool → Type 0
+NoneFrom n marks = (i : ℕ) → n ≤ i → slice_index_or marks i false ≡ false
+
+-- no changeset before n is marked
+abbrev pub NoneBefore : ℕ → List Bool → Type 0
+NoneBefore n marks = (i : ℕ) → i < n → slice_index_or marks i false ≡ false
+
+pub climb_first : (n : ℕ) (history : List Parents) (first : List Bool) → NoneFrom n first → length first ≡ length history → Climbed n history first first
+climb_first n history first none size = record {
   size = size;
   sound = λ i h. (i, h, itself);
   kept = λ i h. h;
-  closed = λ p c le par h. absurd (let k = child_there history p c par in omega (arith, k, le, past));
+  closed = λ p c le par h. false_is_not (sym (none c le) ∙ h);
 }
 
 here-or-above : (n i : ℕ) → n ≤ i → (i ≡ n) ⊎ (n + 1 ≤ i)
@@ -211,30 +226,30 @@ here-or-above n i le = elim (same-or-other n i) [ inl e ↦ inl (sym e) | inr ne
     more : (x y : ℕ) → x ≤ y → y ≢ x → x + 1 ≤ y
     more x y l k = omega (arith, l, k)
 
-pub climb_next : (n : ℕ) (entries : List Entry) (first marks new : List Bool) (e : Entry) → ParentsBefore 0 (history_of entries) → slice_get entries n ≡ Some e →
-    new ≡ climbed marks n e → Climbed (n + 1) (history_of entries) first marks → Climbed n (history_of entries) first new
-climb_next n entries first marks new e before there is r = subst (Climbed n (history_of entries) first) (sym is) (record {
+pub climb_next : (n : ℕ) (history : List Parents) (first marks new : List Bool) (e : Parents) → ParentsBefore 0 history → slice_get history n ≡ Some e →
+    new ≡ climbed marks n e → Climbed (n + 1) history first marks → Climbed n history first new
+climb_next n history first marks new e before there is r = subst (Climbed n history first) (sym is) (record {
   size = climbed-length marks n e ∙ r.size;
   sound = λ i h. elim (climbed-was marks n e i h) [
     | inl was ↦ r.sound i was
-    | inr up ↦ (let k = r.sound n up.0 in (k.0, k.1, ancestor_further (history_of entries) i n k.0 (of_parent (parent-in entries n e i there up.1) itself) k.2))
+    | inr up ↦ (let k = r.sound n up.0 in (k.0, k.1, ancestor_further history i n k.0 (of_parent (parent-in history n e i there up.1) itself) k.2))
   ];
   kept = λ i h. climbed-stays marks n e i (r.kept i h);
   closed = λ p c le par h. elim (climbed-was marks n e c h) [
-    | inr up ↦ absurd (let k = parent_before (history_of entries) c n before (parent-in entries n e c there up.1) in omega (arith, k, le))
+    | inr up ↦ absurd (let k = parent_before history c n before (parent-in history n e c there up.1) in omega (arith, k, le))
     | inl was ↦ elim (here-or-above n c le) [
       | inr above ↦ climbed-stays marks n e p (r.closed p c above par was)
-      | inl same ↦ here p (subst (λ k. IsParent (history_of entries) p k) same par) (subst (IsMarked marks) same was)
+      | inl same ↦ here p (subst (λ k. IsParent history p k) same par) (subst (IsMarked marks) same was)
     ]
   ];
 })
   where
-    here : (p : ℕ) → IsParent (history_of entries) p n → IsMarked marks n → IsMarked (climbed marks n e) p
+    here : (p : ℕ) → IsParent history p n → IsMarked marks n → IsMarked (climbed marks n e) p
     here p par mark =
-        let low = parent_before (history_of entries) p n before par in
-        let top = child_there (history_of entries) p n par in
+        let low = parent_before history p n before par in
+        let top = child_there history p n par in
         let size = r.size in
-        climbed-here marks n e p (omega (arith, low, top, size)) mark (parent-of entries n e p there par)
+        climbed-here marks n e p (omega (arith, low, top, size)) mark (parent-of history n e p there par)
 
 up-closed : (history : List Parents) (marks : List Bool) (a b : ℕ) → ((p c : ℕ) → 0 ≤ c → IsParent history p c → IsMarked marks c → IsMarked marks p) → IsAncestor history a b → IsMarked marks b → IsMarked marks a
 up-closed history marks a b closed itself h = h
@@ -245,21 +260,21 @@ climb_done n history first marks is r = λ i. (r.sound i, λ h. up-closed histor
 
 -- ---- descendants, from the first up
 
-descended-was : (marks : List Bool) (n : ℕ) (e : Entry) (i : ℕ) → IsMarked (descended marks n e) i → IsMarked marks i ⊎ ((n ≡ i) × Up e marks)
-descended-was marks n e i h = by (is_marked marks e.p1 || is_marked marks e.p2) refl h
+descended-was : (marks : List Bool) (n : ℕ) (e : Parents) (i : ℕ) → IsMarked (descended marks n e) i → IsMarked marks i ⊎ ((n ≡ i) × Up e marks)
+descended-was marks n e i h = by (is_marked marks e.0 || is_marked marks e.1) refl h
   where
-    by : (t : Bool) → (is_marked marks e.p1 || is_marked marks e.p2) ≡ t → IsMarked (if t then slice_set marks n true else marks) i → IsMarked marks i ⊎ ((n ≡ i) × Up e marks)
+    by : (t : Bool) → (is_marked marks e.0 || is_marked marks e.1) ≡ t → IsMarked (if t then slice_set marks n true else marks) i → IsMarked marks i ⊎ ((n ≡ i) × Up e marks)
     by false is k = inl k
     by true is k = elim (set-was marks n i k) [ inl was ↦ inl was | inr same ↦ inr (same, some-parent marks e is) ]
 
-descended-stays : (marks : List Bool) (n : ℕ) (e : Entry) (i : ℕ) → IsMarked marks i → IsMarked (descended marks n e) i
-descended-stays marks n e i h = by (is_marked marks e.p1 || is_marked marks e.p2)
+descended-stays : (marks : List Bool) (n : ℕ) (e : Parents) (i : ℕ) → IsMarked marks i → IsMarked (descended marks n e) i
+descended-stays marks n e i h = by (is_marked marks e.0 || is_marked marks e.1)
   where
     by : (t : Bool) → IsMarked (if t then slice_set marks n true else marks) i
     by false = h
     by true = set-stays marks n i h
 
-descended-here : (marks : List Bool) (n : ℕ) (e : Entry) (p : ℕ) → n < length marks → HasParent e p → IsMarked marks p → IsMarked (descended marks n e) n
+descended-here : (marks : List Bool) (n : ℕ) (e : Parents) (p : ℕ) → n < length marks → HasParent e p → IsMarked marks p → IsMarked (descended marks n e) n
 descended-here marks n e p lt is h = subst (λ t. IsMarked (if t then slice_set marks n true else marks) n) (sym (by-parent marks e p is h)) (set-here marks n lt)
 
 pub set-when-length : (t b : Bool) (marks : List Bool) (n : ℕ) → length (if t then slice_set marks n b else marks) ≡ length marks
@@ -273,37 +288,37 @@ pub record Descended (n : ℕ) (history : List Parents) (first marks : List Bool
   pub kept : (i : ℕ) → IsMarked first i → IsMarked marks i
   pub closed : (p c : ℕ) → c < n → IsParent history p c → IsMarked marks p → IsMarked marks c
 
-pub descend_first : (history : List Parents) (first : List Bool) → length first ≡ length history → Descended 0 history first first
-descend_first history first size = record {
+pub descend_first : (n : ℕ) (history : List Parents) (first : List Bool) → ParentsBefore 0 history → NoneBefore n first → length first ≡ length history → Descended n history first first
+descend_first n history first before none size = record {
   size = size;
   sound = λ i h. (i, h, itself);
   kept = λ i h. h;
-  closed = λ p c lt par h. absurd (omega (arith, lt));
+  closed = λ p c lt par h. (let k = parent_before history p c before par in false_is_not (sym (none p (omega (arith, k, lt))) ∙ h));
 }
 
-pub descend_next : (n : ℕ) (entries : List Entry) (first marks new : List Bool) (e : Entry) → ParentsBefore 0 (history_of entries) → slice_get entries n ≡ Some e →
-    new ≡ descended marks n e → Descended n (history_of entries) first marks → Descended (n + 1) (history_of entries) first new
-descend_next n entries first marks new e before there is r = subst (Descended (n + 1) (history_of entries) first) (sym is) (record {
-  size = set-when-length (is_marked marks e.p1 || is_marked marks e.p2) true marks n ∙ r.size;
+pub descend_next : (n : ℕ) (history : List Parents) (first marks new : List Bool) (e : Parents) → ParentsBefore 0 history → slice_get history n ≡ Some e →
+    new ≡ descended marks n e → Descended n history first marks → Descended (n + 1) history first new
+descend_next n history first marks new e before there is r = subst (Descended (n + 1) history first) (sym is) (record {
+  size = set-when-length (is_marked marks e.0 || is_marked marks e.1) true marks n ∙ r.size;
   sound = λ i h. elim (descended-was marks n e i h) [
     | inl was ↦ r.sound i was
-    | inr up ↦ (let k = r.sound up.1.parent up.1.mark in (k.0, k.1, subst (IsAncestor (history_of entries) k.0) up.0 (of_parent (parent-in entries n e up.1.parent there up.1.is) k.2)))
+    | inr up ↦ (let k = r.sound up.1.parent up.1.mark in (k.0, k.1, subst (IsAncestor history k.0) up.0 (of_parent (parent-in history n e up.1.parent there up.1.is) k.2)))
   ];
   kept = λ i h. descended-stays marks n e i (r.kept i h);
   closed = λ p c lt par h. elim (descended-was marks n e p h) [
-    | inr up ↦ absurd (let k = parent_before (history_of entries) p c before par in let same = up.0 in omega (arith, k, same, lt))
+    | inr up ↦ absurd (let k = parent_before history p c before par in let same = up.0 in omega (arith, k, same, lt))
     | inl was ↦ elim (below-or-here n c lt) [
       | inl low ↦ descended-stays marks n e c (r.closed p c low par was)
-      | inr same ↦ subst (IsMarked (descended marks n e)) (sym same) (here p (subst (λ k. IsParent (history_of entries) p k) same par) was)
+      | inr same ↦ subst (IsMarked (descended marks n e)) (sym same) (here p (subst (λ k. IsParent history p k) same par) was)
     ]
   ];
 })
   where
-    here : (p : ℕ) → IsParent (history_of entries) p n → IsMarked marks p → IsMarked (descended marks n e) n
+    here : (p : ℕ) → IsParent history p n → IsMarked marks p → IsMarked (descended marks n e) n
     here p par mark =
-        let top = child_there (history_of entries) p n par in
+        let top = child_there history p n par in
         let size = r.size in
-        descended-here marks n e p (omega (arith, top, size)) (parent-of entries n e p there par) mark
+        descended-here marks n e p (omega (arith, top, size)) (parent-of history n e p there par) mark
 
 down-closed : (history : List Parents) (marks : List Bool) (a b : ℕ) → ((p c : ℕ) → IsParent history p c → IsMarked marks p → IsMarked marks c) → IsAncestor history a b → IsMarked marks a → IsMarked marks b
 down-closed history marks a b closed itself h = h
@@ -314,29 +329,29 @@ descend_done n history first marks past r = λ i. (r.sound i, λ h. down-closed 
 
 -- ---- heads, from the first up
 
-headed-was : (marks : List Bool) (n : ℕ) (e : Entry) (i : ℕ) → IsMarked (headed marks n e) i → IsMarked marks i × (IsMarked marks n → HasParent e i → ⊥)
+headed-was : (marks : List Bool) (n : ℕ) (e : Parents) (i : ℕ) → IsMarked (headed marks n e) i → IsMarked marks i × (IsMarked marks n → HasParent e i → ⊥)
 headed-was marks n e i h = by (slice_index_or marks n false) refl h
   where
-    by : (t : Bool) → slice_index_or marks n false ≡ t → IsMarked (if t then unmarked (unmarked marks e.p1) e.p2 else marks) i → IsMarked marks i × (IsMarked marks n → HasParent e i → ⊥)
+    by : (t : Bool) → slice_index_or marks n false ≡ t → IsMarked (if t then unmarked (unmarked marks e.0) e.1 else marks) i → IsMarked marks i × (IsMarked marks n → HasParent e i → ⊥)
     by false is k = (k, λ mark. false_is_not (sym is ∙ mark))
     by true is k =
-        let second = unmarked-was (unmarked marks e.p1) e.p2 i k in
-        let first = unmarked-was marks e.p1 i second.0 in
+        let second = unmarked-was (unmarked marks e.0) e.1 i k in
+        let first = unmarked-was marks e.0 i second.0 in
         (first.0, λ mark par. elim par [ inl x ↦ first.1 x | inr x ↦ second.1 x ])
 
-headed-stays : (marks : List Bool) (n : ℕ) (e : Entry) (i : ℕ) → IsMarked marks i → (IsMarked marks n → HasParent e i → ⊥) → IsMarked (headed marks n e) i
+headed-stays : (marks : List Bool) (n : ℕ) (e : Parents) (i : ℕ) → IsMarked marks i → (IsMarked marks n → HasParent e i → ⊥) → IsMarked (headed marks n e) i
 headed-stays marks n e i h none = by (slice_index_or marks n false) refl
   where
-    by : (t : Bool) → slice_index_or marks n false ≡ t → IsMarked (if t then unmarked (unmarked marks e.p1) e.p2 else marks) i
+    by : (t : Bool) → slice_index_or marks n false ≡ t → IsMarked (if t then unmarked (unmarked marks e.0) e.1 else marks) i
     by false is = h
-    by true is = unmarked-stays (unmarked marks e.p1) e.p2 i (λ x. none is (inr x)) (unmarked-stays marks e.p1 i (λ x. none is (inl x)) h)
+    by true is = unmarked-stays (unmarked marks e.0) e.1 i (λ x. none is (inr x)) (unmarked-stays marks e.0 i (λ x. none is (inl x)) h)
 
-pub headed-length : (marks : List Bool) (n : ℕ) (e : Entry) → length (headed marks n e) ≡ length marks
+pub headed-length : (marks : List Bool) (n : ℕ) (e : Parents) → length (headed marks n e) ≡ length marks
 headed-length marks n e = by (slice_index_or marks n false)
   where
-    by : (t : Bool) → length (if t then unmarked (unmarked marks e.p1) e.p2 else marks) ≡ length marks
+    by : (t : Bool) → length (if t then unmarked (unmarked marks e.0) e.1 else marks) ≡ length marks
     by false = refl
-    by true = unmarked-length (unmarked marks e.p1) e.p2 ∙ unmarked-length marks e.p1
+    by true = unmarked-length (unmarked marks e.0) e.1 ∙ unmarked-length marks e.0
 
 -- the first n changesets have taken the marks of their parents, where they had one
 pub record Headed (n : ℕ) (history : List Parents) (first marks : List Bool) : Type 0 where
@@ -344,57 +359,57 @@ pub record Headed (n : ℕ) (history : List Parents) (first marks : List Bool) :
   pub sound : (i : ℕ) → IsMarked marks i → IsMarked first i × ((c : ℕ) → c < n → IsMarked first c → IsParent history i c → ⊥)
   pub complete : (i : ℕ) → IsMarked first i → ((c : ℕ) → c < n → IsMarked first c → IsParent history i c → ⊥) → IsMarked marks i
 
-pub head_first : (history : List Parents) (first : List Bool) → length first ≡ length history → Headed 0 history first first
-head_first history first size = record {
+pub head_first : (n : ℕ) (history : List Parents) (first : List Bool) → NoneBefore n first → length first ≡ length history → Headed n history first first
+head_first n history first none size = record {
   size = size;
-  sound = λ i h. (h, λ c lt mark par. omega (arith, lt));
-  complete = λ i h none. h;
+  sound = λ i h. (h, λ c lt mark par. false_is_not (sym (none c lt) ∙ mark));
+  complete = λ i h every. h;
 }
 
-pub head_next : (n : ℕ) (entries : List Entry) (first marks new : List Bool) (e : Entry) → ParentsBefore 0 (history_of entries) → slice_get entries n ≡ Some e →
-    new ≡ headed marks n e → Headed n (history_of entries) first marks → Headed (n + 1) (history_of entries) first new
-head_next n entries first marks new e before there is r = subst (Headed (n + 1) (history_of entries) first) (sym is) (record {
+pub head_next : (n : ℕ) (history : List Parents) (first marks new : List Bool) (e : Parents) → ParentsBefore 0 history → slice_get history n ≡ Some e →
+    new ≡ headed marks n e → Headed n history first marks → Headed (n + 1) history first new
+head_next n history first marks new e before there is r = subst (Headed (n + 1) history first) (sym is) (record {
   size = headed-length marks n e ∙ r.size;
   sound = λ i h. (let k = headed-was marks n e i h in let s = r.sound i k.0 in (
     s.0,
     λ c lt mark par. elim (below-or-here n c lt) [
       | inl low ↦ s.1 c low mark par
-      | inr same ↦ k.1 (still (subst (IsMarked first) same mark)) (parent-of entries n e i there (subst (λ x. IsParent (history_of entries) i x) same par))
+      | inr same ↦ k.1 (still (subst (IsMarked first) same mark)) (parent-of history n e i there (subst (λ x. IsParent history i x) same par))
     ],
   ));
-  complete = λ i h none. headed-stays marks n e i (r.complete i h (λ c lt. none c (omega (arith, lt)))) (λ mark par. none n (omega arith) (r.sound n mark).0 (parent-in entries n e i there par));
+  complete = λ i h none. headed-stays marks n e i (r.complete i h (λ c lt. none c (omega (arith, lt)))) (λ mark par. none n (omega arith) (r.sound n mark).0 (parent-in history n e i there par));
 })
   where
     -- no child of n came yet
     still : IsMarked first n → IsMarked marks n
-    still mark = r.complete n mark (λ c lt other par. let k = parent_before (history_of entries) n c before par in omega (arith, k, lt))
+    still mark = r.complete n mark (λ c lt other par. let k = parent_before history n c before par in omega (arith, k, lt))
 
-pub head_done : (n : ℕ) (history : List Parents) (first marks : List Bool) → length history ≤ n → Headed n history first marks → AreHeads history first marks
-head_done n history first marks past r = λ i. (
-  λ h. (let s = r.sound i h in (s.0, λ c mark par. s.1 c (let top = child_there history i c par in omega (arith, top, past)) mark par)),
+pub head_done : (end n : ℕ) (history : List Parents) (first marks : List Bool) → NoneFrom end first → end ≤ n → Headed n history first marks → AreHeads history first marks
+head_done end n history first marks none past r = λ i. (
+  λ h. (let s = r.sound i h in (s.0, λ c mark par. elim (below-or-above n c) [ inl low ↦ s.1 c low mark par | inr high ↦ false_is_not (sym (none c (omega (arith, high, past))) ∙ mark) ])),
   λ h. r.complete i h.0 (λ c lt mark par. h.1 c mark par),
 )
 
 -- ---- roots, from the last down
 
-rooted-was : (marks : List Bool) (n : ℕ) (e : Entry) (i : ℕ) → IsMarked (rooted marks n e) i → IsMarked marks i × ((n ≡ i) → (p : ℕ) → HasParent e p → IsMarked marks p → ⊥)
-rooted-was marks n e i h = by (is_marked marks e.p1 || is_marked marks e.p2) refl h
+rooted-was : (marks : List Bool) (n : ℕ) (e : Parents) (i : ℕ) → IsMarked (rooted marks n e) i → IsMarked marks i × ((n ≡ i) → (p : ℕ) → HasParent e p → IsMarked marks p → ⊥)
+rooted-was marks n e i h = by (is_marked marks e.0 || is_marked marks e.1) refl h
   where
-    by : (t : Bool) → (is_marked marks e.p1 || is_marked marks e.p2) ≡ t → IsMarked (if t then slice_set marks n false else marks) i → IsMarked marks i × ((n ≡ i) → (p : ℕ) → HasParent e p → IsMarked marks p → ⊥)
+    by : (t : Bool) → (is_marked marks e.0 || is_marked marks e.1) ≡ t → IsMarked (if t then slice_set marks n false else marks) i → IsMarked marks i × ((n ≡ i) → (p : ℕ) → HasParent e p → IsMarked marks p → ⊥)
     by false is k = (k, λ same p par mark. false_is_not (sym is ∙ by-parent marks e p par mark))
     by true is k = let w = cleared-was marks n i k in (w.0, λ same p par mark. w.1 (sym same))
 
-rooted-other : (marks : List Bool) (n : ℕ) (e : Entry) (i : ℕ) → i ≢ n → IsMarked marks i → IsMarked (rooted marks n e) i
-rooted-other marks n e i ne h = by (is_marked marks e.p1 || is_marked marks e.p2)
+rooted-other : (marks : List Bool) (n : ℕ) (e : Parents) (i : ℕ) → i ≢ n → IsMarked marks i → IsMarked (rooted marks n e) i
+rooted-other marks n e i ne h = by (is_marked marks e.0 || is_marked marks e.1)
   where
     by : (t : Bool) → IsMarked (if t then slice_set marks n false else marks) i
     by false = h
     by true = cleared-stays marks n i ne h
 
-rooted-here : (marks : List Bool) (n : ℕ) (e : Entry) → IsMarked marks n → ((p : ℕ) → HasParent e p → IsMarked marks p → ⊥) → IsMarked (rooted marks n e) n
-rooted-here marks n e h none = by (is_marked marks e.p1 || is_marked marks e.p2) refl
+rooted-here : (marks : List Bool) (n : ℕ) (e : Parents) → IsMarked marks n → ((p : ℕ) → HasParent e p → IsMarked marks p → ⊥) → IsMarked (rooted marks n e) n
+rooted-here marks n e h none = by (is_marked marks e.0 || is_marked marks e.1) refl
   where
-    by : (t : Bool) → (is_marked marks e.p1 || is_marked marks e.p2) ≡ t → IsMarked (if t then slice_set marks n false else marks) n
+    by : (t : Bool) → (is_marked marks e.0 || is_marked marks e.1) ≡ t → IsMarked (if t then slice_set marks n false else marks) n
     by false is = h
     by true is = let up = some-parent marks e is in absurd (none up.parent up.is up.mark)
 
@@ -404,33 +419,47 @@ pub record Rooted (n : ℕ) (history : List Parents) (first marks : List Bool) :
   pub below : (i : ℕ) → i < n → (IsMarked marks i ↔ IsMarked first i)
   pub above : (i : ℕ) → n ≤ i → (IsMarked marks i ↔ IsMarked first i × ((p : ℕ) → IsMarked first p → IsParent history p i → ⊥))
 
-pub root_first : (n : ℕ) (history : List Parents) (first : List Bool) → length history ≤ n → length first ≡ length history → Rooted n history first first
-root_first n history first past size = record {
+pub root_first : (n : ℕ) (history : List Parents) (first : List Bool) → NoneFrom n first → length first ≡ length history → Rooted n history first first
+root_first n history first none size = record {
   size = size;
   below = λ i lt. (λ h. h, λ h. h);
-  above = λ i le. (λ h. absurd (let low = mark-low first i h in omega (arith, low, le, past, size)), λ h. h.0);
+  above = λ i le. (λ h. false_is_not (sym (none i le) ∙ h), λ h. h.0);
 }
 
-pub root_next : (n : ℕ) (entries : List Entry) (first marks new : List Bool) (e : Entry) → ParentsBefore 0 (history_of entries) → slice_get entries n ≡ Some e →
-    new ≡ rooted marks n e → Rooted (n + 1) (history_of entries) first marks → Rooted n (history_of entries) first new
-root_next n entries first marks new e before there is r = subst (Rooted n (history_of entries) first) (sym is) (record {
-  size = set-when-length (is_marked marks e.p1 || is_marked marks e.p2) false marks n ∙ r.size;
+pub root_next : (n : ℕ) (history : List Parents) (first marks new : List Bool) (e : Parents) → ParentsBefore 0 history → slice_get history n ≡ Some e →
+    new ≡ rooted marks n e → Rooted (n + 1) history first marks → Rooted n history first new
+root_next n history first marks new e before there is r = subst (Rooted n history first) (sym is) (record {
+  size = set-when-length (is_marked marks e.0 || is_marked marks e.1) false marks n ∙ r.size;
   below = λ i lt. (λ h. (r.below i (omega (arith, lt))).0 (rooted-was marks n e i h).0, λ h. rooted-other marks n e i (λ k. absurd (omega (arith, k, lt))) ((r.below i (omega (arith, lt))).1 h));
   above = λ i le. elim (here-or-above n i le) [
     | inr more ↦ (λ h. (r.above i more).0 (rooted-was marks n e i h).0, λ h. rooted-other marks n e i (λ k. absurd (omega (arith, k, more))) ((r.above i more).1 h))
-    | inl same ↦ subst (λ k. IsMarked (rooted marks n e) k ↔ IsMarked first k × ((p : ℕ) → IsMarked first p → IsParent (history_of entries) p k → ⊥)) (sym same) (down, up)
+    | inl same ↦ subst (λ k. IsMarked (rooted marks n e) k ↔ IsMarked first k × ((p : ℕ) → IsMarked first p → IsParent history p k → ⊥)) (sym same) (down, up)
   ];
 })
   where
-    down : IsMarked (rooted marks n e) n → IsMarked first n × ((p : ℕ) → IsMarked first p → IsParent (history_of entries) p n → ⊥)
+    down : IsMarked (rooted marks n e) n → IsMarked first n × ((p : ℕ) → IsMarked first p → IsParent history p n → ⊥)
     down h =
         let w = rooted-was marks n e n h in
-        ((r.below n (omega arith)).0 w.0, λ p mark par. w.1 refl p (parent-of entries n e p there par) ((r.below p (let k = parent_before (history_of entries) p n before par in omega (arith, k))).1 mark))
+        ((r.below n (omega arith)).0 w.0, λ p mark par. w.1 refl p (parent-of history n e p there par) ((r.below p (let k = parent_before history p n before par in omega (arith, k))).1 mark))
 
-    up : IsMarked first n × ((p : ℕ) → IsMarked first p → IsParent (history_of entries) p n → ⊥) → IsMarked (rooted marks n e) n
+    up : IsMarked first n × ((p : ℕ) → IsMarked first p → IsParent history p n → ⊥) → IsMarked (rooted marks n e) n
     up h = rooted-here marks n e ((r.below n (omega arith)).1 h.0) (λ p par mark.
-        (let inside = parent-in entries n e p there par in
-        h.1 p ((r.below p (let k = parent_before (history_of entries) p n before inside in omega (arith, k))).0 mark) inside))
+        (let inside = parent-in history n e p there par in
+        h.1 p ((r.below p (let k = parent_before history p n before inside in omega (arith, k))).0 mark) inside))
 
-pub root_done : (n : ℕ) (history : List Parents) (first marks : List Bool) → n ≡ 0 → Rooted n history first marks → AreRoots history first marks
-root_done n history first marks is r = λ i. r.above i (omega (arith, is))
+pub root_done : (start n : ℕ) (history : List Parents) (first marks : List Bool) → NoneBefore start first → n ≤ start → Rooted n history first marks → AreRoots history first marks
+root_done start n history first marks none past r = λ i. elim (below-or-above n i) [
+  | inr high ↦ r.above i high
+  | inl low ↦ (
+    λ h. false_is_not (sym (none i (omega (arith, low, past))) ∙ (r.below i low).0 h),
+    λ h. false_is_not (sym (none i (omega (arith, low, past))) ∙ h.0),
+  )
+]
+
+-- a changeset that is not marked stays as it is
+pub rooted_unmarked : (marks : List Bool) (n : ℕ) (e : Parents) → slice_index_or marks n false ≡ false → rooted marks n e ≡ marks
+rooted_unmarked marks n e none = by (is_marked marks e.0 || is_marked marks e.1)
+  where
+    by : (t : Bool) → (if t then slice_set marks n false else marks) ≡ marks
+    by false = refl
+    by true = ap (slice_set marks n) (sym none) ∙ set-get_or marks n false

@@ -1,3 +1,4 @@
+pub mod Bits
 pub mod Members
 pub mod Passes
 pub mod Story

@@ -9,7 +9,7 @@ use Rattle.hgs_members.specs.Passes.{AreAncestors, AreDescendants, AreHeads, Are
 use Rattle.hgs_members.specs.declared.answer.SetAnswer.{SetAnswer}
 use Rattle.hgs_members.specs.declared.answer.SetAnswer.TheVariants.{Memory, UnknownRevision}
 use Rattle.hgs_members.specs.declared.operand.Operand.{Operand}
-use Rattle.hgs_members.specs.declared.operand.Operand.TheVariants.{One, Many}
+use Rattle.hgs_members.specs.declared.operand.Operand.TheVariants.{Empty, One, Many}
 
 -- marks that stand for a set
 pub record Shows (s : Story) (a : Set) (marks : List Bool) : Type 0 where
@@ -29,6 +29,7 @@ abbrev pub one_mark : ℕ → ℕ → List Bool
 one_mark count rev = slice_set (replicate count false) rev true
 
 abbrev pub marks_in : ℕ → Operand → List Bool
+marks_in count Empty = replicate count false
 marks_in count (One rev) = one_mark count rev
 marks_in count (Many marks) = marks
 

@@ -2,7 +2,6 @@
 use Rattle.std.specs.Prelude.{◌≡◌, ◌↔◌, ℕ, Bool, true, false, ◌||◌, List, Option, Some, None, if◌then◌else◌, slice_index_or, slice_set}
 use Rattle.hgs_index.specs.Ancestor.{IsAncestor, IsParent}
 use Rattle.hgs_index.specs.Revision.{Parents}
-use Rattle.hgs_index.specs.declared.entry.Entry.{Entry}
 use Rattle.hgs_phases.specs.Moves.{is_marked, marked}
 
 abbrev pub IsMarked : List Bool → ℕ → Type 0
@@ -11,24 +10,24 @@ IsMarked marks i = slice_index_or marks i false ≡ true
 -- ---- one changeset of a pass
 
 -- a marked one marks its parents
-abbrev pub climbed : List Bool → ℕ → Entry → List Bool
-climbed marks n e = if slice_index_or marks n false then marked (marked marks e.p1) e.p2 else marks
+abbrev pub climbed : List Bool → ℕ → Parents → List Bool
+climbed marks n e = if slice_index_or marks n false then marked (marked marks e.0) e.1 else marks
 
 -- one with a marked parent is marked
-abbrev pub descended : List Bool → ℕ → Entry → List Bool
-descended marks n e = if is_marked marks e.p1 || is_marked marks e.p2 then slice_set marks n true else marks
+abbrev pub descended : List Bool → ℕ → Parents → List Bool
+descended marks n e = if is_marked marks e.0 || is_marked marks e.1 then slice_set marks n true else marks
 
 abbrev pub unmarked : List Bool → Option ℕ → List Bool
 unmarked marks None = marks
 unmarked marks (Some rev) = slice_set marks rev false
 
 -- a marked one takes the marks of its parents
-abbrev pub headed : List Bool → ℕ → Entry → List Bool
-headed marks n e = if slice_index_or marks n false then unmarked (unmarked marks e.p1) e.p2 else marks
+abbrev pub headed : List Bool → ℕ → Parents → List Bool
+headed marks n e = if slice_index_or marks n false then unmarked (unmarked marks e.0) e.1 else marks
 
 -- one with a marked parent loses its mark
-abbrev pub rooted : List Bool → ℕ → Entry → List Bool
-rooted marks n e = if is_marked marks e.p1 || is_marked marks e.p2 then slice_set marks n false else marks
+abbrev pub rooted : List Bool → ℕ → Parents → List Bool
+rooted marks n e = if is_marked marks e.0 || is_marked marks e.1 then slice_set marks n false else marks
 
 -- ---- what a whole pass makes, over these parents
 

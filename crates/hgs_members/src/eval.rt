@@ -10,6 +10,7 @@ ghost use Rattle.hgs_members.specs.Members.{marks_in, marks_of, takes_one, takes
 use crate::answer::SetAnswer;
 use crate::members::Members;
 use crate::operand::{Operand, both, either};
+use crate::passes::{Parents, keep_heads, keep_roots, mark_ancestors, mark_descendants};
 use hgs_model::phase::Phase;
 use hgs_reader::session::Session;
 use hgs_revlog::revlog::Revlog;
@@ -69,17 +70,29 @@ fn put_phase(
     Ok(())
 }
 
+// The parents of each changeset, which the passes read again and again.
+fn history_of(alloc: Global, known: &Revlog) -> Result<Vec<Parents>, AllocError>
+    ensures { IfOk result (λ history. history.items ≡ history_of known.now.entries) }
+{
+    let mut history = Vec::with_capacity(alloc, known.len() as usize)?;
+    for rev in 0..known.len() {
+        let entry = known.entry(rev);
+        history.push((entry.p1, entry.p2))?;
+    }
+    Ok(history)
+}
+
 // What a step of one operand makes of it.
-fn change(members: &mut Members, step: &Step, known: &Revlog)
-    requires { length members.old ≡ length known.now.entries }
-    ensures { Changes (history_of known.now.entries) step.now members.old members.new }
+fn change(members: &mut Members, step: &Step, history: &[Parents])
+    requires { length members.old ≡ length history.now }
+    ensures { Changes history.now step.now members.old members.new }
 {
     match step {
         Step::Not => members.invert(),
-        Step::Ancestors => members.mark_ancestors(known),
-        Step::Descendants => members.mark_descendants(known),
-        Step::Heads => members.keep_heads(known),
-        Step::Roots => members.keep_roots(known),
+        Step::Ancestors => mark_ancestors(members, history),
+        Step::Descendants => mark_descendants(members, history),
+        Step::Heads => keep_heads(members, history),
+        Step::Roots => keep_roots(members, history),
         Step::Name(_) | Step::Marked(_) | Step::All | Step::InPhase(_) | Step::And | Step::Or => {}
     }
 }
@@ -89,14 +102,16 @@ fn change_top(
     stack: &mut Vec<Operand>,
     step: &Step,
     session: &Session,
+    history: &[Parents],
 ) -> Result<(), SetAnswer>
     requires one { takes_one step.now ≡ true }
+    requires parents { history.now ≡ (story_of session.now).parents }
     requires shown { (sets : List Tree) × AreShown (story_of session.now) sets (marks_of (story_of session.now) stack.old.items) }
     ensures { Steps (story_of session.now) step.now stack.old.items stack.new.items result }
 {
     if let Some(operand) = stack.pop() {
         let mut members = operand.into_members(alloc, session.len())?;
-        change(&mut members, step, session.loaded().changelog());
+        change(&mut members, step, history);
         stack.push(Operand::Many(members))?;
     }
     Ok(())
@@ -109,13 +124,13 @@ fn combine(
     left: Operand,
     right: Operand,
     step: &Step,
-) -> Result<Members, AllocError>
+) -> Result<Operand, AllocError>
     requires two { takes_two step.now ≡ true }
     requires same { length (marks_in count left) ≡ length (marks_in count right) }
-    ensures { IfOk result (λ m. Combines step.now (marks_in count left) (marks_in count right) m) }
+    ensures { IfOk result (λ o. Combines step.now (marks_in count left) (marks_in count right) (marks_in count o)) }
 {
     match step {
-        Step::And => both(alloc, count, left, right),
+        Step::And => Ok(both(left, right)),
         Step::Or => either(alloc, count, left, right),
         Step::Name(_)
         | Step::Marked(_)
@@ -146,8 +161,8 @@ fn combine_tops(
         stack.push(right)?;
         return Ok(());
     };
-    let members = combine(alloc, session.len(), left, right, step)?;
-    stack.push(Operand::Many(members))?;
+    let made = combine(alloc, session.len(), left, right, step)?;
+    stack.push(made)?;
     Ok(())
 }
 
@@ -156,8 +171,10 @@ fn apply(
     stack: &mut Vec<Operand>,
     step: &Step,
     session: &Session,
+    history: &[Parents],
 ) -> Result<(), SetAnswer>
-    requires { (sets : List Tree) × AreShown (story_of session.now) sets (marks_of (story_of session.now) stack.old.items) }
+    requires parents { history.now ≡ (story_of session.now).parents }
+    requires shown { (sets : List Tree) × AreShown (story_of session.now) sets (marks_of (story_of session.now) stack.old.items) }
     ensures { Steps (story_of session.now) step.now stack.old.items stack.new.items result }
 {
     match step {
@@ -165,11 +182,11 @@ fn apply(
         Step::Marked(name) => put_marked(stack, name.as_slice(), session),
         Step::All => put_all(alloc, stack, session),
         Step::InPhase(phase) => put_phase(alloc, stack, *phase, session),
-        Step::Not => change_top(alloc, stack, step, session),
-        Step::Ancestors => change_top(alloc, stack, step, session),
-        Step::Descendants => change_top(alloc, stack, step, session),
-        Step::Heads => change_top(alloc, stack, step, session),
-        Step::Roots => change_top(alloc, stack, step, session),
+        Step::Not => change_top(alloc, stack, step, session, history),
+        Step::Ancestors => change_top(alloc, stack, step, session, history),
+        Step::Descendants => change_top(alloc, stack, step, session, history),
+        Step::Heads => change_top(alloc, stack, step, session, history),
+        Step::Roots => change_top(alloc, stack, step, session, history),
         Step::And => combine_tops(alloc, stack, step, session),
         Step::Or => combine_tops(alloc, stack, step, session),
     }
@@ -178,15 +195,16 @@ fn apply(
 /// The members of a set: `UnknownRevision` exactly where a name or a bookmark of it names no changeset.
 ///
 /// The time is that of one pass over the history for each operator. A name takes one number, until an operator needs a mark for
-/// each changeset.
+/// each changeset, which is one bit. The parents of each changeset are copied once.
 pub fn eval(alloc: Global, set: &Set, session: &Session) -> Result<Members, SetAnswer>
     ensures { Evaluates (story_of session.now) set.now result }
 {
     hgs_revset::laws::steps_have_names_of_set();
+    let history = history_of(alloc, session.loaded().changelog())?;
     let steps = set.steps();
     let mut stack = Vec::new(alloc);
     for place in 0..steps.len() {
-        apply(alloc, &mut stack, &steps[place], session)?;
+        apply(alloc, &mut stack, &steps[place], session, &history)?;
     }
     match stack.pop() {
         Some(operand) => {

@@ -2,6 +2,7 @@
 #![tactic(auto)]
 
 pub mod answer;
+mod bits;
 pub mod eval;
 pub mod laws;
 pub mod members;

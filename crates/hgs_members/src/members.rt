@@ -1,30 +1,30 @@
 //! Members of a set, as a mark for each changeset.
-ghost use Rattle.std.specs.Prelude.{◌≡◌, ◌<◌, ◌^◌, ◌==◌, ℕ, false, true, not, length, map, replicate, slice_index_or, slice_set, IfOk};
-ghost use Rattle.hgs_index.specs.Revision.{ParentsBefore};
+ghost use Rattle.std.specs.Prelude.{◌≡◌, ◌<◌, ◌≤◌, ◌^◌, ◌==◌, ℕ, false, true, not, length, map, replicate, slice_index_or, slice_set, if◌then◌else◌, IfOk};
 ghost use Rattle.hgs_model.specs.Phase.{phase_number};
-ghost use Rattle.hgs_phases.specs.Phases.{history_of};
-ghost use Rattle.hgs_members.specs.Members.{one_mark, AreBoth, AreEither};
-ghost use Rattle.hgs_members.specs.Passes.{AreAncestors, AreDescendants, AreHeads, AreRoots};
+ghost use Rattle.hgs_members.specs.Members.{AreBoth, AreEither};
 
-use crate::passes;
+use crate::bits;
 use hgs_model::phase::Phase;
 use hgs_phases::phases::Phases;
-use hgs_revlog::revlog::Revlog;
 use std::alloc::{AllocError, Global};
 use std::marker::Model;
 
-/// The members of a set. Contracts see them as a mark for each changeset.
+/// The members of a set, one bit for each changeset. Contracts see them as a mark for each.
 #[derive(Debug, Drop)]
 pub struct Members {
-    marks: Vec<bool>,
+    words: Vec<u64>,
+    count: u32,
 }
 
 impl Model for Members {
-    ghost use Rattle.std.specs.Prelude.{Bool, List};
+    ghost use Rattle.std.specs.Prelude.{◌≡◌, Bool, List, length};
+    ghost use Rattle.hgs_members.specs.Bits.{bits_of, words_for};
 
     ghost Value = { List Bool };
 
-    ghost view = { λ m. m.marks.items };
+    ghost view = { λ m. bits_of m.words.items m.count };
+
+    ghost invariant = { λ m. length m.words.items ≡ words_for m.count };
 }
 
 impl Members {
@@ -32,10 +32,24 @@ impl Members {
     pub fn has(&self, rev: u32) -> bool
         ensures { result ≡ slice_index_or self.now rev false }
     {
-        match self.marks.get(rev as usize) {
-            None => false,
-            Some(mark) => *mark,
-        }
+        rev < self.count && self.words[(rev / 64) as usize] & (1u64 << (rev % 64)) != 0
+    }
+
+    /// Of how many changesets these are some.
+    pub(crate) fn len(&self) -> u32
+        ensures { result ≡ length self.now }
+    {
+        self.count
+    }
+
+    /// Of so many changesets none.
+    pub(crate) fn none(alloc: Global, count: u32) -> Result<Members, AllocError>
+        ensures { IfOk result (λ m. m ≡ replicate count false) }
+    {
+        Ok(Members {
+            words: bits::filled(alloc, 0, bits::words_for(count))?,
+            count,
+        })
     }
 
     /// Of so many changesets each one.
@@ -43,27 +57,37 @@ impl Members {
         ensures { IfOk result (λ m. m ≡ replicate count true) }
     {
         Ok(Members {
-            marks: vec![in alloc; true; count as usize]?,
+            words: bits::filled(alloc, u64::MAX, bits::words_for(count))?,
+            count,
         })
-    }
-
-    /// Of so many changesets this one.
-    pub(crate) fn one(alloc: Global, count: u32, rev: u32) -> Result<Members, AllocError>
-        ensures { IfOk result (λ m. m ≡ one_mark count rev) }
-    {
-        let mut members = Members {
-            marks: vec![in alloc; false; count as usize]?,
-        };
-        members.add(rev);
-        Ok(members)
     }
 
     /// Adds a changeset.
     pub(crate) fn add(&mut self, rev: u32)
         ensures { self.new ≡ slice_set self.old rev true }
     {
-        if let Some(mark) = self.marks.get_mut(rev as usize) {
-            *mark = true;
+        if rev < self.count {
+            let word = self.words[(rev / 64) as usize];
+            self.words[(rev / 64) as usize] = word | (1u64 << (rev % 64));
+        }
+    }
+
+    // Adds a changeset, if it is wanted.
+    fn add_when(&mut self, wanted: bool, rev: u32)
+        ensures { self.new ≡ (if wanted then slice_set self.old rev true else self.old) }
+    {
+        if wanted {
+            self.add(rev);
+        }
+    }
+
+    /// Takes a changeset away.
+    pub(crate) fn remove(&mut self, rev: u32)
+        ensures { self.new ≡ slice_set self.old rev false }
+    {
+        if rev < self.count {
+            let word = self.words[(rev / 64) as usize];
+            self.words[(rev / 64) as usize] = word & !(1u64 << (rev % 64));
         }
     }
 
@@ -76,11 +100,40 @@ impl Members {
         requires { length phases.now < 2 ^ 32 }
         ensures { IfOk result (λ m. m ≡ map (λ p. phase_number p == phase_number phase) phases.now) }
     {
-        let mut marks = Vec::new(alloc);
-        for rev in 0..phases.len() as u32 {
-            marks.push(phases.get(rev).number() == phase.number())?;
+        let count = phases.len() as u32;
+        let mut members = Members::none(alloc, count)?;
+        for rev in 0..count {
+            members.add_when(phases.get(rev).number() == phase.number(), rev);
         }
-        Ok(Members { marks })
+        Ok(members)
+    }
+
+    /// A number up to which no changeset is a member.
+    pub(crate) fn first(&self) -> u32
+        ensures top { result ≤ length self.now }
+        ensures none { (i : ℕ) → i < result → slice_index_or self.now i false ≡ false }
+    {
+        let count = self.count;
+        let place = bits::empty_before(&self.words);
+        if place < self.words.len() {
+            (64 * place) as u32
+        } else {
+            count
+        }
+    }
+
+    /// A number from which on no changeset is a member.
+    pub(crate) fn end(&self) -> u32
+        ensures top { result ≤ length self.now }
+        ensures none { (i : ℕ) → result ≤ i → slice_index_or self.now i false ≡ false }
+    {
+        let count = self.count;
+        let end = 64 * bits::used(&self.words);
+        if end < count as usize {
+            end as u32
+        } else {
+            count
+        }
     }
 
     /// Takes each mark away where it stands, and makes it where it does not.
@@ -88,7 +141,7 @@ impl Members {
         ensures count { length self.new ≡ length self.old }
         ensures each { (i : ℕ) → i < length self.old → slice_index_or self.new i false ≡ not (slice_index_or self.old i false) }
     {
-        passes::invert(&mut self.marks);
+        bits::invert(&mut self.words);
     }
 
     /// Keeps the marks that the others have too.
@@ -96,7 +149,7 @@ impl Members {
         requires { length self.old ≡ length others.now }
         ensures { AreBoth self.old others.now self.new }
     {
-        passes::meet(&mut self.marks, &others.marks);
+        bits::meet(&mut self.words, &others.words);
     }
 
     /// Adds the marks of the others.
@@ -104,38 +157,6 @@ impl Members {
         requires { length self.old ≡ length others.now }
         ensures { AreEither self.old others.now self.new }
     {
-        passes::join(&mut self.marks, &others.marks);
-    }
-
-    pub(crate) fn mark_ancestors(&mut self, known: &Revlog)
-        requires { length self.old ≡ length known.now.entries }
-        ensures count { length self.new ≡ length self.old }
-        ensures exact { ParentsBefore 0 (history_of known.now.entries) → AreAncestors (history_of known.now.entries) self.old self.new }
-    {
-        passes::mark_ancestors(&mut self.marks, known);
-    }
-
-    pub(crate) fn mark_descendants(&mut self, known: &Revlog)
-        requires { length self.old ≡ length known.now.entries }
-        ensures count { length self.new ≡ length self.old }
-        ensures exact { ParentsBefore 0 (history_of known.now.entries) → AreDescendants (history_of known.now.entries) self.old self.new }
-    {
-        passes::mark_descendants(&mut self.marks, known);
-    }
-
-    pub(crate) fn keep_heads(&mut self, known: &Revlog)
-        requires { length self.old ≡ length known.now.entries }
-        ensures count { length self.new ≡ length self.old }
-        ensures exact { ParentsBefore 0 (history_of known.now.entries) → AreHeads (history_of known.now.entries) self.old self.new }
-    {
-        passes::keep_heads(&mut self.marks, known);
-    }
-
-    pub(crate) fn keep_roots(&mut self, known: &Revlog)
-        requires { length self.old ≡ length known.now.entries }
-        ensures count { length self.new ≡ length self.old }
-        ensures exact { ParentsBefore 0 (history_of known.now.entries) → AreRoots (history_of known.now.entries) self.old self.new }
-    {
-        passes::keep_roots(&mut self.marks, known);
+        bits::join(&mut self.words, &others.words);
     }
 }

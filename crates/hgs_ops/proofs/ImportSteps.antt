@@ -42,7 +42,7 @@ use Rattle.hgs_ops.specs.Theorems.Touch.{appended-append, bool, never, appended-
 commit-facts : (t : Tree) (r next : Repo) (n : NewChange) (answer : Answer) → Stands t r → IsNewChange n → step r (Commit n) ≡ Ok (next, answer) → IsUnhindered t r next → GrowthFacts t r next
 commit-facts t r next n answer s good e un = record { stands = s; repository = commit-keeps r n next answer s.repository good e; goes_on = (commit-gone r n (next, answer) good e).changesets; un = un }
 
-commit-left : (t : Tree) (r next : Repo) (n : NewChange) (who : List ℕ)
+pub commit-left : (t : Tree) (r next : Repo) (n : NewChange) (who : List ℕ)
     → CommitLeaves t (after_all (operations (transaction_of t r (Commit n) who next)) t) (roots_change r next) (is_some n.bookmark) (roots_of next) (new_dirstate next).text (new_bookmarks next).text (growth t r next) (Append changelog_index (new_changelog_entry t r next))
 commit-left t r next n who =
     commit-leaves t who (roots_change r next) (is_some n.bookmark) (roots_of next) (new_dirstate next).text (new_bookmarks next).text
@@ -50,10 +50,10 @@ commit-left t r next n who =
     refl (growth-appends t r next) (growth-quiet t r next)
 
 -- and of an import
-import-facts : (t : Tree) (r next : Repo) (changes : List NewChange) (answer : Answer) → Stands t r → IsValid (Import changes) → step r (Import changes) ≡ Ok (next, answer) → IsUnhindered t r next → GrowthFacts t r next
+pub import-facts : (t : Tree) (r next : Repo) (changes : List NewChange) (answer : Answer) → Stands t r → IsValid (Import changes) → step r (Import changes) ≡ Ok (next, answer) → IsUnhindered t r next → GrowthFacts t r next
 import-facts t r next changes answer s good e un = record { stands = s; repository = import-keeps r changes next answer s.repository good.each e; goes_on = (import-gone r changes (next, answer) good.each e).changesets; un = un }
 
-import-left : (t : Tree) (r next : Repo) (changes : List NewChange) (who : List ℕ)
+pub import-left : (t : Tree) (r next : Repo) (changes : List NewChange) (who : List ℕ)
     → CommitLeaves t (after_all (operations (transaction_of t r (Import changes) who next)) t) (roots_change r next) (sets_bookmark changes) (roots_of next) (new_dirstate next).text (new_bookmarks next).text (growth t r next) (Append changelog_index (new_changelog_entry t r next))
 import-left t r next changes who =
     import-leaves t who (roots_change r next) (sets_bookmark changes) (roots_of next) (new_dirstate next).text (new_bookmarks next).text
@@ -99,14 +99,14 @@ appending-bytes : (t : Tree) (r next : Repo) (p : List ℕ) → bytes_at t p ++ 
 appending-bytes t r next p = ap (λ l. bytes_at t p ++ l) (parts-appended t r next p) ∙ sym (append_assoc (bytes_at t p) (appended p (growth t r next)) (appends_at p (Append changelog_index (new_changelog_entry t r next))))
 
 -- but for the changelog's index that is the growth, and there the new entries
-only-growth : (t : Tree) (r next : Repo) (p : List ℕ) → same changelog_index p ≡ false → appended p (appending t r next) ≡ appended p (growth t r next)
+pub only-growth : (t : Tree) (r next : Repo) (p : List ℕ) → same changelog_index p ≡ false → appended p (appending t r next) ≡ appended p (growth t r next)
 only-growth t r next p e = parts-appended t r next p ∙ ap (λ b. appended p (growth t r next) ++ cond b (new_changelog_entry t r next) []) e ∙ append-nil (appended p (growth t r next))
 
-only-entry : (t : Tree) (r next : Repo) → appended changelog_index (appending t r next) ≡ new_changelog_entry t r next
+pub only-entry : (t : Tree) (r next : Repo) → appended changelog_index (appending t r next) ≡ new_changelog_entry t r next
 only-entry t r next = parts-appended t r next changelog_index ∙ ap (λ l. l ++ new_changelog_entry t r next) (appended-none (growth t r next) changelog_index (growth-index t r next))
 
 -- the growth is that of the bytes at its own files
-growth_of-same : (f g : List ℕ → List ℕ) (r next : Repo) → ((q : List ℕ) (ext : Ext) → among q (new_paths r next) ≡ true → f (store_name q ext) ≡ g (store_name q ext)) → f manifest_data ≡ g manifest_data → f manifest_index ≡ g manifest_index → f changelog_data ≡ g changelog_data
+pub growth_of-same : (f g : List ℕ → List ℕ) (r next : Repo) → ((q : List ℕ) (ext : Ext) → among q (new_paths r next) ≡ true → f (store_name q ext) ≡ g (store_name q ext)) → f manifest_data ≡ g manifest_data → f manifest_index ≡ g manifest_index → f changelog_data ≡ g changelog_data
     → growth_of f r next ≡ growth_of g r next
 growth_of-same f g r next files d m c =
     λ i. rest (new_paths r next) (λ q e. e) i ++ append_some fncache_path (flat_map line (new_names (history r.changesets).filelog (history next.changesets).filelog (new_paths r next))) ++ (append_some manifest_data (d i) ++ append_some manifest_index (m i)) ++ append_some changelog_data (c i)

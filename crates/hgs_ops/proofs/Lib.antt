@@ -16,3 +16,10 @@ pub mod NextLemmas
 pub mod StayingFiles
 pub mod ImportParts
 pub mod ImportSteps
+pub mod InStep
+pub mod LaidLemmas
+pub mod RecordLemmas
+pub mod RootsAdded
+pub mod SmallBehind
+pub mod PowerShape
+pub mod PowerLeads

@@ -9,7 +9,7 @@ use Rattle.hex.specs.Hex.{IsBytes, encode_with}
 use Rattle.sha1.specs.Sha1.{sha1, first_words, schedule, rounds, compress, hash_after, digest_bytes}
 use Rattle.hgs_bytes.specs.Bytes.{same, among}
 use Rattle.hgs_bytes.specs.Theorems.ByteLemmas.{same-eq}
-use Rattle.hgs_files.specs.Tree.{after_all, bytes_at}
+use Rattle.hgs_files.specs.Tree.{Tree, after_all, bytes_at}
 use Rattle.hgs_index.specs.declared.kinds.Flag.TheVariants.{Plain}
 use Rattle.hgs_index.specs.Either.{chunk_bytes}
 use Rattle.hgs_index.specs.Inline.{chunks_apart}
@@ -27,10 +27,17 @@ use Rattle.hgs_stands.specs.Samples.{first_draft}
 use Rattle.hgs_stands.specs.Stands.{IsClean, Stands}
 use Rattle.hgs_stands.specs.Theorems.EmptyLemmas.{empty-stands}
 use Rattle.hgs_ops.specs.Growth.{begins_inline, growing_chunks}
-use Rattle.hgs_ops.specs.Operations.{operations, transaction_of}
-use Rattle.hgs_ops.specs.Samples.{after_delete, after_first, after_publish, after_set, bare, delete_here, first_change, one_draft, one_marked, one_public, one_unmarked, publish_here, requires_text, set_here}
+use Rattle.hgs_journal.specs.Covers.{is_loose}
+use Rattle.hgs_ops.specs.Laid.{AreLaid}
+use Rattle.hgs_ops.specs.Operations.{operations, strays, transaction_of}
+use Rattle.hgs_ops.specs.PowerCourses.{AreCalls}
+use Rattle.hgs_ops.specs.PowerSteps.{power_locks}
+use Rattle.hgs_ops.specs.Theorems.Beside.{ready-same}
+use Rattle.hgs_power.specs.Disk.{at_rest}
+use Rattle.hgs_power.specs.Theorems.Now.{log-tree}
+use Rattle.hgs_ops.specs.Samples.{after_delete, after_first, after_publish, after_set, bare, delete_here, first_call, first_change, first_repos, one_draft, one_marked, one_public, one_unmarked, publish_here, requires_text, set_here}
 use Rattle.hgs_ops.specs.Unhindered.{AreNewRevisions, HavePlaces, IsReady, IsUnhindered}
-use Rattle.hgs_ops.specs.Theorems.Touch.{and-both, and-left, and-right, never}
+use Rattle.hgs_ops.specs.Theorems.Touch.{and-both, and-left, and-right, never, touched-within, untouched}
 use Rattle.hgs_ops.proofs.TransactionLemmas.{transaction-leads}
 
 small : (a b : ℕ) → nat_lt a b ≡ true → a < b
@@ -147,6 +154,17 @@ path-bytes (suc i) = small 0 256 refl
 
 pub first-ready : IsReady bare empty_repo (Commit first_change) one_draft
 first-ready = (first-unhindered, record { paths = (path-bytes, tt); sizes = λ path named. few path })
+
+-- as a record that is laid
+pub first-laid : AreLaid bare empty_repo ((first_change, one_draft) ∷ [])
+first-laid = (first-valid, (answer_at one_draft 0, first-accepted), first-ready, tt)
+
+-- the same over its writer's locks, which hinder nothing
+pub first-calls : (who : List ℕ) → AreCalls first_repos 0 (at_rest bare) (first_call who ∷ [])
+first-calls who = ((first-valid, first-accepted, subst (λ (t : Tree). IsReady (after_all (power_locks who) t) empty_repo (Commit first_change) one_draft) (sym (log-tree [] bare)) locked, refl), tt)
+  where
+    locked : IsReady (after_all (power_locks who) bare) empty_repo (Commit first_change) one_draft
+    locked = ready-same bare (after_all (power_locks who) bare) (λ path free. untouched (power_locks who) bare path (touched-within (is_loose strays) (power_locks who) path refl free)) empty_repo (Commit first_change) one_draft first-ready
 
 -- the same as an import of one record
 pub import-valid : IsValid (Import (first_change ∷ []))

@@ -1,6 +1,9 @@
 pub mod Growth
 pub mod Replaced
 pub mod Operations
+pub mod Laid
+pub mod PowerSteps
+pub mod PowerCourses
 pub mod Theorems
 pub mod Unhindered
 pub mod Stops

@@ -1,5 +1,5 @@
 -- A store with nothing in it, a first commit, and commands on what it leaves.
-use Rattle.std.specs.Prelude.{ℕ, List, [], ◌∷◌, ◌++◌, false, pos, None, Some, codes, if◌then◌else◌}
+use Rattle.std.specs.Prelude.{ℕ, zero, suc, List, [], ◌∷◌, ◌++◌, false, pos, None, Some, codes, if◌then◌else◌}
 use Rattle.hgs_bytes.specs.Bytes.{same}
 use Rattle.hgs_files.specs.Tree.{Tree, after_all}
 use Rattle.hgs_model.specs.declared.command.Command.{Command}
@@ -8,7 +8,10 @@ use Rattle.hgs_model.specs.declared.command.NewChange.{NewChange}
 use Rattle.hgs_model.specs.declared.phase.Phase.TheVariants.{Draft, Public}
 use Rattle.hgs_model.specs.Repo.{Repo, empty_repo}
 use Rattle.hgs_model.specs.Samples.{one_line}
+use Rattle.hgs_model.specs.Step.{answer_at}
 use Rattle.hgs_ops.specs.Operations.{operations, transaction_of}
+use Rattle.hgs_ops.specs.PowerCourses.{Call}
+use Rattle.hgs_ops.specs.PowerCourses.Fate.{whole}
 use Rattle.hgs_stands.specs.Places.{requires_path}
 use Rattle.hgs_stands.specs.Samples.{first_draft, two_drafts}
 
@@ -41,6 +44,14 @@ both_changes =
 
 abbrev pub after_both : List ℕ → Tree
 after_both who = after_all (operations (transaction_of bare empty_repo (Import both_changes) who two_drafts)) bare
+
+-- the repositories of that commit, and the call that makes it
+abbrev pub first_repos : ℕ → Repo
+first_repos zero = empty_repo
+first_repos (suc n) = one_draft
+
+abbrev pub first_call : List ℕ → Call
+first_call who = record { who = who; command = Commit first_change; next = one_draft; answer = answer_at one_draft 0; fate = whole }
 
 -- what is done then: a bookmark is set on the changeset, it is published, and the bookmark is deleted
 abbrev pub set_here : Command

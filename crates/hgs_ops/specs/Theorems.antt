@@ -1,6 +1,8 @@
 -- What is proved of this crate's definitions and the crates above build on: statements with their proofs, no definitions
 -- that a contract cites.
 pub mod Apart
+pub mod Beside
+pub mod Clear
 pub mod CommitLemmas
 pub mod CommitTree
 pub mod FileGrowth

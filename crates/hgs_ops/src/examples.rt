@@ -8,9 +8,16 @@ ghost use Rattle.hgs_model.specs.declared.command.Command.TheVariants.{Commit, I
 ghost use Rattle.hgs_stands.specs.Places.{bookmarks_path, changelog_data, changelog_index, fncache_path, manifest_data, manifest_index, roots_path};
 ghost use Rattle.hgs_stands.specs.Samples.{two_drafts, two_drafts_files};
 ghost use Rattle.hgs_stands.specs.Stands.{IsClean, Stands};
+ghost use Rattle.hgs_ops.specs.Laid.{AreLaid};
 ghost use Rattle.hgs_ops.specs.Operations.{operations, transaction_of};
-ghost use Rattle.hgs_ops.specs.Samples.{after_both, after_delete, after_publish, after_set, bare, both_changes, delete_here, first_change, one_draft, one_marked, one_public, one_unmarked, publish_here, set_here};
+ghost use Rattle.hgs_ops.specs.PowerCourses.{AreCalls, parts_of_calls};
+ghost use Rattle.hgs_ops.specs.PowerSteps.{power_strays, resting_at};
+ghost use Rattle.hgs_power.specs.Course.{AllWithin};
+ghost use Rattle.hgs_power.specs.Disk.{at_rest};
+ghost use Rattle.hgs_ops.specs.Samples.{after_both, after_delete, after_publish, after_set, bare, both_changes, delete_here, first_call, first_change, first_repos, one_draft, one_marked, one_public, one_unmarked, publish_here, set_here};
 ghost use Rattle.hgs_ops.specs.Unhindered.{IsReady};
+
+use crate::laws::transactions_bear_a_loss_of_power;
 
 /// In a store with nothing in it all that the laws ask of a commit is met, and the commit leads to the repository with one
 /// changeset.
@@ -22,11 +29,21 @@ pub fn first_commit()
     ensures leads { (who : List ℕ) → IsClean (after_all (operations (transaction_of bare empty_repo (Commit first_change) who one_draft)) bare) one_draft }
 {}
 
+/// That commit is a call that bears a loss of power: wherever the power fails within it, files are left that stand for the empty
+/// repository or lead back to it, or, once it is published, for the one with its changeset.
+pub fn first_commit_bears_a_loss_of_power()
+    ensures calls { (who : List ℕ) → AreCalls first_repos 0 (at_rest bare) (first_call who ∷ []) }
+    ensures safe { (who : List ℕ) → AllWithin power_strays (λ m t. Stands t (first_repos m)) (parts_of_calls first_repos 0 (at_rest bare) (first_call who ∷ [])) (at_rest bare) (resting_at 0) }
+{
+    transactions_bear_a_loss_of_power();
+}
+
 /// The same as an import of one record is as ready, and leads to the same repository.
 pub fn first_import()
     ensures valid { IsValid (Import (first_change ∷ [])) }
     ensures accepted { step empty_repo (Import (first_change ∷ [])) ≡ Ok (one_draft, answer_at one_draft 0) }
     ensures ready { IsReady bare empty_repo (Import (first_change ∷ [])) one_draft }
+    ensures laid { AreLaid bare empty_repo ((first_change, one_draft) ∷ []) }
     ensures leads { (who : List ℕ) → IsClean (after_all (operations (transaction_of bare empty_repo (Import (first_change ∷ [])) who one_draft)) bare) one_draft }
 {}
 

@@ -1,5 +1,5 @@
 //! What the definitions of this crate imply. Each function is one law; none does anything.
-ghost use Rattle.std.specs.Prelude.{◌≡◌, ◌⊎◌, ◌++◌, ◌∷◌, [], Bool, List, length, ℕ, Ok, Some, codes, false, true, if◌then◌else◌};
+ghost use Rattle.std.specs.Prelude.{◌≡◌, ◌⊎◌, ◌++◌, ◌∷◌, [], Bool, List, length, ℕ, Ok, Some, codes, false, suc, true, if◌then◌else◌};
 ghost use Rattle.hgs_bytes.specs.Bytes.{IsPrefixOf, among, same};
 ghost use Rattle.hgs_files.specs.declared.op.Op.{Op};
 ghost use Rattle.hgs_files.specs.Log.{IsDone};
@@ -9,7 +9,7 @@ ghost use Rattle.hgs_journal.specs.Names.{journal_path};
 ghost use Rattle.hgs_model.specs.declared.command.Command.{Command};
 ghost use Rattle.hgs_model.specs.IsRepo.{IsRepo};
 ghost use Rattle.hgs_model.specs.Repo.{Repo};
-ghost use Rattle.hgs_model.specs.Step.{Answer, step};
+ghost use Rattle.hgs_model.specs.Step.{Answer, sets_bookmark, step};
 ghost use Rattle.hgs_model.specs.Valid.{IsNewChange, IsValid};
 ghost use Rattle.hgs_model.specs.declared.command.Command.TheVariants.{Commit, Import, Mark, Move, Unmark};
 ghost use Rattle.hgs_model.specs.declared.command.NewChange.{NewChange};
@@ -19,8 +19,16 @@ ghost use Rattle.hgs_stands.specs.Places.{bookmarks_path, changelog_index, dirst
 ghost use Rattle.hgs_stands.specs.Same.{AreStrays};
 ghost use Rattle.hgs_stands.specs.Shows.{Shows};
 ghost use Rattle.hgs_stands.specs.Stands.{IsClean, Stands};
+ghost use Rattle.hgs_power.specs.Course.{AllWithin, IsCourse, IsOpenFor};
+ghost use Rattle.hgs_power.specs.Disk.{Disk, Leaves, at_rest, tree_now};
+ghost use Rattle.hgs_power.specs.Held.{IsOrderly, IsQuiet};
+ghost use Rattle.hgs_power.specs.Transaction.{IsTransaction, ops_to_removal, parts_of};
+ghost use Rattle.hgs_ops.specs.PowerCourses.{AreCalls, Call, parts_of_calls};
+ghost use Rattle.hgs_ops.specs.PowerSteps.{power_locks, power_steps, power_strays, resting_at};
 ghost use Rattle.hgs_ops.specs.Growth.{IsRevlogFile, appended, growth, growth_of, new_changelog_entry};
-ghost use Rattle.hgs_ops.specs.Operations.{changes_before, journal_lines, journal_of, new_changelog_path, operations, removals, strays, transaction_of};
+ghost use Rattle.hgs_ops.specs.Laid.{AreLaid, Record, appended_by, changes_of, laid, repo_behind, tree_behind};
+ghost use Rattle.hgs_ops.specs.Operations.{changes_before, journal_lines, journal_of, journalled, new_changelog_path, operations, publishing, removals, strays, transaction_of};
+ghost use Rattle.hgs_ops.specs.Replaced.{new_bookmarks, new_dirstate, roots_change, roots_of};
 ghost use Rattle.hgs_ops.specs.Shown.{lacks_bookmarks, lacks_dirstate};
 ghost use Rattle.hgs_ops.specs.Stops.{IsBetween};
 ghost use Rattle.hgs_ops.specs.Unhindered.{IsReady, IsUnhindered};
@@ -29,6 +37,7 @@ use hgs_journal::laws::{
     journals_begin, transactions_stay_covered, undo_leads_back as journal_undo_leads_back,
     undo_may_stop,
 };
+use hgs_model::answers::imports_are_commits;
 use hgs_stands::laws::{open_trees_lead_back, other_files_do_not_matter};
 
 /// What a transaction may leave behind is no file that a repository stands on, and all that undoing needs is of it. Nor does
@@ -194,3 +203,54 @@ pub fn files_only_grow()
     ensures before { (t u : Tree) (r next : Repo) (command : Command) (who : List ℕ) (done left : List Op) (path : List ℕ) → IsDone (transaction_of t r command who next).before done left → is_loose strays path ≡ false → after_all done u path ≡ u path }
     ensures behind { (t u : Tree) (r next : Repo) (command : Command) (who : List ℕ) (done left : List Op) (path : List ℕ) → IsDone ((transaction_of t r command who next).renames ++ Op.Remove journal_path ∷ []) done left → is_loose strays path ≡ false → same path journal_path ≡ false → among path (roots_path ∷ dirstate_path ∷ bookmarks_path ∷ []) ≡ false → after_all done u path ≡ u path }
 {}
+
+/// What a commit leaves, locks and strays aside, is what its appends and its replaced files leave that are laid into the tree at once, also where
+/// that tree has other locks and strays.
+pub fn commits_leave_what_they_lay()
+    ensures { (t u : Tree) (r next : Repo) (n : NewChange) (who : List ℕ) (answer : Answer) → Stands t r → IsNewChange n → step r (Commit n) ≡ Ok (next, answer) → IsReady t r (Commit n) next → ((path : List ℕ) → is_loose strays path ≡ false → u path ≡ t path) → (path : List ℕ) → is_loose strays path ≡ false → after_all (laid u r n next) u path ≡ after_all (operations (transaction_of t r (Commit n) who next)) t path }
+{}
+
+/// Records each of which is accepted, and hindered by nothing, where what those before it leave is laid into the tree, are an
+/// import that is accepted and hindered by nothing in the first tree: it appends to each file of a revlog what they append,
+/// joined, enters their changesets in the changelog, and replaces the files that they replace, by the texts behind the last one.
+pub fn records_laid_are_an_import()
+    ensures accepted { (t : Tree) (r : Repo) (x : Record) (records : List Record) → Stands t r → IsValid (Import (changes_of (x ∷ records))) → AreLaid t r (x ∷ records) → (answer : Answer) × (step r (Import (changes_of (x ∷ records))) ≡ Ok (repo_behind r (x ∷ records), answer)) }
+    ensures ready { (t : Tree) (r : Repo) (x : Record) (records : List Record) → Stands t r → IsValid (Import (changes_of (x ∷ records))) → AreLaid t r (x ∷ records) → IsReady t r (Import (changes_of (x ∷ records))) (repo_behind r (x ∷ records)) }
+    ensures growth { (t : Tree) (r : Repo) (x : Record) (records : List Record) → Stands t r → IsValid (Import (changes_of (x ∷ records))) → AreLaid t r (x ∷ records) → growth t r (repo_behind r (x ∷ records)) ≡ growth_of (λ path. appended_by path t r (x ∷ records)) r (repo_behind r (x ∷ records)) }
+    ensures entries { (t : Tree) (r : Repo) (x : Record) (records : List Record) → Stands t r → IsValid (Import (changes_of (x ∷ records))) → AreLaid t r (x ∷ records) → new_changelog_entry t r (repo_behind r (x ∷ records)) ≡ appended_by changelog_index t r (x ∷ records) }
+    ensures roots { (t : Tree) (r : Repo) (x : Record) (records : List Record) → Stands t r → IsValid (Import (changes_of (x ∷ records))) → AreLaid t r (x ∷ records) → tree_behind t r (x ∷ records) roots_path ≡ (if roots_change r (repo_behind r (x ∷ records)) then Some (roots_of (repo_behind r (x ∷ records))) else t roots_path) }
+    ensures dirstate { (t : Tree) (r : Repo) (x : Record) (records : List Record) → Stands t r → IsValid (Import (changes_of (x ∷ records))) → AreLaid t r (x ∷ records) → tree_behind t r (x ∷ records) dirstate_path ≡ Some (new_dirstate (repo_behind r (x ∷ records))).text }
+    ensures bookmarks { (t : Tree) (r : Repo) (x : Record) (records : List Record) → Stands t r → IsValid (Import (changes_of (x ∷ records))) → AreLaid t r (x ∷ records) → tree_behind t r (x ∷ records) bookmarks_path ≡ (if sets_bookmark (changes_of (x ∷ records)) then Some (new_bookmarks (repo_behind r (x ∷ records))).text else t bookmarks_path) }
+    ensures stands { (t : Tree) (r : Repo) (x : Record) (records : List Record) → Stands t r → IsValid (Import (changes_of (x ∷ records))) → AreLaid t r (x ∷ records) → Stands (tree_behind t r (x ∷ records)) (repo_behind r (x ∷ records)) }
+{
+    other_files_do_not_matter();
+    imports_are_commits();
+}
+
+/// What stands in locks and strays keeps no command from being done, and changes none of the operations on other files.
+pub fn strays_hinder_nothing()
+    ensures ready { (t u : Tree) (r next : Repo) (command : Command) → ((path : List ℕ) → is_loose strays path ≡ false → u path ≡ t path) → IsReady t r command next → IsReady u r command next }
+    ensures changes { (t u : Tree) (r next : Repo) (command : Command) → ((path : List ℕ) → is_loose strays path ≡ false → u path ≡ t path) → changes_before u r command next ≡ changes_before t r command next }
+    ensures publishing { (t u : Tree) (r next : Repo) (command : Command) → ((path : List ℕ) → is_loose strays path ≡ false → u path ≡ t path) → publishing u r command next ≡ publishing t r command next }
+    ensures journalled { (t u : Tree) (r next : Repo) (command : Command) → ((path : List ℕ) → is_loose strays path ≡ false → u path ≡ t path) → journalled u r command next ≡ journalled t r command next }
+{}
+
+/// The transactions of commands, with their syncs and settles, bear a loss of power: over the tree with the writer's locks their
+/// operations keep to their journal and their list, up to the removal of the journal they lead to the next repository, and from
+/// any disk at rest whose losses of power all leave trees of the repository before, each is a course. So from a tree that stands
+/// for a repository any number of commands may be done, each whole, or taken back by its writer before it is published, or by
+/// recovery after that: wherever the power fails, a tree is left that stands for a repository, or
+/// leads back to one, no older than the transactions acknowledged and no newer than those published.
+pub fn transactions_bear_a_loss_of_power()
+    ensures transactions { (t : Tree) (r next : Repo) (command : Command) (who : List ℕ) → IsReady t r command next → IsTransaction power_strays (power_steps t r command who next) t }
+    ensures leads { (t : Tree) (r next : Repo) (command : Command) (who : List ℕ) (answer : Answer) → Stands (after_all (power_locks who) t) r → IsValid command → step r command ≡ Ok (next, answer) → IsReady (after_all (power_locks who) t) r command next → Stands (after_all (ops_to_removal (power_steps (after_all (power_locks who) t) r command who next)) t) next }
+    ensures courses { (repos : ℕ → Repo) (d : Disk) (a : ℕ) (command : Command) (who : List ℕ) (answer : Answer) → IsOrderly power_strays d → IsQuiet power_strays d → ((t : Tree) → Leaves d t → IsOpenFor power_strays (λ m t. Stands t (repos m)) a t) → IsValid command → step (repos a) command ≡ Ok (repos (suc a), answer) → IsReady (after_all (power_locks who) (tree_now d)) (repos a) command (repos (suc a)) → IsCourse power_strays (λ m t. Stands t (repos m)) (parts_of (power_steps (after_all (power_locks who) (tree_now d)) (repos a) command who (repos (suc a)))) d (resting_at a) }
+    ensures calls { (repos : ℕ → Repo) (start : Tree) (calls : List Call) → Stands start (repos 0) → AreCalls repos 0 (at_rest start) calls → AllWithin power_strays (λ m t. Stands t (repos m)) (parts_of_calls repos 0 (at_rest start) calls) (at_rest start) (resting_at 0) }
+{
+    journals_begin();
+    transactions_stay_covered();
+    journal_undo_leads_back();
+    undo_may_stop();
+    other_files_do_not_matter();
+    open_trees_lead_back();
+}

@@ -1,5 +1,5 @@
 -- Each event keeps what the commands say of the files.
-use Rattle.std.proofs.Common.{◌≡◌, ◌⊎◌, ℕ, List, [], ◌∷◌, ◌++◌, length, true, refl, sym, ◌∙◌, ap, subst, inl, inr}
+use Rattle.std.proofs.Common.{◌≡◌, ◌⊎◌, ℕ, List, [], ◌∷◌, ◌++◌, length, true, false, refl, sym, ◌∙◌, ap, subst, inl, inr}
 use Rattle.std.specs.Prelude.{Option, Some, None, codes, unwrap_or}
 use Rattle.std.specs.List.{AllByRecursion}
 use Rattle.hgs_answers.specs.declared.answer.Answer.{Answer}
@@ -36,15 +36,15 @@ use Rattle.hgs_world.specs.Moments.{HasCome}
 use Rattle.hgs_world.specs.Follows.{AtRest, AtWork, Follows, Keeps, KeepsAt, Meets, MeetsAll, all_acknowledged, has_published, is_open, stands}
 use Rattle.hgs_world.specs.Plays.{Plays}
 use Rattle.hgs_world.specs.Start.{new_requires, new_tree}
-use Rattle.hgs_world.specs.Working.{Acts, HasBytes, RunsTo, StopsWithin, at_machine, writer_left}
+use Rattle.hgs_world.specs.Working.{Acts, HasBytes, IsAtNext, RunsTo, StopsWithin, at_machine, publishes_with, writer_left}
 use Rattle.hgs_world.specs.World.{ActsAt, ActsIn, BeginsIn, HasBegun, IfRunning, IsFirst, LeavesWriter, OnlySays, RecoversAt, RecoversIn, RunsAt, RunsIn, Scene, StopsAt, StopsIn, book_at, book_left, book_recovered, new_writer, tree_of, who, Happens}
 use Rattle.hgs_world.specs.declared.working.Deed.{Deed}
 use Rattle.hgs_world.specs.declared.working.Deed.TheVariants.{All as WholeDeed, Part as PartDeed, Fail as FailDeed}
 use Rattle.hgs_world.specs.declared.working.Goal.{Goal}
 use Rattle.hgs_world.specs.declared.working.Goal.TheVariants.{Publishing, Cleaning, End}
 use Rattle.hgs_world.specs.declared.working.Working.{Working}
-use Rattle.hgs_world.proofs.KeepLemmas.{FollowsAt, Onward, acts_onward, book_of, follows_at_rest, notes_on, rests, rests_before, runs_onward, sizes_acknowledge, sizes_onward, take_older, take_whole}
-use Rattle.hgs_world.proofs.MomentLemmas.{answer_at, comes_by_act, comes_by_run, comes_first, written_at_stop, written_so_far}
+use Rattle.hgs_world.proofs.KeepLemmas.{FollowsAt, Onward, acts_onward, book_of, follows_at_rest, notes_on, onward_then, rests, rests_stopped, runs_onward, sizes_acknowledge, sizes_onward, take_older, take_whole}
+use Rattle.hgs_world.proofs.MomentLemmas.{answer_at, comes_by_act, comes_by_run, comes_by_sizes, comes_first, written_at_stop, written_so_far}
 use Rattle.hgs_world.proofs.WorkLemmas.{after_append}
 
 -- ---- the beginning of a world
@@ -149,9 +149,12 @@ acts_keep l deed words old new text some keeps h = by old.writer keeps refl h
     by : (o : Option Working) → KeepsAt (tree_of old) o old.book → old.writer ≡ o
         → IfRunning o (OnlySays old new (codes "idle") text) (ActsAt deed words old new text) → Keeps new
     by None k e h = idle old new (codes "idle") text keeps h
-    by (Some w) k e (done, after, a, left) =
-        let come = comes_by_act l.going k.command k.first w k.done deed done after k.come some (subst (λ (x : Tree). Acts deed x w done after) k.now a) in
-        leaves l old new w after done words text (goes_on l (tree_of old) w after old.book done k (acts_onward l.progress deed (tree_of old) w done after a) come) left
+    by (Some w) k e (done, mid, a, m, n, left) =
+        let come = comes_by_act l.going k.command k.first w k.done deed done mid k.come some (subst (λ (x : Tree). Acts deed x w done mid) k.now a) in
+        let there : after_all done (tree_of old) ≡ after_all (k.done ++ done) k.first = ap (after_all done) k.now ∙ sym (after_append k.done done k.first) in
+        let sized = comes_by_sizes l.going k.command k.first mid m (k.done ++ done) come (subst (λ (x : Tree). IsAtNext x mid.machine m) there n) in
+        let onward = onward_then w.machine mid.machine m (acts_onward l.progress deed (tree_of old) w done mid a) (sizes_onward l.progress (after_all done (tree_of old)) mid.machine m n.sizes) in
+        leaves l old new w (at_machine mid m) done words text (goes_on l (tree_of old) w (at_machine mid m) old.book done k onward sized) left
 
 runs_keep : Laws → (goal : Goal) (words : List ℕ) (old new : Scene) (text : List ℕ) → Keeps old → RunsIn goal words old new text → Keeps new
 runs_keep l goal words old new text keeps h = by old.writer keeps h
@@ -163,16 +166,19 @@ runs_keep l goal words old new text keeps h = by old.writer keeps h
         let come = comes_by_run l.going k.command k.first w k.done goal done after k.come (subst (λ (x : Tree). RunsTo goal x w done after) k.now a) in
         leaves l old new w after done words text (goes_on l (tree_of old) w after old.book done k (runs_onward l.progress goal (tree_of old) w done after a) come) left
 
-stops_at : Laws → (count : ℕ) (t : Tree) (w : Working) (book : Commands) (done : List Op) → AtWork t w book → StopsWithin count t w done → AtRest (after_all done t) (ended_in book)
-stops_at l count t w book done k h =
-    let s : StopsWithin count (after_all k.done k.first) w done = subst (λ (x : Tree). StopsWithin count x w done) k.now h in
-    let m = s.machine in
-    let is = l.answered k.first k.r k.command who (answer_at (at_machine w m)) (k.done ++ done) k.stands k.valid k.needs (written_at_stop l.going l.stop k.command k.first w k.done count done k.come s) in
+stops_at : Laws → (count : ℕ) (t : Tree) (w after : Working) (book : Commands) (done : List Op) → AtWork t w book → StopsWithin count t w done after → AtRest (after_all done t) (ended_in (noted (publishes_with count after) false book))
+stops_at l count t w after book done k h =
+    let s : StopsWithin count (after_all k.done k.first) w done after = subst (λ (x : Tree). StopsWithin count x w done after) k.now h in
+    let m = after.machine in
+    let v = at_machine w m in
+    let is = l.answered k.first k.r k.command who (answer_at v) (k.done ++ done) k.stands k.valid k.needs (written_at_stop l.going l.stop k.command k.first w k.done count done k.come after s) in
     let onward = sizes_onward l.progress (after_all k.done k.first) w.machine m s.next.sizes in
-    let rest = rests_before k.r k.older k.command (after_all (k.done ++ done) k.first) w.rev w.node m (is_published w.machine) (is_acknowledged w.machine) onward.published (l.progress.acknowledged_published w.machine)
+    let rest = rests_stopped k.r k.older k.command (after_all (k.done ++ done) k.first) v count (is_published w.machine) (is_acknowledged w.machine) onward.published (l.progress.acknowledged_published w.machine)
     (sizes_acknowledge l.progress (after_all k.done k.first) w.machine m s.next.sizes) k.leads is in
     let tree : after_all (k.done ++ done) k.first ≡ after_all done t = after_append k.done done k.first ∙ ap (after_all done) (sym k.now) in
-    subst (λ b. AtRest (after_all done t) (ended_in b)) (sym k.book_is) (subst (λ (u : Tree). AtRest u (ended_in (noted (is_published w.machine) (is_acknowledged w.machine) (book_of k.older k.command)))) tree rest)
+    subst (λ x. AtRest (after_all done t) (ended_in (noted (publishes_with count x) false book))) (sym s.is)
+    (subst (λ b. AtRest (after_all done t) (ended_in (noted (publishes_with count v) false b))) (sym k.book_is)
+    (subst (λ (u : Tree). AtRest u (ended_in (noted (publishes_with count v) false (noted (is_published w.machine) (is_acknowledged w.machine) (book_of k.older k.command))))) tree rest))
 
 stops_keep : Laws → (count : ℕ) (old new : Scene) (text : List ℕ) → Keeps old → StopsIn count old new text → Keeps new
 stops_keep l count old new text keeps h = by old.writer keeps h
@@ -180,8 +186,8 @@ stops_keep l count old new text keeps h = by old.writer keeps h
     by : (o : Option Working) → KeepsAt (tree_of old) o old.book
         → IfRunning o (OnlySays old new (codes "idle") text) (StopsAt count old new text) → Keeps new
     by None k h = idle old new (codes "idle") text keeps h
-    by (Some w) k (done, s, e, said) =
-        subst Keeps (sym e) (subst (λ (u : Tree). AtRest u (ended_in old.book)) (sym (after_append old.log done old.start)) (stops_at l count (tree_of old) w old.book done k s))
+    by (Some w) k (done, after, s, e, said) =
+        subst Keeps (sym e) (subst (λ (u : Tree). AtRest u (ended_in (noted (publishes_with count after) false old.book))) (sym (after_append old.log done old.start)) (stops_at l count (tree_of old) w after old.book done k s))
 
 -- ---- recovering
 

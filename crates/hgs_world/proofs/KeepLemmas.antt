@@ -1,11 +1,12 @@
 -- What the commands say of the files, from one event to the next.
 use Rattle.std.proofs.Common.{◌≡◌, ◌⊎◌, ℕ, List, [], ◌∷◌, ◌++◌, length, take, Bool, true, false, refl, sym, ◌∙◌, ap, subst, inl, inr, if◌then◌else◌}
-use Rattle.std.specs.Prelude.{Option, Some, Result, Ok, Err, IsOk, nat_lt, slice_get}
+use Rattle.std.specs.Prelude.{Option, Some, None, Result, Ok, Err, IsOk, ◌-◌, ◌&&◌, ◌||◌, nat_le, nat_lt, slice_get}
 use Rattle.hgs_files.specs.declared.op.Op.{Op}
+use Rattle.hgs_files.specs.declared.op.Op.TheVariants as ops
 use Rattle.hgs_files.specs.Tree.{Tree, after_all}
 use Rattle.hgs_index.specs.declared.node.Node.{Node}
-use Rattle.hgs_machine.specs.Asked.{Doing, Ending, Question, Sizing, asked, bytes_in}
-use Rattle.hgs_machine.specs.Fed.{fed, is_acknowledged, is_acknowledged_at, is_published, is_published_at}
+use Rattle.hgs_machine.specs.Asked.{Doing, Ending, Question, Sizing, asked, bytes_in, question_of}
+use Rattle.hgs_machine.specs.Fed.{fed, is_acknowledged, is_acknowledged_at, is_published, is_published_at, is_publishing}
 use Rattle.hgs_machine.specs.SoFar.{Fits, stopped_as, stops_as}
 use Rattle.hgs_machine.specs.declared.ended.Published.TheVariants.{No, Yes, Unknown}
 use Rattle.hgs_machine.specs.declared.ended.Short.{Short}
@@ -21,12 +22,13 @@ use Rattle.hgs_model.specs.declared.command.Refusal.{Refusal}
 use Rattle.hgs_ops.specs.Operations.{strays}
 use Rattle.hgs_stands.specs.Open.{IsOpen}
 use Rattle.hgs_stands.specs.Stands.{Stands}
+use Rattle.hgs_transaction.specs.declared.assemble.Plan.{Plan}
 use Rattle.hgs_writer.specs.Alone.{IsAnswered, IsDoneAs}
 use Rattle.hgs_writer.specs.Outcomes.{outcome_of_ended}
 use Rattle.hgs_world.specs.Below.{Progress}
 use Rattle.hgs_world.specs.Book.{Commands, acknowledged_of, ended_in, noted}
 use Rattle.hgs_world.specs.Follows.{AtRest, Replays, all_acknowledged, has_published, is_open, stands}
-use Rattle.hgs_world.specs.Working.{Acts, Does, OfOperation, Runs, RunsTo, Sizes, at_machine, no_more, not_yet, once_more, one_more}
+use Rattle.hgs_world.specs.Working.{Acts, Does, OfOperation, Runs, RunsTo, Sizes, asks_rest, at_machine, publishes_with, no_more, not_yet, once_more, one_more}
 use Rattle.hgs_world.specs.declared.working.Deed.{Deed}
 use Rattle.hgs_world.specs.declared.working.Deed.TheVariants.{All, Part, Fail}
 use Rattle.hgs_world.specs.declared.working.Goal.{Goal}
@@ -42,7 +44,7 @@ pub record Onward (from m : Machine) : Type 0 where
 onward_same : (m : Machine) → Onward m m
 onward_same m = record { published = λ h. h; acknowledged = λ h. h }
 
-onward_then : (a b c : Machine) → Onward a b → Onward b c → Onward a c
+pub onward_then : (a b c : Machine) → Onward a b → Onward b c → Onward a c
 onward_then a b c x y = record { published = λ h. y.published (x.published h); acknowledged = λ h. y.acknowledged (x.acknowledged h) }
 
 sizes_fit : (m : Machine) (path : List ℕ) (size : Option ℕ) → asked m ≡ Sizing path → Fits (asked m) (Size size)
@@ -204,40 +206,65 @@ follows_at_rest t _ (has_published r older command next leads e o) =
 
 -- ---- a stop
 
--- where nothing is acknowledged the tree stands for the repository before, or is open for it
-ended_before : (r : Repo) (stepped : Result Next Refusal) (u : Tree) (rev : ℕ) (node : Node) (o : Short) → is_acknowledged_at stages.Sweeping o ≡ false → IsAnswered r stepped (outcome_of_ended o rev node) u → IsOpen strays u r ⊎ Stands u r
-ended_before r stepped u rev node AllDone e h = absurd (let no : ⊥ = cc in no)
-ended_before r stepped u rev node Fault e h = inr h
-ended_before r stepped u rev node OutOfMemory e h = inr h
-ended_before r stepped u rev node (Unfinished No) e h = h.1
-ended_before r stepped u rev node (Unfinished Yes) e h = inl h.1
-ended_before r stepped u rev node (Unfinished Unknown) e h = inl h.1
+-- an append whose rest is asked for has bytes
+rest_some : (o : Option Op) (part count : ℕ) → asks_rest (question_of o (λ op. false)) part count ≡ true → nat_lt 0 (bytes_in o) ≡ true
+rest_some None part count h = cc
+rest_some (Some (ops.Append path bytes)) part count h = first (nat_lt 0 (length bytes)) (nat_le (length bytes - part) count) h
+  where
+    first : (a b : Bool) → (a && b) ≡ true → a ≡ true
+    first true b e = refl
+    first false b e = cc
+rest_some (Some (ops.Cut path len)) part count h = cc
+rest_some (Some (ops.Rename from to)) part count h = cc
+rest_some (Some (ops.Remove path)) part count h = cc
+rest_some (Some (ops.Create path bytes)) part count h = cc
+rest_some (Some (ops.Sync path)) part count h = cc
+rest_some (Some ops.Settle) part count h = cc
 
-in_part_before : (r : Repo) (stepped : Result Next Refusal) (u : Tree) (rev : ℕ) (node : Node) (b : Bool) → IsAnswered r stepped (outcome_of_ended (if b then Unfinished Unknown else Unfinished No) rev node) u → IsOpen strays u r ⊎ Stands u r
-in_part_before r stepped u rev node true h = inl h.1
-in_part_before r stepped u rev node false h = h.1
+published_whole : (r : Repo) (older : List Command) (command : Command) (u : Tree) (rev : ℕ) (node : Node) (b : Bool) → b ≡ true → Replays empty_repo older r
+    → IsAnswered r (step r command) (outcome_of_ended (if b then Unfinished Unknown else Unfinished No) rev node) u → AtRest u (ended_in (noted true false (book_of older command)))
+published_whole r older command u rev node true e leads h = publishes_by r older command u leads h.0 h.1
+published_whole r older command u rev node false e leads h = absurd (let no : ⊥ = cc in no)
 
-before_by : (r : Repo) (stepped : Result Next Refusal) (u : Tree) (rev : ℕ) (node : Node) (s : Stage) (bytes : ℕ) (o : Short) → is_acknowledged_at s o ≡ false → IsAnswered r stepped (outcome_of_ended (stops_as s bytes o) rev node) u → IsOpen strays u r ⊎ Stands u r
-before_by r stepped u rev node stages.Preparing bytes o e h = inr h
-before_by r stepped u rev node stages.Beginning bytes o e h = h.1
-before_by r stepped u rev node stages.Working bytes o e h = h.1
-before_by r stepped u rev node stages.Publishing bytes o e h = in_part_before r stepped u rev node (nat_lt 0 bytes) h
-before_by r stepped u rev node stages.Asking bytes o e h = inl h.1
-before_by r stepped u rev node stages.Finishing bytes o e h = inl h.1
-before_by r stepped u rev node stages.Undoing bytes o e h = h.1
-before_by r stepped u rev node stages.Dropping bytes o e h = h.1
-before_by r stepped u rev node stages.Sweeping bytes o e h = ended_before r stepped u rev node o e h
-before_by r stepped u rev node stages.Removing bytes o e h = ended_before r stepped u rev node o e h
+-- the publishing append stands whole
+shown_so : (r : Repo) (older : List Command) (command : Command) (u : Tree) (rev : ℕ) (node : Node) (plan : Plan) (s : Stage) (done place : ℕ) (o : Short) (swept : Bool) (part count : ℕ) →
+    let m : Machine = record { plan = plan; stage = s; done = done; place = place; outcome = o; swept = swept } in (is_publishing m && asks_rest (asked m) part count) ≡ true → Replays empty_repo older r
+    → IsAnswered r (step r command) (outcome_of_ended (stopped_as m) rev node) u → AtRest u (ended_in (noted true false (book_of older command)))
+shown_so r older command u rev node plan stages.Preparing done place o swept part count e leads h = absurd (let no : ⊥ = cc in no)
+shown_so r older command u rev node plan stages.Beginning done place o swept part count e leads h = absurd (let no : ⊥ = cc in no)
+shown_so r older command u rev node plan stages.Working done place o swept part count e leads h = absurd (let no : ⊥ = cc in no)
+shown_so r older command u rev node plan stages.Publishing done place o swept part count e leads h =
+    published_whole r older command u rev node (nat_lt 0 (bytes_in (slice_get plan.ops.items done))) (rest_some (slice_get plan.ops.items done) part count e) leads h
+shown_so r older command u rev node plan stages.Asking done place o swept part count e leads h = absurd (let no : ⊥ = cc in no)
+shown_so r older command u rev node plan stages.Finishing done place o swept part count e leads h = absurd (let no : ⊥ = cc in no)
+shown_so r older command u rev node plan stages.Undoing done place o swept part count e leads h = absurd (let no : ⊥ = cc in no)
+shown_so r older command u rev node plan stages.Dropping done place o swept part count e leads h = absurd (let no : ⊥ = cc in no)
+shown_so r older command u rev node plan stages.Sweeping done place o swept part count e leads h = absurd (let no : ⊥ = cc in no)
+shown_so r older command u rev node plan stages.Removing done place o swept part count e leads h = absurd (let no : ⊥ = cc in no)
 
-not_true : (b : Bool) → (b ≡ true → ⊥) → b ≡ false
-not_true false h = refl
-not_true true h = absurd (h refl)
+-- A machine that has come this far stops, of which no more was noted than this: it has published where its publishing operation stands whole.
+pub rests_stopped : (r : Repo) (older : List Command) (command : Command) (u : Tree) (w : Working) (count : ℕ) (p a : Bool) → (p ≡ true → is_published w.machine ≡ true) → (a ≡ true → p ≡ true) → is_acknowledged w.machine ≡ a
+    → Replays empty_repo older r → IsAnswered r (step r command) (outcome_of_ended (stopped_as w.machine) w.rev w.node) u → AtRest u (ended_in (noted (publishes_with count w) false (noted p a (book_of older command))))
+rests_stopped r older command u w count p a comes sooner is leads h = by (is_published m) whole p a refl refl is comes sooner
+  where
+    m : Machine
+    m = w.machine
 
--- a machine that has come this far, of which no more is noted than this
-pub rests_before : (r : Repo) (older : List Command) (command : Command) (u : Tree) (rev : ℕ) (node : Node) (m : Machine) (p a : Bool) → (p ≡ true → is_published m ≡ true) → (a ≡ true → p ≡ true) → is_acknowledged m ≡ a
-    → Replays empty_repo older r → IsAnswered r (step r command) (outcome_of_ended (stopped_as m) rev node) u → AtRest u (ended_in (noted p a (book_of older command)))
-rests_before r older command u rev node m true a comes sooner is leads h =
-    subst (λ x. AtRest u (ended_in (noted x a (book_of older command)))) (comes refl) (subst (λ x. AtRest u (ended_in (noted (is_published m) x (book_of older command)))) is (rests r older command u rev node m leads h))
-rests_before r older command u rev node m false false comes sooner is leads h =
-    left_by r older command u leads (before_by r (step r command) u rev node m.stage (bytes_in (slice_get m.plan.ops.items m.done)) m.outcome is h)
-rests_before r older command u rev node m false true comes sooner is leads h = absurd (let e = sooner refl in let no : ⊥ = cc in no)
+    whole : Bool
+    whole = is_publishing m && asks_rest (asked m) w.part count
+
+    -- as much is noted as the machine has come to
+    as_come : (q b : Bool) → is_published m ≡ q → is_acknowledged m ≡ b → AtRest u (ended_in (noted q b (book_of older command)))
+    as_come q b e f =
+        subst (λ x. AtRest u (ended_in (noted x b (book_of older command)))) e
+        (subst (λ x. AtRest u (ended_in (noted (is_published m) x (book_of older command)))) f (rests r older command u w.rev w.node m leads h))
+
+    by : (q shown p a : Bool) → is_published m ≡ q → whole ≡ shown → is_acknowledged m ≡ a → (p ≡ true → q ≡ true) → (a ≡ true → p ≡ true) → AtRest u (ended_in (noted (q || shown) false (noted p a (book_of older command))))
+    by true shown true true e f g comes sooner = as_come true true e g
+    by true shown true false e f g comes sooner = as_come true false e g
+    by true shown false true e f g comes sooner = absurd (let k = sooner refl in let no : ⊥ = cc in no)
+    by true shown false false e f g comes sooner = as_come true false e g
+    by false shown true a e f g comes sooner = absurd (let k = comes refl in let no : ⊥ = cc in no)
+    by false shown false true e f g comes sooner = absurd (let k = sooner refl in let no : ⊥ = cc in no)
+    by false true false false e f g comes sooner = shown_so r older command u w.rev w.node m.plan m.stage m.done m.place m.outcome m.swept w.part count f leads h
+    by false false false false e f g comes sooner = as_come false false e g

@@ -14,6 +14,7 @@ use Rattle.hgs_writer.specs.declared.begin.Begun.{Begun}
 use Rattle.hgs_writer.specs.declared.begin.Begun.TheVariants.{Ready, Refused}
 use Rattle.hgs_world.specs.Book.{Commands, IsCounted, acknowledged_in, acknowledged_of, ended_in, noted, published_in, published_more, taken_back, with_pending}
 use Rattle.hgs_world.specs.World.{ActsAt, ActsIn, BeginsIn, Happens, HasBegun, IfRunning, LeavesWriter, OnlySays, RecoversAt, RecoversIn, RunsAt, RunsIn, Scene, StopsAt, StopsIn, book_at, book_left, book_recovered}
+use Rattle.hgs_world.specs.Working.{at_machine, publishes_with}
 use Rattle.hgs_world.specs.declared.working.Deed.{Deed}
 use Rattle.hgs_world.specs.declared.working.Deed.TheVariants.{All as WholeDeed, Part as PartDeed, Fail as FailDeed}
 use Rattle.hgs_world.specs.declared.working.Goal.{Goal}
@@ -115,7 +116,7 @@ acts deed words old new text k h = by old.writer h
   where
     by : (o : Option Working) → IfRunning o (OnlySays old new (codes "idle") text) (ActsAt deed words old new text) → GoesOn old.book new.book
     by None h = said old new (codes "idle") text k h
-    by (Some w) (done, after, a, l) = leaves old new done after words text k l
+    by (Some w) (done, mid, a, m, n, l) = leaves old new done (at_machine mid m) words text k l
 
 runs : (goal : Goal) (words : List ℕ) (old new : Scene) (text : List ℕ) → IsCounted old.book → RunsIn goal words old new text → GoesOn old.book new.book
 runs goal words old new text k h = by old.writer h
@@ -140,7 +141,10 @@ stops count old new text k h = by old.writer h
   where
     by : (o : Option Working) → IfRunning o (OnlySays old new (codes "idle") text) (StopsAt count old new text) → GoesOn old.book new.book
     by None h = said old new (codes "idle") text k h
-    by (Some w) (done, s, e, t) = of old new (ended_in old.book) (ended old.book k) (ap (λ (s : Scene). s.book) e)
+    by (Some w) (done, after, s, e, t) =
+        let n = notes (publishes_with count after) false old.book k in
+        let book = noted (publishes_with count after) false old.book in
+        of old new (ended_in book) (goes_further old.book book (ended_in book) n (ended book n.counted)) (ap (λ (s : Scene). s.book) e)
 
 recovers : (old new : Scene) (text : List ℕ) → IsCounted old.book → RecoversIn old new text → GoesOn old.book new.book
 recovers old new text k h = by old.writer h

@@ -234,6 +234,21 @@ comes_by_run g command t w done goal more after h a =
       whole = ap (λ l. l ++ more) h.whole ∙ append_assoc h.locking h.working more;
     }
 
+-- and with its questions for sizes answered
+pub comes_by_sizes : Going → (command : Command) (t : Tree) (w : Working) (m : Machine) (done : List Op) → HasCome command t w done → IsAtNext (after_all done t) w.machine m → HasCome command t (at_machine w m) done
+comes_by_sizes g command t w m done h n =
+    let u = after_all h.locking t in
+    let here : after_all done t ≡ after_all h.working u = ap (λ l. after_all l t) h.whole ∙ after_append h.locking h.working t in
+    record {
+      planned = h.planned;
+      locking = h.locking;
+      working = h.working;
+      locked = h.locked;
+      plans = h.plans;
+      worked = come g u h.planned w m h.working h.worked (subst (λ (x : Tree). IsAtNext x w.machine m) here n);
+      whole = h.whole;
+    }
+
 -- ---- the beginning, and a stop
 
 pub comes_first : ((t : Tree) (plan : Plan) → IsPlanned t plan → SoFar t (new_machine plan) []) → (command : Command) (t : Tree) (planned : Planned) (done : List Op) → AreLocked who t done → Plans command (after_all done t) (Ok planned) → IsPlanned (after_all done t) planned.plan
@@ -256,10 +271,10 @@ stopped_part Ending part count begun more h d = ap (λ l. l ++ more) h.1 ∙ d
 
 -- a writer that stops within its next operation is written as one that ends there
 pub written_at_stop : Going → ((t : Tree) (m : Machine) (log more : List Op) → SoFar t m log → IsInPart (asked m) more → CarriedOut t m.plan (stopped_as m) false (log ++ more))
-    → (command : Command) (t : Tree) (w : Working) (done : List Op) (count : ℕ) (more : List Op) → HasCome command t w done → (s : StopsWithin count (after_all done t) w more) → IsWritten who command t (answer_at (at_machine w s.machine)) (done ++ more)
-written_at_stop g law command t w done count more h s =
+    → (command : Command) (t : Tree) (w : Working) (done : List Op) (count : ℕ) (more : List Op) → HasCome command t w done → (after : Working) → StopsWithin count (after_all done t) w more after → IsWritten who command t (answer_at (at_machine w after.machine)) (done ++ more)
+written_at_stop g law command t w done count more h after s =
     let u = after_all h.locking t in
-    let m = s.machine in
+    let m = after.machine in
     let here : after_all done t ≡ after_all h.working u = ap (λ l. after_all l t) h.whole ∙ after_append h.locking h.working t in
     let k = come g u h.planned w m h.working h.worked (subst (λ (x : Tree). IsAtNext x w.machine m) here s.next) in
     let part = stopped_part (asked m) w.part count k.begun more k.is_begun s.does in

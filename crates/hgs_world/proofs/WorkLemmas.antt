@@ -230,9 +230,10 @@ runs_on goal t u from w after m log now was new s h e f g n going far k =
     let whole : Some new ≡ Some (log ++ (h.0 ++ k.0)) = k1 ∙ ap (λ l. Some (l ++ k.0)) (g ∙ is) ∙ ap (λ l. Some l) (append_assoc log h.0 k.0) in
     (h.0 ++ k.0, whole, subst (λ v. Runs goal t from (h.0 ++ k.0) v) (sym d.1) (once_more h.0 k.0 w m op.0 h.2 (subst (λ (x : Tree). IsAtNext x w.machine m) tree n) op.1 far d.0))
 
-pub stops_within : (count : ℕ) (t : Tree) (w : Working) (m : Machine) (op : Op) (log was new : List Op) → IsAtNext t w.machine m → was ≡ log → asked m ≡ Doing op → GoesOn (Some was) (Some new) (DoesPart op w.part count) → GoesOn (Some log) (Some new) (StopsWithin count t w)
-stops_within count t w m op log was new n e a h =
-    goes_from log was new (StopsWithin count t w) e (h.0, h.1, record { machine = m; next = n; does = subst (λ q. OfOperation q (λ o. DoesPart o w.part count h.0) (h.0 ≡ [])) (sym a) h.2 })
+pub stops_within : (count : ℕ) (t : Tree) (w v : Working) (op : Op) (log was new : List Op) → IsAtNext t w.machine v.machine → v ≡ at_machine w v.machine → was ≡ log → asked v.machine ≡ Doing op → GoesOn (Some was) (Some new) (DoesPart op w.part count)
+    → GoesOn (Some log) (Some new) (λ done. StopsWithin count t w done v)
+stops_within count t w v op log was new n same e a h =
+    goes_from log was new (λ done. StopsWithin count t w done v) e (h.0, h.1, record { next = n; is = same; does = subst (λ q. OfOperation q (λ o. DoesPart o w.part count h.0) (h.0 ≡ [])) (sym a) h.2 })
 
 pub acts_after : (deed : Deed) (t : Tree) (w v after : Working) (log was new : List Op) → IsAtNext t w.machine v.machine → v ≡ at_machine w v.machine → was ≡ log
     → GoesOn (Some was) (Some new) (λ done. OfOperation (asked v.machine) (λ op. Does deed op v done after) ((done ≡ []) × (after ≡ v)))
@@ -261,16 +262,16 @@ no_ops = []
 
 -- a stop where nothing is asked for but an operation
 pub stops_at_op : (count : ℕ) (t : Tree) (w v : Working) (op : Op) (log was new : List Op) → IsAtNext t w.machine v.machine → v ≡ at_machine w v.machine → was ≡ log → asked v.machine ≡ Doing op → GoesOn (Some was) (Some new) (DoesPart op v.part count)
-    → GoesOn (Some log) (Some new) (StopsWithin count t w)
+    → GoesOn (Some log) (Some new) (λ done. StopsWithin count t w done v)
 stops_at_op count t w v op log was new n same e a h =
-    stops_within count t w v.machine op log was new n e a (subst (λ (k : ℕ). GoesOn (Some was) (Some new) (DoesPart op k count)) (ap (λ x. x.part) same) h)
+    stops_within count t w v op log was new n same e a (subst (λ (k : ℕ). GoesOn (Some was) (Some new) (DoesPart op k count)) (ap (λ x. x.part) same) h)
 
-pub stops_at_size : (count : ℕ) (t : Tree) (w v : Working) (path : List ℕ) (log was : List Op) → IsAtNext t w.machine v.machine → was ≡ log → asked v.machine ≡ Sizing path → GoesOn (Some log) (Some was) (StopsWithin count t w)
+pub stops_at_size : (count : ℕ) (t : Tree) (w v : Working) (path : List ℕ) (log was : List Op) → IsAtNext t w.machine v.machine → was ≡ log → asked v.machine ≡ Sizing path → GoesOn (Some log) (Some was) (λ done. StopsWithin count t w done v)
 stops_at_size count t w v path log was n e a = absurd (n.no_more (subst IsSizing (sym a) tt))
 
-pub stops_at_end : (count : ℕ) (t : Tree) (w v : Working) (log was : List Op) → IsAtNext t w.machine v.machine → was ≡ log → asked v.machine ≡ Ending → GoesOn (Some log) (Some was) (StopsWithin count t w)
-stops_at_end count t w v log was n e a =
-    (no_ops, ap (λ l. Some l) (e ∙ sym (append-nil log)), record { machine = v.machine; next = n; does = subst (λ q. OfOperation q (λ o. DoesPart o w.part count no_ops) (no_ops ≡ no_ops)) (sym a) refl })
+pub stops_at_end : (count : ℕ) (t : Tree) (w v : Working) (log was : List Op) → IsAtNext t w.machine v.machine → v ≡ at_machine w v.machine → was ≡ log → asked v.machine ≡ Ending → GoesOn (Some log) (Some was) (λ done. StopsWithin count t w done v)
+stops_at_end count t w v log was n same e a =
+    (no_ops, ap (λ l. Some l) (e ∙ sym (append-nil log)), record { next = n; is = same; does = subst (λ q. OfOperation q (λ o. DoesPart o w.part count no_ops) (no_ops ≡ no_ops)) (sym a) refl })
 
 pub both_ok : {E : Type 0} (r : Result Unit E) (X Y Z : Type 0) → (X → Y → Z) → OnOk r X → OnOk r Y → OnOk r Z
 both_ok (Ok x) X Y Z f h k = f h k

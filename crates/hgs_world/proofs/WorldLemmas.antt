@@ -1,5 +1,5 @@
 -- Events of the writer.
-use Rattle.std.proofs.Common.{◌≡◌, ℕ, List, ◌++◌, true, false, refl, sym, ◌∙◌, ap, subst}
+use Rattle.std.proofs.Common.{◌≡◌, ℕ, List, ◌++◌, length, true, false, refl, sym, ◌∙◌, ap, subst}
 use Rattle.std.specs.Prelude.{Option, Some, None, is_some, codes}
 use Rattle.hgs_files.specs.declared.op.Op.{Op}
 use Rattle.hgs_files.specs.Files.{GoesOn}
@@ -12,21 +12,31 @@ use Rattle.hgs_schedule.specs.declared.event.Event.TheVariants.{Begin}
 use Rattle.hgs_writer.specs.Begun.{Begins}
 use Rattle.hgs_writer.specs.declared.begin.Begun.TheVariants.{Ready, Refused}
 use Rattle.hgs_writer.specs.declared.plan.Planned.{Planned}
-use Rattle.hgs_world.specs.Book.{with_pending}
+use Rattle.hgs_world.specs.Book.{ended_in, noted, with_pending}
 use Rattle.hgs_world.specs.Texts.{begun_line, word_line}
-use Rattle.hgs_world.specs.Working.{Acts, RunsTo, line_at, writer_left}
-use Rattle.hgs_world.specs.World.{ActsIn, BeginsIn, Happens, IfRunning, IsGivenByFiles, LeavesWriter, OnlySays, RunsIn, Scene, book_at, book_left, new_writer, tree_of, who}
+use Rattle.hgs_world.specs.Working.{Acts, IsAtNext, RunsTo, StopsWithin, at_machine, line_at, publishes_with, writer_left}
+use Rattle.hgs_world.specs.World.{ActsAt, ActsIn, BeginsIn, Happens, IfRunning, IsGivenByFiles, LeavesWriter, OnlySays, RunsIn, Scene, StopsAt, StopsIn, forgotten, book_at, book_left, new_writer, tree_of, who}
 use Rattle.hgs_world.specs.declared.working.Deed.{Deed}
 use Rattle.hgs_world.specs.declared.working.Goal.{Goal}
 use Rattle.hgs_world.specs.declared.working.Working.{Working}
 use Rattle.hgs_world.proofs.WorkLemmas.{after_append}
 
-pub acts_in : (deed : Deed) (words : List ℕ) (old new : Scene) (text : List ℕ) (w after : Working) (log : List Op) → old.writer ≡ Some w → GoesOn (Some old.log) (Some log) (λ done. Acts deed (tree_of old) w done after)
+pub acts_in : (deed : Deed) (words : List ℕ) (old new : Scene) (text : List ℕ) (w mid after : Working) (log : List Op) → old.writer ≡ Some w → GoesOn (Some old.log) (Some log) (λ done. Acts deed (tree_of old) w done mid)
+    → IsAtNext (after_all log old.start) mid.machine after.machine → after ≡ at_machine mid after.machine
     → new ≡ record old { log = log; writer = writer_left (asked after.machine) after; book = book_left (asked after.machine) (book_at after.machine old.book) } → text ≡ line_at (asked after.machine) (word_line words) after → ActsIn deed words old new text
-acts_in deed words old new text w after log e h n t =
+acts_in deed words old new text w mid after log e h n same now t =
     let is : log ≡ old.log ++ h.0 = cc in
-    subst (λ o. IfRunning o (OnlySays old new (codes "idle") text) (λ v. (done : List Op) × (u : Working) × Acts deed (tree_of old) v done u × LeavesWriter old new done u words text)) (sym e)
-    (h.0, after, h.2, (n ∙ ap (λ l. record old { log = l; writer = writer_left (asked after.machine) after; book = book_left (asked after.machine) (book_at after.machine old.book) }) is, t))
+    let tree : after_all log old.start ≡ after_all h.0 (tree_of old) = ap (λ l. after_all l old.start) is ∙ after_append old.log h.0 old.start in
+    let left : LeavesWriter old new h.0 after words text = (now ∙ ap (λ l. record old { log = l; writer = writer_left (asked after.machine) after; book = book_left (asked after.machine) (book_at after.machine old.book) }) is, t) in
+    subst (λ o. IfRunning o (OnlySays old new (codes "idle") text) (ActsAt deed words old new text)) (sym e)
+    (h.0, mid, h.2, after.machine, subst (λ (x : Tree). IsAtNext x mid.machine after.machine) tree n, subst (λ v. LeavesWriter old new h.0 v words text) same left)
+
+pub stops_in : (count : ℕ) (old new : Scene) (text : List ℕ) (w after : Working) (log : List Op) → old.writer ≡ Some w → GoesOn (Some old.log) (Some log) (λ done. StopsWithin count (tree_of old) w done after)
+    → new ≡ record old { log = log; writer = None; readers = forgotten (length old.readers); book = ended_in (noted (publishes_with count after) false old.book) } → text ≡ word_line (codes "stopped") → StopsIn count old new text
+stops_in count old new text w after log e h now t =
+    let is : log ≡ old.log ++ h.0 = cc in
+    subst (λ o. IfRunning o (OnlySays old new (codes "idle") text) (StopsAt count old new text)) (sym e)
+    (h.0, after, h.2, now ∙ ap (λ l. record old { log = l; writer = None; readers = forgotten (length old.readers); book = ended_in (noted (publishes_with count after) false old.book) }) is, t)
 
 pub runs_in : (goal : Goal) (words : List ℕ) (old new : Scene) (text : List ℕ) (w after : Working) (log : List Op) → old.writer ≡ Some w → GoesOn (Some old.log) (Some log) (λ done. RunsTo goal (tree_of old) w done after)
     → new ≡ record old { log = log; writer = writer_left (asked after.machine) after; book = book_left (asked after.machine) (book_at after.machine old.book) } → text ≡ line_at (asked after.machine) (word_line words) after → RunsIn goal words old new text

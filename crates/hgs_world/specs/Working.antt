@@ -1,10 +1,11 @@
 -- A writer at work.
-use Rattle.std.specs.Prelude.{◌≡◌, ◌⊎◌, ℕ, ◌+◌, ◌-◌, ◌≤◌, List, [], ◌++◌, Bool, true, false, Option, Some, None, nat_lt}
+use Rattle.std.specs.Prelude.{◌≡◌, ◌⊎◌, ℕ, ◌+◌, ◌-◌, ◌≤◌, List, [], ◌++◌, Bool, true, false, ◌&&◌, ◌||◌, Option, Some, None, nat_le, nat_lt, length}
 use Rattle.hgs_files.specs.declared.op.Op.{Op}
+use Rattle.hgs_files.specs.declared.op.Op.TheVariants.{Append}
 use Rattle.hgs_files.specs.Reads.{IsSizeOf}
 use Rattle.hgs_files.specs.Tree.{Tree, after_all}
 use Rattle.hgs_machine.specs.Asked.{Question, Doing, Sizing, Ending, asked}
-use Rattle.hgs_machine.specs.Fed.{fed, is_cleaning, is_publishing}
+use Rattle.hgs_machine.specs.Fed.{fed, is_cleaning, is_published, is_publishing}
 use Rattle.hgs_machine.specs.SoFar.{SoFar}
 use Rattle.hgs_machine.specs.declared.machine.Machine.{Machine}
 use Rattle.hgs_machine.specs.declared.machine.Reply.TheVariants.{Done, Failed, Size}
@@ -120,10 +121,27 @@ pub record RunsTo (goal : Goal) (t : Tree) (from : Working) (done : List Op) (af
   pub is : after ≡ at_machine last machine
 
 -- A stop: so many more bytes of the next operation are done, and nothing more.
-pub record StopsWithin (count : ℕ) (t : Tree) (w : Working) (done : List Op) : Type 0 where
-  pub machine : Machine
-  pub next : IsAtNext t w.machine machine
-  pub does : OfOperation (asked machine) (λ op. DoesPart op w.part count done) (done ≡ [])
+pub record StopsWithin (count : ℕ) (t : Tree) (w : Working) (done : List Op) (after : Working) : Type 0 where
+  pub next : IsAtNext t w.machine after.machine
+  pub is : after ≡ at_machine w after.machine
+  pub does : OfOperation (asked after.machine) (λ op. DoesPart op w.part count done) (done ≡ [])
+
+-- ---- what is published
+
+-- whether so many more bytes are all that is left of an append of some
+abbrev pub is_rest : Op → ℕ → ℕ → Bool
+is_rest (Append path bytes) part count = nat_lt 0 (length bytes) && nat_le (length bytes - part) count
+is_rest op part count = false
+
+-- whether that is so of what is asked for
+abbrev pub asks_rest : Question → ℕ → ℕ → Bool
+asks_rest (Doing op) part count = is_rest op part count
+asks_rest (Sizing path) part count = false
+asks_rest Ending part count = false
+
+-- Whether the last byte of the publishing operation stands once so many more bytes of the next operation are done.
+abbrev pub publishes_with : ℕ → Working → Bool
+publishes_with count w = is_published w.machine || (is_publishing w.machine && asks_rest (asked w.machine) w.part count)
 
 -- ---- what is left of the writer, and its line
 

@@ -26,7 +26,7 @@ use Rattle.hgs_world.specs.Questions.{Sight, body_text, load_line, loaded_by, lo
 use Rattle.hgs_world.specs.Book.{Commands, ended_in, no_commands, noted, taken_back, with_pending}
 use Rattle.hgs_world.specs.Start.{new_tree}
 use Rattle.hgs_world.specs.Texts.{begun_line, recovered_line, word_line}
-use Rattle.hgs_world.specs.Working.{Acts, RunsTo, StopsWithin, line_at, writer_left}
+use Rattle.hgs_world.specs.Working.{Acts, IsAtNext, RunsTo, StopsWithin, at_machine, line_at, publishes_with, writer_left}
 use Rattle.hgs_world.specs.declared.seen.Seen.{Seen}
 use Rattle.hgs_world.specs.declared.seen.Seen.TheVariants.{Text, Memory}
 use Rattle.hgs_world.specs.declared.working.Deed.{Deed}
@@ -113,9 +113,11 @@ LeavesWriter old new done after words text =
     (new ≡ record (with_writer old done (writer_left (asked after.machine) after)) { book = book_left (asked after.machine) (book_at after.machine old.book) })
     × (text ≡ line_at (asked after.machine) (word_line words) after)
 
--- an event of a writer that is at work
+-- An event of a writer that is at work. It answers the questions for sizes that follow at once, so an append that failed with all its bytes done
+-- has published.
 abbrev pub ActsAt : Deed → List ℕ → Scene → Scene → List ℕ → Working → Type 0
-ActsAt deed words old new text w = (done : List Op) × (after : Working) × Acts deed (tree_of old) w done after × LeavesWriter old new done after words text
+ActsAt deed words old new text w =
+    (done : List Op) × (mid : Working) × Acts deed (tree_of old) w done mid × (machine : Machine) × IsAtNext (after_all done (tree_of old)) mid.machine machine × LeavesWriter old new done (at_machine mid machine) words text
 
 abbrev pub ActsIn : Deed → List ℕ → Scene → Scene → List ℕ → Type 0
 ActsIn deed words old new text = IfRunning old.writer (OnlySays old new (codes "idle") text) (ActsAt deed words old new text)
@@ -130,10 +132,11 @@ RunsIn goal words old new text = IfRunning old.writer (OnlySays old new (codes "
 abbrev pub forgotten : ℕ → List Sight
 forgotten count = replicate count no_sight
 
+-- A stop publishes where it leaves the publishing operation whole, and acknowledges nothing.
 abbrev pub StopsAt : ℕ → Scene → Scene → List ℕ → Working → Type 0
 StopsAt count old new text w =
-    (done : List Op) × StopsWithin count (tree_of old) w done
-    × (new ≡ record old { log = old.log ++ done; writer = None; readers = forgotten (length old.readers); book = ended_in old.book }) × (text ≡ word_line (codes "stopped"))
+    (done : List Op) × (after : Working) × StopsWithin count (tree_of old) w done after
+    × (new ≡ record old { log = old.log ++ done; writer = None; readers = forgotten (length old.readers); book = ended_in (noted (publishes_with count after) false old.book) }) × (text ≡ word_line (codes "stopped"))
 
 abbrev pub StopsIn : ℕ → Scene → Scene → List ℕ → Type 0
 StopsIn count old new text = IfRunning old.writer (OnlySays old new (codes "idle") text) (StopsAt count old new text)

@@ -6,7 +6,7 @@ ghost use Rattle.hgs_machine.specs.Asked.{Doing, asked};
 ghost use Rattle.hgs_machine.specs.SoFar.{questions_left};
 ghost use Rattle.hgs_mem.specs.Steady.{steady_log, steady_start, steady_tree};
 ghost use Rattle.hgs_world.specs.Texts.{word_line};
-ghost use Rattle.hgs_world.specs.Working.{Acts, AnswersSize, asks_part, Does, HasBytes, IsAtNext, CanGoOn, KeepsSoFar, OfOperation, RunsTo, at_machine, StopsWithin, is_at, is_ending, is_part, line_at};
+ghost use Rattle.hgs_world.specs.Working.{Acts, AnswersSize, asks_part, Does, HasBytes, IsAtNext, CanGoOn, KeepsSoFar, OfOperation, RunsTo, at_machine, StopsWithin, asks_rest, is_at, is_ending, is_part, is_rest, line_at, publishes_with};
 
 use crate::parts::{do_part, do_rest, op_length};
 use crate::seen::NoMemory;
@@ -97,9 +97,21 @@ fn is_part(op: &Op, part: u64, count: u64) -> bool
     count < op_length(op).saturating_sub(part)
 }
 
+// Whether so many more bytes are all that is left of an append of some.
+fn is_rest(op: &Op, part: u64, count: u64) -> bool
+    ensures { result ≡ is_rest op.now part count }
+{
+    match op {
+        Op::Append { bytes, .. } => {
+            0 < bytes.len() && (bytes.len() as u64).saturating_sub(part) <= count
+        }
+        _ => false,
+    }
+}
+
 impl Working {
-    // Answers questions for sizes, up to the next operation.
-    fn come(&mut self, files: &mut SteadyFiles) -> Result<(), NoMemory>
+    /// Answers questions for sizes, up to the next operation.
+    pub fn come(&mut self, files: &mut SteadyFiles) -> Result<(), NoMemory>
         requires at_work { CanGoOn (steady_tree files.old) self.old }
         ensures next { OnOk result (IsAtNext (steady_tree files.old) self.old.machine self.new.machine) }
         ensures same { OnOk result (self.new ≡ at_machine self.old self.new.machine) }
@@ -225,10 +237,27 @@ impl Working {
         }
     }
 
+    // Whether so many more bytes are all that is left of the next operation, an append of some.
+    fn has_rest(&self, count: u64) -> bool
+        ensures { result ≡ asks_rest (asked self.now.machine) self.now.part count }
+    {
+        match self.machine.next() {
+            Next::Do(op) => is_rest(op, self.part, count),
+            _ => false,
+        }
+    }
+
+    /// Whether the last byte of the publishing operation stands once so many more bytes of the next operation are done.
+    pub fn publishes_with(&self, count: u64) -> bool
+        ensures { result ≡ publishes_with count self.now }
+    {
+        self.machine.is_published() || self.machine.is_publishing() && self.has_rest(count)
+    }
+
     /// Does so many bytes of the next operation, and nothing more.
     pub fn stop(&mut self, files: &mut SteadyFiles, count: u64) -> Result<(), NoMemory>
         requires at_work { CanGoOn (steady_tree files.old) self.old }
-        ensures stops { OnOk result (GoesOn (Some (steady_log files.old)) (Some (steady_log files.new)) (StopsWithin count (steady_tree files.old) self.old)) }
+        ensures stops { OnOk result (GoesOn (Some (steady_log files.old)) (Some (steady_log files.new)) (λ done. StopsWithin count (steady_tree files.old) self.old done self.new)) }
         ensures same_start { steady_start files.new ≡ steady_start files.old }
     {
         self.come(files)?;

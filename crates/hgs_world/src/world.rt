@@ -191,6 +191,7 @@ impl World {
             return word_line(self.alloc, b"idle");
         };
         working.act(&mut self.files, deed)?;
+        working.come(&mut self.files)?;
         let line = working.line(self.alloc, words)?;
         self.keep(working)?;
         Ok(line)
@@ -226,6 +227,7 @@ impl World {
             return word_line(self.alloc, b"idle");
         };
         working.stop(&mut self.files, count)?;
+        self.book.note(working.publishes_with(count), false)?;
         self.book.end();
         self.forget()?;
         word_line(self.alloc, b"stopped")

@@ -2,6 +2,7 @@ pub mod LengthLemmas
 pub mod LoadedLemmas
 pub mod PlanLemmas
 pub mod SoundLemmas
+pub mod ImportSoundLemmas
 pub mod StepLemmas
 pub mod WrittenLemmas
 pub mod CommitLemmas

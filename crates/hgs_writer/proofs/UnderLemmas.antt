@@ -1,31 +1,26 @@
 -- A transaction under its locks is that of the tree without them.
-use Rattle.std.proofs.Common.{◌≡◌, ℕ, List, [], ◌∷◌, ◌++◌, drop, map, flat_map, Bool, true, false, ◌||◌, refl, ◌∙◌, ap, length}
-use Rattle.std.specs.Prelude.{Option, unwrap_or, if◌then◌else◌}
+use Rattle.std.proofs.Common.{◌≡◌, ℕ, List, [], ◌∷◌, ◌++◌, map, Bool, true, false, ◌||◌, refl, ◌∙◌, ap, length}
+use Rattle.std.specs.Prelude.{unwrap_or, if◌then◌else◌}
 use Rattle.std.specs.List.{AllByRecursion}
 use Rattle.hgs_bytes.specs.Bytes.{among, same}
-use Rattle.hgs_bytes.specs.Text.{line}
 use Rattle.hgs_files.specs.declared.op.Op.{Op}
 use Rattle.hgs_files.specs.declared.op.Op.TheVariants.{Append, Create, Rename}
-use Rattle.hgs_files.specs.Tree.{Tree, after_all, bytes_at}
-use Rattle.hgs_index.specs.Either.{chunk_bytes}
-use Rattle.hgs_index.specs.Revision.{Revision}
+use Rattle.hgs_files.specs.Tree.{Tree, after_all}
 use Rattle.hgs_journal.specs.Names.{locks, new_name, place}
 use Rattle.hgs_journal.specs.Covers.{is_loose}
 use Rattle.hgs_legal.specs.Theorems.TreeFacts.{other-path, same-sym}
 use Rattle.hgs_machine.specs.Locks.{AreLocked}
-use Rattle.hgs_model.specs.History.{history}
 use Rattle.hgs_model.specs.Repo.{Repo}
 use Rattle.hgs_model.specs.declared.command.Command.{Command}
 use Rattle.hgs_model.specs.declared.command.Command.TheVariants.{Commit, Import, Move, Mark, Unmark}
-use Rattle.hgs_ops.specs.Growth.{append_some, filelog_growth, filelogs_grow, grown, growth, grows_inline, new_changelog_entry, new_chunks, new_data, new_entries, new_items, new_names, new_paths}
-use Rattle.hgs_ops.specs.Operations.{appending, changes_before, journalled, lock_path, new_changelog_index, new_changelog_path, publishing, roots_renamed, strays, wlock_path}
+use Rattle.hgs_ops.specs.Growth.{growth}
+use Rattle.hgs_ops.specs.Operations.{changes_before, lock_path, new_changelog_index, new_changelog_path, publishing, roots_renamed, strays, wlock_path}
 use Rattle.hgs_ops.specs.Replaced.{new_rename, new_roots, roots_change}
+use Rattle.hgs_ops.specs.Theorems.Beside.{AreSameAside, publishing-same}
+use Rattle.hgs_ops.specs.Theorems.Beside.{changes-same as same-before}
 use Rattle.hgs_ops.specs.Theorems.CommitLemmas.{growth-quiet}
 use Rattle.hgs_journal.specs.Theorems.Touched.{touched, touched-append, touches}
-use Rattle.hgs_path.specs.declared.name.Ext.{Ext}
-use Rattle.hgs_path.specs.declared.name.Ext.TheVariants.{I, D}
-use Rattle.hgs_path.specs.StoreName.{store_name}
-use Rattle.hgs_stands.specs.Places.{changelog_data, changelog_index, fncache_path, manifest_data, manifest_index}
+use Rattle.hgs_stands.specs.Places.{changelog_index}
 use Rattle.hgs_stands.specs.Same.{AreStrays}
 use Rattle.hgs_stands.specs.Stands.{Stands}
 use Rattle.hgs_transaction.specs.OfTransaction.{ArePartsOf, IsOfTree}
@@ -139,11 +134,10 @@ standing-same : (t u : Tree) (cs : List Change) → AreSameBeside t u → AreApa
 standing-same t u [] beside apart all = tt
 standing-same t u (c ∷ cs) beside apart all = (one-same t u c beside apart.0 all.0, standing-same t u cs beside apart.1 all.1)
 
--- the changes before the publishing operation name no lock, nor does that operation, and both are the same of the other tree, as is what the journal names
+-- the changes before the publishing operation name no lock, nor does that operation, and both are the same of the other tree
 pub record AreSameChanges (t u : Tree) (r : Repo) (command : Command) (next : Repo) : Type 0 where
   pub before : changes_before u r command next ≡ changes_before t r command next
   pub publishing_op : publishing u r command next ≡ publishing t r command next
-  pub journalled_ops : journalled u r command next ≡ journalled t r command next
   pub no_wlock : touched wlock_path (changes_before u r command next) ≡ false
   pub no_lock : touched lock_path (changes_before u r command next) ≡ false
   pub publishes_no_wlock : touched wlock_path (publishing u r command next ∷ []) ≡ false
@@ -163,36 +157,9 @@ parts-same t u r command next p beside same are =
 
 -- ---- each command
 
-pub store-same : ((path : List ℕ) (ext : Ext) → is_loose strays (store_name path ext) ≡ false) → (t u : Tree) → AreSameBeside t u → (path : List ℕ) (ext : Ext) → u (store_name path ext) ≡ t (store_name path ext)
-store-same stores t u beside path ext = let n = not-lock (store_name path ext) (left-false (among (store_name path ext) locks) (among (store_name path ext) strays) (stores path ext)) in beside (store_name path ext) n.0 n.1
-
-grown-same : (inline : Bool) (t u : Tree) (index data_path : List ℕ) (old all : List Revision) → u index ≡ t index → u data_path ≡ t data_path → grown inline u index data_path old all ≡ grown inline t index data_path old all
-grown-same inline t u index data_path old all i d =
-    let growing = λ (x y : Option (List ℕ)). (let items = new_items (length (chunk_bytes inline (unwrap_or x []) (unwrap_or y []))) old (drop (length old) all) in append_some data_path (new_data inline items) ++ append_some index (new_entries inline old items)) in
-    ap (λ x. growing x (u data_path)) i ∙ ap (growing (t index)) d
-
-filelog-same : (t u : Tree) (path : List ℕ) (old all : List Revision) → u (store_name path I) ≡ t (store_name path I) → u (store_name path D) ≡ t (store_name path D) → filelog_growth u path old all ≡ filelog_growth t path old all
-filelog-same t u path old all i d =
-    ap (λ (x : Option (List ℕ)). grown (grows_inline (unwrap_or x []) old all) u (store_name path I) (store_name path D) old all) i
-    ∙ grown-same (grows_inline (bytes_at t (store_name path I)) old all) t u (store_name path I) (store_name path D) old all i d
-
-growth-same : ((path : List ℕ) (ext : Ext) → is_loose strays (store_name path ext) ≡ false) → (t u : Tree) (r next : Repo) → AreSameBeside t u → growth u r next ≡ growth t r next
-growth-same stores t u r next beside =
-    let old = history r.changesets in
-    let new = history next.changesets in
-    let files : filelogs_grow u old.filelog new.filelog (new_paths r next) ≡ filelogs_grow t old.filelog new.filelog (new_paths r next) =
-    ap (λ (f : List ℕ → List Op). flat_map f (new_paths r next)) (λ i path. filelog-same t u path (old.filelog path) (new.filelog path) (store-same stores t u beside path I) (store-same stores t u beside path D) i) in
-    let manifest = grown-same false t u manifest_index manifest_data old.manifest new.manifest (beside manifest_index refl refl) (beside manifest_data refl refl) in
-    let lines = append_some fncache_path (flat_map line (new_names old.filelog new.filelog (new_paths r next))) in
-    let entries = λ (o : Option (List ℕ)). append_some changelog_data (new_chunks (new_items (length (unwrap_or o [])) old.changelog (drop (length old.changelog) new.changelog))) in
-    ap (λ l. l ++ lines ++ grown false u manifest_index manifest_data old.manifest new.manifest ++ entries (u changelog_data)) files
-    ∙ ap (λ l. filelogs_grow t old.filelog new.filelog (new_paths r next) ++ lines ++ l ++ entries (u changelog_data)) manifest
-    ∙ ap (λ o. filelogs_grow t old.filelog new.filelog (new_paths r next) ++ lines ++ grown false t manifest_index manifest_data old.manifest new.manifest ++ entries o) (beside changelog_data refl refl)
-
-entry-same : (t u : Tree) (r next : Repo) → AreSameBeside t u → new_changelog_entry u r next ≡ new_changelog_entry t r next
-entry-same t u r next beside =
-    let old = (history r.changesets).changelog in
-    ap (λ (o : Option (List ℕ)). new_entries false old (new_items (length (unwrap_or o [])) old (drop (length old) (history next.changesets).changelog))) (beside changelog_data refl refl)
+-- so they are but for locks and strays
+pub beside-aside : (t u : Tree) → AreSameBeside t u → AreSameAside t u
+beside-aside t u beside path free = let n = not-lock path (left-false (among path locks) (among path strays) free) in beside path n.0 n.1
 
 roots-untouched : (b : Bool) (next : Repo) (q : List ℕ) → touched q (new_rename (new_roots next) ∷ []) ≡ false → touched q (if b then new_rename (new_roots next) ∷ [] else []) ≡ false
 roots-untouched true next q e = e
@@ -209,32 +176,27 @@ making-untouched : (t : Tree) (r next : Repo) (path bytes q : List ℕ) → touc
 making-untouched t r next path bytes q g c e =
     touched-append q (growth t r next) (Create path bytes ∷ roots_renamed r next) g (or-false (touches q (Create path bytes)) (touched q (roots_renamed r next)) c (roots-untouched (roots_change r next) next q e))
 
-appending-same : ((path : List ℕ) (ext : Ext) → is_loose strays (store_name path ext) ≡ false) → (t u : Tree) (r next : Repo) → AreSameBeside t u → appending u r next ≡ appending t r next
-appending-same stores t u r next beside =
-    ap (λ l. (l ++ roots_renamed r next) ++ Append changelog_index (new_changelog_entry u r next) ∷ []) (growth-same stores t u r next beside)
-    ∙ ap (λ l. (growth t r next ++ roots_renamed r next) ++ Append changelog_index l ∷ []) (entry-same t u r next beside)
+abbrev NoLock : Tree → Repo → Command → Repo → List ℕ → Type 0
+NoLock u r command next lock = (touched lock (changes_before u r command next) ≡ false) × (touched lock (publishing u r command next ∷ []) ≡ false)
 
-pub changes-same : ((path : List ℕ) (ext : Ext) → is_loose strays (store_name path ext) ≡ false) → (t u : Tree) (r : Repo) (command : Command) (next : Repo) → AreSameBeside t u → AreSameChanges t u r command next
-changes-same stores t u r (Commit n) next beside = record {
-  before = ap (λ l. l ++ roots_renamed r next) (growth-same stores t u r next beside);
-  publishing_op = ap (λ l. Append changelog_index l) (entry-same t u r next beside);
-  journalled_ops = appending-same stores t u r next beside;
-  no_wlock = changes-untouched u r next wlock_path (growth-quiet u r next wlock_path refl) refl;
-  no_lock = changes-untouched u r next lock_path (growth-quiet u r next lock_path refl) refl;
-  publishes_no_wlock = refl;
-  publishes_no_lock = refl;
-}
-changes-same stores t u r (Import changes) next beside = record {
-  before = ap (λ l. l ++ Create new_changelog_path (new_changelog_index u r next) ∷ roots_renamed r next) (growth-same stores t u r next beside)
-      ∙ ap (λ o. growth t r next ++ Create new_changelog_path (unwrap_or o [] ++ new_changelog_entry u r next) ∷ roots_renamed r next) (beside changelog_index refl refl)
-      ∙ ap (λ l. growth t r next ++ Create new_changelog_path (bytes_at t changelog_index ++ l) ∷ roots_renamed r next) (entry-same t u r next beside);
-  publishing_op = refl;
-  journalled_ops = appending-same stores t u r next beside;
-  no_wlock = making-untouched u r next new_changelog_path (new_changelog_index u r next) wlock_path (growth-quiet u r next wlock_path refl) refl refl;
-  no_lock = making-untouched u r next new_changelog_path (new_changelog_index u r next) lock_path (growth-quiet u r next lock_path refl) refl refl;
-  publishes_no_wlock = refl;
-  publishes_no_lock = refl;
-}
-changes-same stores t u r (Move rev phase force) next beside = record { before = refl; publishing_op = refl; journalled_ops = refl; no_wlock = refl; no_lock = refl; publishes_no_wlock = refl; publishes_no_lock = refl }
-changes-same stores t u r (Mark name rev) next beside = record { before = refl; publishing_op = refl; journalled_ops = refl; no_wlock = refl; no_lock = refl; publishes_no_wlock = refl; publishes_no_lock = refl }
-changes-same stores t u r (Unmark name) next beside = record { before = refl; publishing_op = refl; journalled_ops = refl; no_wlock = refl; no_lock = refl; publishes_no_wlock = refl; publishes_no_lock = refl }
+names-no-lock : (u : Tree) (r : Repo) (command : Command) (next : Repo) → NoLock u r command next wlock_path × NoLock u r command next lock_path
+names-no-lock u r (Commit n) next = ((changes-untouched u r next wlock_path (growth-quiet u r next wlock_path refl) refl, refl), (changes-untouched u r next lock_path (growth-quiet u r next lock_path refl) refl, refl))
+names-no-lock u r (Import changes) next = (
+  (making-untouched u r next new_changelog_path (new_changelog_index u r next) wlock_path (growth-quiet u r next wlock_path refl) refl refl, refl),
+  (making-untouched u r next new_changelog_path (new_changelog_index u r next) lock_path (growth-quiet u r next lock_path refl) refl refl, refl),
+)
+names-no-lock u r (Move rev phase force) next = ((refl, refl), (refl, refl))
+names-no-lock u r (Mark name rev) next = ((refl, refl), (refl, refl))
+names-no-lock u r (Unmark name) next = ((refl, refl), (refl, refl))
+
+pub changes-same : (t u : Tree) (r : Repo) (command : Command) (next : Repo) → AreSameBeside t u → AreSameChanges t u r command next
+changes-same t u r command next beside =
+    let apart = names-no-lock u r command next in
+    record {
+      before = same-before t u (beside-aside t u beside) r command next;
+      publishing_op = publishing-same t u (beside-aside t u beside) r command next;
+      no_wlock = apart.0.0;
+      no_lock = apart.1.0;
+      publishes_no_wlock = apart.0.1;
+      publishes_no_lock = apart.1.1;
+    }

@@ -17,6 +17,8 @@ ghost use Rattle.hgs_model.specs.Repo.{Repo};
 ghost use Rattle.hgs_model.specs.Step.{Next, step};
 ghost use Rattle.hgs_model.specs.Valid.{IsValid};
 ghost use Rattle.hgs_model.specs.declared.command.Command.{Command};
+ghost use Rattle.hgs_model.specs.declared.command.Command.TheVariants.{Import};
+ghost use Rattle.hgs_model.specs.declared.command.NewChange.{NewChange};
 ghost use Rattle.hgs_model.specs.declared.command.Refusal.{Refusal};
 ghost use Rattle.hgs_ops.specs.Unhindered.{IsReady};
 ghost use Rattle.hgs_writer.specs.Made.{HasNoLocks, HasNoStrays};
@@ -60,6 +62,12 @@ pub fn steps_are_sound()
 /// file.
 pub fn commits_are_sound()
     ensures { (t : Tree) (log : Log) (p : Parts) → ArePartsOfCommit log p → length (bytes_at t changelog_index) ≡ 64 * length log.entries → AreSound t p }
+{}
+
+/// That of an import can from any tree: the new index is made before it is renamed, and it is published by that rename, of which no
+/// size is asked.
+pub fn imports_are_sound()
+    ensures { (t u : Tree) (r next : Repo) (changes : List NewChange) (p : Parts) → ArePartsOf t r (Import changes) next p → AreSound u p }
 {}
 
 /// A separate changelog that was loaded of a tree is as long as its entries.

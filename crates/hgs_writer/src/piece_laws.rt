@@ -27,7 +27,7 @@ ghost use Rattle.hgs_transaction.specs.declared.parts.Parts.{Parts};
 
 use hgs_journal::laws::{transactions_stay_covered, undo_leads_back};
 use hgs_ops::laws::strays_are_apart;
-use hgs_stands::laws::{files_are_not_loose, other_files_do_not_matter};
+use hgs_stands::laws::other_files_do_not_matter;
 use hgs_transaction::laws::plans_are_transactions;
 
 /// The locks, and the plan of a transaction's parts that is carried out under them, are a piece of a legal log, whatever
@@ -88,5 +88,4 @@ pub fn locks_do_not_matter()
 {
     strays_are_apart();
     other_files_do_not_matter();
-    files_are_not_loose();
 }

@@ -117,11 +117,14 @@ growth-index t r next =
 -- ---- bookmarks
 
 -- the nodes of the changesets with the new ones
-more-nodes : (t : Tree) (r next : Repo) → GrowthFacts t r next → IsPrefixOf (changeset_nodes r.changesets) (changeset_nodes next.changesets)
-more-nodes t r next f =
-    let more = (history_from-extends (history r.changesets) f.goes_on.0).changelog in
+pub nodes-more : (r next : Repo) → IsPrefixOf r.changesets next.changesets → IsPrefixOf (changeset_nodes r.changesets) (changeset_nodes next.changesets)
+nodes-more r next behind =
+    let more = (history_from-extends (history r.changesets) behind.0).changelog in
     let p = nodes-append (history r.changesets).changelog more.0 in
-    (p.0, ap nodes (ap (λ (l : List Changeset). (history l).changelog) f.goes_on.1 ∙ ap (λ (x : History). x.changelog) (history_from-append no_history r.changesets f.goes_on.0) ∙ more.1) ∙ p.1)
+    (p.0, ap nodes (ap (λ (l : List Changeset). (history l).changelog) behind.1 ∙ ap (λ (x : History). x.changelog) (history_from-append no_history r.changesets behind.0) ∙ more.1) ∙ p.1)
+
+more-nodes : (t : Tree) (r next : Repo) → GrowthFacts t r next → IsPrefixOf (changeset_nodes r.changesets) (changeset_nodes next.changesets)
+more-nodes t r next f = nodes-more r next f.goes_on
 
 among-more : (x : List ℕ) (xs ys : List (List ℕ)) → among x xs ≡ true → among x (xs ++ ys) ≡ true
 among-more x [] ys e = never (sym e)
@@ -135,7 +138,7 @@ lines-known : (known more : List (List ℕ)) (marks : List Mark) → list_all (�
 lines-known known more [] e = refl
 lines-known known more (m ∷ marks) e = and-both _ _ (among-more m.node known more (and-left _ _ e)) (lines-known known more marks (and-right (among m.node known) _ e))
 
-marks-same : (known more : List (List ℕ)) (marks : List Bookmark) → AllByRecursion (λ (m : Bookmark). m.rev < length known) marks → map (mark_of (known ++ more)) marks ≡ map (mark_of known) marks
+pub marks-same : (known more : List (List ℕ)) (marks : List Bookmark) → AllByRecursion (λ (m : Bookmark). m.rev < length known) marks → map (mark_of (known ++ more)) marks ≡ map (mark_of known) marks
 marks-same known more [] all = refl
 marks-same known more (m ∷ marks) all = λ i. record { name = m.name; node = or-front known more m.rev null_node all.0 i } ∷ marks-same known more marks all.1 i
 
@@ -162,11 +165,17 @@ stored_of revisions = map (λ x. record { revision = x; chunk = chunk_of x.text 
 abbrev items_behind : List Revision → List Revision → List Item
 items_behind revisions more = items_from (0 + length (chunks_of (stored_of revisions))) (nodes_from [] (map (λ s. s.revision) (stored_of revisions))) (stored_of more)
 
-entries-join : (revisions more : List Revision) → entries_of (revisions ++ more) ≡ entries_of revisions ++ map (λ (i : Item). i.entry) (items_behind revisions more)
+pub entries-join : (revisions more : List Revision) → entries_of (revisions ++ more) ≡ entries_of revisions ++ map (λ (i : Item). i.entry) (items_behind revisions more)
 entries-join revisions more =
     ap (λ l. map (λ (i : Item). i.entry) (items_from 0 [] l)) (map-append (λ (y : Revision). record { revision = y; chunk = chunk_of y.text }) revisions more)
     ∙ ap (map (λ (i : Item). i.entry)) (items_from-append 0 [] (stored_of revisions) (stored_of more))
     ∙ map-append (λ (i : Item). i.entry) (items_from 0 [] (stored_of revisions)) (items_behind revisions more)
+
+-- where changesets are added the entries of the changelog go on
+pub history-more : (r next : Repo) → IsPrefixOf r.changesets next.changesets → IsPrefixOf (changeset_entries r.changesets) (changeset_entries next.changesets)
+history-more r next p =
+    let x = (history_from-extends (history r.changesets) p.0).changelog in
+    (map (λ (i : Item). i.entry) (items_behind (history r.changesets).changelog x.0), ap entries_of (ap (λ (l : List Changeset). (history l).changelog) p.1 ∙ ap (λ (k : History). k.changelog) (history_from-append no_history r.changesets p.0) ∙ x.1) ∙ entries-join (history r.changesets).changelog x.0)
 
 phase-back : (p : Phase) → phase_numbered (phase_number p) ≡ p
 phase-back Public = refl

@@ -86,7 +86,7 @@ history-push : (entries : List Entry) (e : Entry) → history_of (entries ++ e �
 history-push [] e = refl
 history-push (x ∷ entries) e = ap (λ l. (x.p1, x.p2) ∷ l) (history-push entries e)
 
-history-count : (entries : List Entry) → length (history_of entries) ≡ length entries
+pub history-count : (entries : List Entry) → length (history_of entries) ≡ length entries
 history-count entries = length-map entries (λ (x : Entry). (x.p1, x.p2))
 
 phase-front : (roots : List Root) (entries : List Entry) (e : Entry) (rev : ℕ) → rev < length entries → list_all (is_known (nodes_of entries)) roots ≡ true → phase_by roots (entries ++ e ∷ []) rev ≡ phase_by roots entries rev

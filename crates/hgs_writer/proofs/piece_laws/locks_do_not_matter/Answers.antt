@@ -1,6 +1,5 @@
 use Rattle.hgs_files.specs.Tree.{after_all}
-use Rattle.hgs_ops.specs.Operations.{strays}
-use Rattle.hgs_writer.proofs.LockedReadyLemmas.{ready-same}
+use Rattle.hgs_writer.proofs.LockedReadyLemmas.{ready-unlocked}
 use Rattle.hgs_writer.proofs.UnderLemmas.{changes-same, parts-same, same-beside, stands-beside}
 use Rattle.hgs_writer.proofs.piece_laws.locks_do_not_matter.Goals as goal
 
@@ -10,6 +9,6 @@ returns c = record {
   stands = λ t r who locking locked s. stands-beside c.other_files_do_not_matter.ensures.loose c.strays_are_apart.ensures.strays t (after_all locking t) r (same-beside who t locking locked) s;
   parts = λ t r next command who p locking locked are.
       (let beside = same-beside who t locking locked in
-      parts-same t (after_all locking t) r command next p beside (changes-same (λ path ext. c.files_are_not_loose.ensures.filelogs strays path ext c.strays_are_apart.ensures.strays) t (after_all locking t) r command next beside) are);
-  ready = λ t r next command who locking locked is. ready-same (λ path ext. c.files_are_not_loose.ensures.filelogs strays path ext c.strays_are_apart.ensures.strays) who t locking locked r command next is;
+      parts-same t (after_all locking t) r command next p beside (changes-same t (after_all locking t) r command next beside) are);
+  ready = λ t r next command who locking locked is. ready-unlocked who t locking locked r command next is;
 }

@@ -1,0 +1,10 @@
+//! The branches of changesets, and the heads of each.
+#![tactic(auto)]
+
+pub mod changeset;
+mod course;
+pub mod extras;
+pub mod heads;
+pub mod laws;
+mod print;
+mod walk;

@@ -1,0 +1,125 @@
+//! The text of branch heads.
+ghost use Rattle.std.specs.Prelude.{◌≡◌, ◌<◌, ◌≤◌, ◌^◌, ◌++◌, [], false, insert, length, slice_index_or, if◌then◌else◌, IfOk, OnOk};
+ghost use Rattle.std.specs.List.{range_with_len};
+ghost use Rattle.hgs_revlog.specs.Log.{nodes_of};
+ghost use Rattle.hgs_branch.specs.Heads.{branch_at, by_branch, with_head, StandByBranch};
+ghost use Rattle.hgs_branch.specs.Kept.{names_in};
+ghost use Rattle.hgs_branch.specs.Text.{head_line, head_lines, node_text};
+
+use crate::course::Course;
+use hgs_bytes::parts::below;
+use hgs_index::texts::hex_of;
+use hgs_revlog::revlog::Revlog;
+use itoa::Buffer;
+use std::alloc::{AllocError, Global};
+
+fn branch_of(course: &Course, rev: u32) -> &[u8]
+    ensures { result.now ≡ branch_at (names_in course.now.names.items course.now.known.items) rev }
+{
+    match course.known.get(rev as usize) {
+        None => &[],
+        Some(known) => match course.names.get(known.branch) {
+            None => &[],
+            Some(name) => name.as_slice(),
+        },
+    }
+}
+
+// The place among the heads, which stand by branch, behind those whose branch does not come after that of the new one.
+fn place_for(course: &Course, heads: &[u32], rev: u32) -> usize
+    requires { StandByBranch (names_in course.now.names.items course.now.known.items) heads.now }
+    ensures low { result ≤ length heads.now }
+    ensures place { insert heads.now result rev ≡ with_head (names_in course.now.names.items course.now.known.items) rev heads.now }
+{
+    let branch = branch_of(course, rev);
+    let mut low = 0;
+    let mut high = heads.len();
+    while low < high {
+        let middle = low + (high - low) / 2;
+        if below(branch, branch_of(course, heads[middle])) {
+            high = middle;
+        } else {
+            low = middle + 1;
+        }
+    }
+    low
+}
+
+fn is_head(course: &Course, rev: u32) -> bool
+    ensures { result ≡ slice_index_or course.now.heads.items rev false }
+{
+    match course.heads.get(rev as usize) {
+        None => false,
+        Some(mark) => *mark,
+    }
+}
+
+// Adds a changeset at its place among the heads, if it is one.
+fn add_head(course: &Course, heads: &mut Vec<u32>, rev: u32) -> Result<(), AllocError>
+    requires { StandByBranch (names_in course.now.names.items course.now.known.items) heads.old.items }
+    ensures { OnOk result (heads.new.items ≡ (if slice_index_or course.now.heads.items rev false then with_head (names_in course.now.names.items course.now.known.items) rev heads.old.items else heads.old.items)) }
+{
+    if is_head(course, rev) {
+        let place = place_for(course, heads, rev);
+        heads.insert(place, rev)?;
+    }
+    Ok(())
+}
+
+// The heads by branch, then by revision.
+fn in_order(alloc: Global, course: &Course) -> Result<Vec<u32>, AllocError>
+    requires { length course.now.known.items < 2 ^ 32 }
+    ensures { IfOk result (λ heads. heads.items ≡ by_branch (λ rev. slice_index_or course.now.heads.items rev false) (names_in course.now.names.items course.now.known.items) [] (range_with_len 0 (length course.now.known.items))) }
+{
+    let mut heads = Vec::new(alloc);
+    for rev in 0..course.known.len() as u32 {
+        add_head(course, &mut heads, rev)?;
+    }
+    Ok(heads)
+}
+
+// Adds the node of a changeset, and nothing where the history is shorter.
+fn push_node(into: &mut Vec<u8>, history: &Revlog, rev: u32) -> Result<(), AllocError>
+    ensures { OnOk result (into.new.items ≡ into.old.items ++ node_text (nodes_of history.now.entries) rev) }
+{
+    if rev < history.len() {
+        into.extend_from_slice(&hex_of(&history.entry(rev).node))?;
+    }
+    Ok(())
+}
+
+// Adds the line of a head.
+fn push_head(
+    into: &mut Vec<u8>,
+    course: &Course,
+    history: &Revlog,
+    rev: u32,
+) -> Result<(), AllocError>
+    ensures { OnOk result (into.new.items ≡ into.old.items ++ head_line (names_in course.now.names.items course.now.known.items) (nodes_of history.now.entries) rev) }
+{
+    let mut buffer = Buffer::new();
+    into.extend_from_slice(branch_of(course, rev))?;
+    into.push(b'\t')?;
+    into.extend_from_slice(buffer.format(rev).as_bytes())?;
+    into.push(b'\t')?;
+    push_node(into, history, rev)?;
+    into.push(b'\n')?;
+    Ok(())
+}
+
+/// The lines of the heads.
+pub(crate) fn lines_of(
+    alloc: Global,
+    course: &Course,
+    history: &Revlog,
+) -> Result<Vec<u8>, AllocError>
+    requires { length course.now.known.items < 2 ^ 32 }
+    ensures { IfOk result (λ lines. lines.items ≡ head_lines (λ rev. slice_index_or course.now.heads.items rev false) (names_in course.now.names.items course.now.known.items) (nodes_of history.now.entries)) }
+{
+    let heads = in_order(alloc, course)?;
+    let mut lines = Vec::new(alloc);
+    for place in 0..heads.len() {
+        push_head(&mut lines, course, history, heads[place])?;
+    }
+    Ok(lines)
+}
