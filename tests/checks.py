@@ -1,6 +1,7 @@
 """What scripts of checks share: counting, the program, and the bytes of a repository's files."""
 
 import os
+import re
 import subprocess
 
 HERE = os.path.dirname(os.path.abspath(__file__))
@@ -28,6 +29,14 @@ def built_program():
     """The path of the program, which is built first where that is needed."""
     built = subprocess.run([os.path.join(HERE, "../bin/hg_store"), "--build"], stdout=subprocess.PIPE, text=True, check=True)
     return built.stdout.strip()
+
+
+def hint_of(status):
+    """What docs/ANSWERS.md has a person read at this status, as the program writes it on standard error."""
+    with open(os.path.join(HERE, "../docs/ANSWERS.md"), encoding="utf-8") as document:
+        hints = document.read().split("## Hints")[1].split("## Limits")[0]
+    found = re.search(rf"^\| {status} \| (.*) \|$", hints, re.MULTILINE)
+    return f"hg_store: {found[1]}\n".encode() if found else b""
 
 
 def bytes_of(folder):

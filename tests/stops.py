@@ -17,7 +17,7 @@ import sys
 import tempfile
 
 sys.dont_write_bytecode = True
-from checks import Checks, built_program, bytes_of
+from checks import Checks, built_program, bytes_of, hint_of
 
 CALLS = "openat write pwrite64 rename renameat renameat2 unlink unlinkat ftruncate mkdir mkdirat link linkat fsync fdatasync fchmod".split()
 LOOSE = {"wlock", "store/lock"}
@@ -58,7 +58,7 @@ class World:
         command = [self.program, *words]
         if inject:
             command = ["strace", "-f", "-qq", "-o", self.trace, "-e", f"trace={','.join(calls)}", *inject, *command]
-        return subprocess.run(command, input=given, stdout=subprocess.PIPE, stderr=subprocess.DEVNULL, cwd=self.folder, check=False)
+        return subprocess.run(command, input=given, stdout=subprocess.PIPE, stderr=subprocess.PIPE, cwd=self.folder, check=False)
 
     def places(self, base, words, given):
         """Each call that the command makes over this folder, by its name and its number among those of the name."""
@@ -230,10 +230,10 @@ def failing(world, base, wanted):
 
 
 def commit_with(world, base, inject, calls=CALLS):
-    """The status of the second commit whose calls fail so, and what it writes."""
+    """The status of the second commit whose calls fail so, and what it writes; of one with another hint than its own, that."""
     world.lay(base)
     ended = world.run(["commit"], NEXT, inject, calls)
-    return ended.returncode, ended.stdout
+    return ended.returncode, ended.stdout if ended.stderr == hint_of(ended.returncode) else ended.stderr
 
 
 UNDONE = 16, b"abort: file operation failed\n"
@@ -317,4 +317,5 @@ def main():
     return checks.failed != 0
 
 
-sys.exit(main())
+if __name__ == "__main__":
+    sys.exit(main())

@@ -82,6 +82,16 @@ link_to_nowhere() { mkdir .hg && ln -s nowhere .hg/requires; }
 folder_as_bookmarks() { lay_store && rm -f .hg/bookmarks && mkdir .hg/bookmarks; }
 folder_as_roots() { lay_store && rm -f .hg/store/phaseroots && mkdir .hg/store/phaseroots; }
 locked_by_mercurial() { lay_store && ln -s box:77 .hg/wlock && ln -s box:77 .hg/store/lock; }
+left_journal() { lay_store && : >.hg/store/journal; }
+begun_by_mercurial() { lay_store && : >.hg/store/journal && : >.hg/store/journal.backupfiles; }
+link_as_lock() { lay_store && ln -s nowhere .hg/store/lock; }
+folder_as_lock() { lay_store && mkdir .hg/store/lock; }
+unlisted_file() { lay_store && sed -i '/file6.txt.i$/d' .hg/store/fncache; }
+large_body() {
+    "$program" init || return
+    { printf 'commit\nuser u\ndate 0 0\ndesc 0\n\nfile - 16777216 a\n' && head -c 16777216 /dev/zero && printf '\nend\n'; } | "$program" commit >/dev/null
+}
+file_in_the_way() { "$program" init && mkdir .hg/store/data && printf xyz >.hg/store/data/a.i; }
 second_link() { lay_store && ln .hg/store/00changelog.i other-clone.i && ln .hg/store/00changelog.d other-clone.d; }
 
 # Ways to run the program; each writes what the program says and returns its status.
@@ -104,6 +114,10 @@ first_line() { # the reader of standard output goes once it has one line
     "$program" "$@" </dev/null | head -n 1
     return "${PIPESTATUS[0]}"
 }
+no_input() { "$program" "$@" <&-; } # standard input is closed
+little_memory() { (ulimit -v 16000 && exec "$program" "$@" </dev/null); } # for less than a body of 16 MiB
+one_file() { printf '%s\n' commit 'user u' 'date 0 0' 'desc 1' t 'file - 1 a' x end | "$program" "$@"; }
+copied_over() { printf '%s\n' commit 'parent tip' 'user u' 'date 0 0' 'desc 1' t 'copyfrom src/d0/file0.txt' 'file - 1 src/d2/file2.txt' x end | "$program" "$@"; }
 not_text() { "$program" "$@" $'\xff' </dev/null; }
 
 # All names, kinds, modes, sizes and bytes of the current folder.
@@ -201,6 +215,28 @@ whole_store|not_text|28|abort: bad word 0|
 whole_store|not_text|28|abort: bad word 0|frobnicate
 whole_store|plain|28|abort: bad word 0|
 whole_store|plain|28|abort: bad word 1|log log
+whole_store|plain|12|abort: unknown revision|phase nowhere
+whole_store|plain|13|abort: nothing changed (0)|phase 0 public
+whole_store|plain|14|abort: bad input at 0|commit
+whole_store|no_input|18|abort: input failed|commit
+whole_store|plain|23|abort: unknown path|cat 0 nowhere
+whole_store|plain|25|abort: repository exists|init
+whole_store|plain|26|abort: phase of 0 needs --force|phase 0 secret
+whole_store|plain|33|abort: bad set at 1|revset (
+whole_store|plain|1|no interrupted transaction available|recover
+left_journal|plain|11|abort: abandoned transaction found|bookmark new 0
+begun_by_mercurial|plain|11|abort: abandoned transaction found|bookmark new 0
+begun_by_mercurial|plain|15|abort: damaged store/journal.backupfiles: journal 2 0|recover
+link_as_lock|plain|10|abort: lock held by nowhere|bookmark new 0
+folder_as_lock|plain|10|abort: lock held|bookmark new 0
+folder_as_lock|plain|1|leftover files remain|recover
+cut_data|plain|15|abort: damaged store/00changelog.i: revlog 14 16|bookmark new 0
+cut_data|one_file|15|abort: damaged store/00changelog.i: revlog 14 16|commit
+unlisted_file|plain|29|checked 16 changesets, 8 filelogs, 1 findings|verify
+large_body|little_memory|30|abort: out of memory|cat 0 a
+whole_store|copied_over|32|abort: copy over src/d2/file2.txt|commit
+file_in_the_way|one_file|34|abort: file in the way store/data/a.i|commit
 TABLE
+# 17 and the 16 of a command that writes have theirs in tests/stops.py; 21 and 22 take two texts with one SHA-1
 echo "$passed passed, $failed failed"
 [ "$failed" = 0 ] && [ "$passed" -gt 0 ]

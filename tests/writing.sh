@@ -328,6 +328,9 @@ check "a file where an inline filelog has none" beside_inline
 printf xyz >.hg/store/data/c.d
 separate() { printf 'commit\nuser u\ndate 0 0\ndesc 0\n\nfile - 4097 c\n%04097d\nend\n' 0 | "$program" commit; }
 check "a file where a separate filelog has its data" refused 34 "abort: file in the way store/data/c.d" separate
+printf xyz >.hg/store/data/d
+below_file() { printf 'commit\nuser u\ndate 0 0\ndesc 0\n\nfile - 1 d/a\nx\nend\n' | "$program" commit; }
+check "a file where a folder has to be" refused 16 "abort: file operation failed" below_file
 check "a repository is made once" refused 25 "abort: repository exists" "$program" init
 cd ..
 

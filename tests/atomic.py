@@ -1,0 +1,100 @@
+#!/usr/bin/env python3
+"""Runs docs/ATOMIC.md: makes the commit of its table, with the program killed before each call, and compares with the table what stands in
+the files, how many changesets a reader sees, and how many there are when recovered. Each call of the commit that changes a file has a row.
+
+Without strace, which is installed where that can be, all is skipped. The last line is 'N passed, M failed' or 'N passed, M failed, K skipped'.
+"""
+
+import os
+import re
+import sys
+import tempfile
+
+sys.dont_write_bytecode = True
+from checks import HERE, Checks, built_program
+from stops import World, answers, installed, stopped
+
+FIRST = b"commit\nuser Ada\ndate 0 0\ndesc 5\nfirst\nfile - 6 greeting\nhello\n\nend\n"
+SECOND = b"commit\nparent tip\nuser Ada\ndate 60 0\ndesc 6\nsecond\nfile - 6 greeting\nhello\n\nfile - 4 note\nok.\n\nend\n"
+CHANGE = r'^\d+ +(?:openat\(AT_FDCWD, "\.hg/([^"]*)", O_WRONLY.*|rename\("[^"]*", "\.hg/([^"]*)".*|unlink\("\.hg/([^"]*)".*) = \d+$'
+
+
+class Row:
+    """A call of the table: the file, its bytes before and behind it, and the changesets that are read then, and recovered."""
+
+    def __init__(self, cells):
+        self.call, self.path = cells[1], cells[2].strip("`")
+        self.before, self.after = (int(cell) if cell else None for cell in cells[3:5])
+        self.seen, self.recovered = int(cells[5]), int(cells[6])
+
+    def pattern(self):
+        path = re.escape(self.path)
+        if self.call == "remove":
+            return rf'^\d+ +unlink\("\.hg/{path}"'
+        if self.call.startswith("rename"):
+            return rf'^\d+ +rename\(.*"\.hg/{path}"'
+        return rf'^\d+ +openat\(AT_FDCWD, "\.hg/{path}", O_WRONLY'
+
+
+def read_document():
+    """The rows of the calls, the files before them, and the lines of the journal."""
+    with open(os.path.join(HERE, "../docs/ATOMIC.md"), encoding="utf-8") as document:
+        text = document.read()
+    rows = [Row([cell.strip() for cell in line[1:-1].split("|")]) for line in re.findall(r"^\| \d+ \|.*\|$", text, re.MULTILINE)]
+    stands = {}
+    for names, numbers in re.findall(r"^\| (`.*`) \| (\d+(?:, \d+)*) \|", text, re.MULTILINE):
+        stands.update(zip(re.findall(r"`([^`]*)`", names), map(int, numbers.split(", "))))
+    journal = re.findall(r"^    (\S+)\\0(\d+)$", text, re.MULTILINE)
+    return rows, stands, "".join(f"{path}\0{length}\n" for path, length in journal).encode()
+
+
+def length_of(world, path):
+    path = os.path.join(world.folder, ".hg", path)
+    return os.path.getsize(path) if os.path.lexists(path) else None
+
+
+def count(world):
+    status, lines = answers(world, ["log"])
+    return lines.count(b"\n") if status == 0 else None
+
+
+def try_row(checks, world, what, row):
+    """What stands behind the call of this row, where the program was killed then."""
+    checks.check(f"{what}: {row.path} has {length_of(world, row.path)} bytes", length_of(world, row.path) == row.after)
+    checks.check(f"{what}: a reader sees {row.seen}", count(world) == row.seen)
+    checks.check(f"{what}: recovers", answers(world, ["recover"])[0] in (0, 1))
+    checks.check(f"{what}: {row.recovered} are recovered", count(world) == row.recovered and not world.has_locks())
+
+
+def main():
+    if not installed():
+        print("0 passed, 0 failed, 1 skipped")
+        return 0
+    checks, (rows, stands, journal) = Checks(), read_document()
+    with tempfile.TemporaryDirectory() as work:
+        world = World(built_program(), work)
+        os.mkdir(world.folder)
+        world.run(["init"])
+        world.run(["commit"], FIRST)
+        base = world.save("base")
+        checks.check("the files before", stands and all(length_of(world, path) == length for path, length in stands.items()))
+        world.run(["commit"], SECOND, ["-e", "signal=none"])
+        with open(world.trace, encoding="utf-8", errors="replace") as trace:
+            changed = ["".join(found) for found in re.findall(CHANGE, trace.read(), re.MULTILINE)]
+        checks.check(f"each call has its row: {changed}", changed == [row.path for row in rows])
+        for number, row in enumerate(rows):
+            stopped(world, base, ["commit"], SECOND, row.pattern())
+            checks.check(f"before {number + 1}: {row.path}", length_of(world, row.path) == row.before)
+            if row.path == "store/data/note.i":
+                checks.check("the journal", world.state().get("store/journal") == journal)
+            if number:
+                try_row(checks, world, f"behind {number}", rows[number - 1])
+        world.lay(base)
+        checks.check("it is answered", answers(world, ["commit"], SECOND) == (0, b"1:e36fc1b742f444a46e257070ad1243a703e72d85\n"))
+        try_row(checks, world, "at its end", rows[-1])
+    print(checks)
+    return checks.failed != 0
+
+
+if __name__ == "__main__":
+    sys.exit(main())

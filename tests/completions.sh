@@ -1,0 +1,70 @@
+#!/usr/bin/env bash
+# What bash, zsh and fish complete, each asked in its own shell over a repository with a bookmark and a path with a space.
+# zsh and fish are installed where they are missing and can be, else their rows are skipped.
+# The last line is 'N passed, M failed', with the number skipped behind it.
+set -u
+here=$(cd "$(dirname "$0")" && pwd)
+"$here/../bin/hg_store" --build >/dev/null || exit 1
+PATH=$(cd "$here/../bin" && pwd):$PATH
+completions=$(cd "$here/../completions" && pwd)
+
+work=$(mktemp -d) || exit 1
+trap 'rm -rf "$work"' EXIT
+cd "$work" || exit 1
+. "$here/check.sh"
+skipped=0
+
+hg_store init && mkdir tree && echo a >tree/a && echo b >'tree/b c' || exit 1
+record -m text -u user -d '0 0' --bookmark marked tree | hg_store commit >/dev/null || exit 1
+
+with_shell() {
+    if ! command -v "$1" >/dev/null && [ "$(id -u)" = 0 ] && command -v apt-get >/dev/null; then
+        { apt-get update -qq && DEBIAN_FRONTEND=noninteractive apt-get install -y -qq "$1"; } >/dev/null 2>&1
+    fi
+    command -v "$1" >/dev/null
+}
+
+# Each prints what may stand behind these words, one a line.
+in_bash() {
+    bash -c '. "$0/hg_store.bash"; COMP_WORDS=(hg_store "$@" ""); COMP_CWORD=$(($# + 1)); _hg_store; printf "%s\n" "${COMPREPLY[@]}"' "$completions" "$@"
+}
+in_zsh() {
+    zsh -f -c 'compadd() { print -rl -- "${(@P)2}"; }; words=(hg_store "$@" ""); CURRENT=$#words; . $0/_hg_store' "$completions" "$@"
+}
+in_fish() {
+    fish --no-config -c 'source $argv[1]/hg_store.fish; complete -C "hg_store $argv[2..] " | string replace -r "\t.*" ""' "$completions" "$@"
+}
+
+commands='--help --version bookmark bookmarks cat commit files gen heads init log parents phase play recover revset session verify'
+
+offers() { # SHELL EXPECTED WORD..
+    local shell=$1 expected=$2
+    shift 2
+    # bash quotes a path for the line itself
+    diff <(printf '%s\n' "$expected") <("in_$shell" "$@" | sed 's/\\ / /g' | sort | paste -sd '|')
+}
+
+for shell in bash zsh fish; do
+    # fish offers no word that begins with a dot before one is typed
+    first='.|' && [ "$shell" != fish ] || first=
+    if ! with_shell "$shell"; then
+        skipped=$((skipped + 7))
+        continue
+    fi
+    check "$shell: commands" offers "$shell" "${commands// /|}"
+    check "$shell: a revision" offers "$shell" "${first}marked|tip" files
+    check "$shell: a revision, or --force" offers "$shell" "--force|${first}marked|tip" phase
+    check "$shell: a phase" offers "$shell" 'draft|public|secret' phase tip
+    check "$shell: a phase behind --force" offers "$shell" 'draft|public|secret' phase --force tip
+    check "$shell: a path" offers "$shell" 'a|b c' cat tip
+    check "$shell: a bookmark to delete" offers "$shell" 'marked' bookmark --delete
+done
+
+if command -v zsh >/dev/null; then
+    check "zsh: its completion is found" zsh -f -c 'fpath=($0 $fpath); autoload -Uz compinit && compinit -D -u && [[ $_comps[hg_store] == _hg_store ]]' "$completions"
+else
+    skipped=$((skipped + 1))
+fi
+
+echo "$passed passed, $failed failed, $skipped skipped"
+[ "$failed" = 0 ]
