@@ -1,8 +1,9 @@
 #!/usr/bin/env python3
 """Every command where the system gives little: address space, length of files, open files, a full disk, a disk without room for a
-further name, and standard streams that are closed, full, no stream, or whose other end has gone.
+further name, standard streams that are closed, full, no stream, or whose other end has gone; and, with --growths, alone, every command with
+one allocation refused: the first, the second and so on, until a run asks for fewer.
 
-    tests/limits.py
+    tests/limits.py [--growths]
 
 Each command runs over a copy of one small repository, or of the same with a transaction that was left open, or over nothing. It must
 end with a status of docs/ANSWERS.md and the line of that status; a question changes no file; a refused command leaves what stood
@@ -13,6 +14,7 @@ file, nothing is asked of the status; these are counted apart. The last line is 
 
 import collections
 import concurrent.futures
+import itertools
 import os
 import re
 import shutil
@@ -22,15 +24,17 @@ import tempfile
 import threading
 
 sys.dont_write_bytecode = True
-from checks import Checks, built_program, bytes_of, lay
+from checks import Checks, built_program, built_shim, bytes_of, lay
 
 WORKERS = 4
 REFUSALS = {
     1: rb"no interrupted transaction available",
+    10: rb"abort: lock held by hg-store",
     15: rb"abort: damaged .*",
     16: rb"abort: file operation failed",
     17: rb"abort: (transaction unfinished \(published (yes|no|unknown)\)|recovery unfinished)",
     18: rb"abort: input failed",
+    29: rb"findings [0-9]+",
     30: rb"abort: out of memory",
 }
 LEFT_OVER = b"leftover files remain"
@@ -214,7 +218,7 @@ class Trial:
         return any(self.limit.run(self.world.program, ["--version"], b"", self.folder)[0] != 0 for _ in range(3))
 
     def look_at_answer(self, status, said, told, left):
-        self.check(f"status {status} {said} {told}", status in (self.status_wanted, 0, 16, 17, 18, 19, 30))
+        self.check(f"status {status} {said} {told}", status in (self.status_wanted, 0, 16, 17, 18, 19, 30) or self.is_held_by_itself(status, said))
         lines = said.splitlines()
         last = lines[-1] if lines else b""
         if status == self.status_wanted:
@@ -231,6 +235,10 @@ class Trial:
             self.check(f"{status}, and changes files: {differing(left, self.before)}", left == self.before or self.name == "gen")
         if status != 15 and LEFT_OVER not in said and not (self.name == "recover" and status != self.status_wanted):
             self.check(f"{status}, and leaves a lock", not any(lock in left for lock in LOCKS) and not self.has_lock())
+
+    def is_held_by_itself(self, status, said):
+        """A commit of `gen` left its lock over, which the next one met, or another file, which its report has."""
+        return status in (10, 29) and self.name == "gen" and LEFT_OVER in said
 
     def has_lock(self):
         return any(os.path.lexists(os.path.join(self.folder, ".hg", lock)) for lock in LOCKS)
@@ -369,14 +377,59 @@ def try_disks(world):
         subprocess.run(["umount", disk.place], check=False)
 
 
+# ---- one refused allocation
+
+
+class Refusal(Limit):
+    """So many allocations, of which the last is refused."""
+
+    def __init__(self, shim, number):
+        super().__init__(f"refusal {number}", f"exec env LD_PRELOAD={shim} FAIL_ALLOCATION={number} ")
+        self.is_met = True
+
+    def run(self, program, words, given, folder):
+        status, said, told = super().run(program, words, given, folder)
+        self.is_met = b"refused" in told
+        return status, said, told
+
+
+class RefusedTrial(Trial):
+    def look_at_answer(self, status, said, told, left):
+        super().look_at_answer(status, said, told, left)
+        self.check(f"answers {status}", status in (self.status_wanted, 17, 30) or LEFT_OVER in said)
+        if status == 30 and self.name not in ("gen", "recover"):
+            # done, where there was no memory for its line; of `init` its new text may be left, which `recover` removes
+            kept = {path: data for path, data in left.items() if self.name != "init" or path != "journal.new.requires"}
+            self.check(f"30, and changes files: {differing(left, self.before)}", kept in (self.before, self.after))
+            self.world.count("30, and as before" if kept == self.before else "30, and done, with no memory for the line")
+
+
+def try_refusals(world, name, shim):
+    """One command with each of its allocations refused in turn, and once with none."""
+    for number in itertools.count(1):
+        limit = Refusal(shim, number)
+        folder = tempfile.mkdtemp(dir=world.work)
+        shutil.copytree(world.bases[ALL[name][2]], folder, dirs_exist_ok=True)
+        RefusedTrial(world, name, limit, folder).run()
+        shutil.rmtree(folder)
+        if not limit.is_met:
+            return
+
+
+def trials(world, pool, growths):
+    if growths:
+        shim = built_shim(world.work)
+        return [pool.submit(try_refusals, world, name, shim) for name in ALL]
+    world.limits = list(process_limits(world))
+    return [*(pool.submit(try_limits, world, name) for name in ALL), pool.submit(try_disks, world)]
+
+
 def main():
     program = built_program()
     with tempfile.TemporaryDirectory() as work:
         world = World(program, work)
-        world.limits = list(process_limits(world))
         with concurrent.futures.ThreadPoolExecutor(WORKERS) as pool:
-            tried = [pool.submit(try_limits, world, name) for name in ALL]
-            tried.append(pool.submit(try_disks, world))
+            tried = trials(world, pool, "--growths" in sys.argv[1:])
             for one in tried:
                 one.result()
         for what, count in sorted(world.counts.items()):
