@@ -1,16 +1,19 @@
 #!/usr/bin/env python3
 """Checks functions of a crate soon after a change far below it: libraries that are not built since they changed, and all that stand on
-those, are taken as sources, which are read and not proved. Half a minute in place of the proofs of a whole chain; no verdict rests on it.
+those, are taken as sources, which are read and not proved. Minutes in place of the proofs of a whole chain; no verdict rests on it.
+What was read and checked is kept for the next time, outside the repository, which then takes half a minute.
 
     tools/check_over_sources.py CRATE [FLAG..]
 
 The flags are those of `rattle check`; `--only MODULE::FUNCTION` names what to check.
 """
 
+import hashlib
 import os
 import pathlib
 import subprocess
 import sys
+import tempfile
 
 TOP = pathlib.Path(__file__).resolve().parent.parent
 KIT = pathlib.Path("/opt/rattle")
@@ -59,12 +62,20 @@ def words_of(table, crate):
     return [*words, "--antt-project", f"{KIT}/rattle/logic/antt-project.json", "--logic-built", f"{KIT}/logic_built"]
 
 
+def kept_of(crate):
+    """Where what was checked of this crate of this tree is kept."""
+    name = hashlib.sha256(os.fsencode(TOP)).hexdigest()[:12]
+    folder = pathlib.Path(tempfile.gettempdir()) / f"hg_store-over-sources-{name}" / crate
+    folder.mkdir(parents=True, exist_ok=True)
+    return str(folder)
+
+
 def main():
     table, words = read_table(), sys.argv[1:]
     if not words or words[0] not in table:
         sys.exit(__doc__)
     crate, flags = words[0], words[1:]
-    command = [str(KIT / "bin/rattle"), "check", *words_of(table, crate), *flags]
+    command = [str(KIT / "bin/rattle"), "check", *words_of(table, crate), "--incremental", kept_of(crate), *flags]
     return subprocess.call(command, cwd=TOP / "crates" / crate)
 
 

@@ -87,7 +87,7 @@ def rows_of_table():
     """The minutes of each crate in CONTRIBUTING.md, by kind."""
     rows = {}
     for line in TABLE.read_text().splitlines():
-        cells = re.fullmatch(r"\| `(\w+)` \| ([\d.]*) \| ([\d.]*) \| ([\d.]*) \|", line)
+        cells = re.fullmatch(r"\| `(\w+)` \| ?([\d.]*) \| ?([\d.]*) \| ?([\d.]*) \|", line)
         if cells:
             rows[cells[1]] = [float(cell or 0) for cell in cells.groups()[1:]]
     return rows
