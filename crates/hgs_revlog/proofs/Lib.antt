@@ -1,7 +1,9 @@
 pub mod ApartLemmas
 pub mod EntriesLemmas
+pub mod FittingLemmas
 pub mod FormLemmas
 pub mod LoadedLemmas
 pub mod SpanLemmas
 pub mod PlaceFrontLemmas
+pub mod PlacesLemmas
 pub mod PutLemmas

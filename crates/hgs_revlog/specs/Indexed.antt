@@ -1,12 +1,10 @@
 -- What a revlog keeps beside its entries.
 use Rattle.std.specs.Prelude.{◌≡◌, ℕ, ◌≤◌, List, length, Some, slice_get}
-use Rattle.std.specs.Cmp.Lexicographic.{slice_cmp}
-use Rattle.std.specs.Ordering.{nat_cmp}
-use Rattle.std.specs.BTreeMap.{get}
 use Rattle.hgs_index.specs.declared.entry.Entry.{Entry}
 use Rattle.hgs_revlog.specs.declared.revlog.Revlog.TheInside.{Inside}
 use Rattle.hgs_revlog.specs.Log.{place_of, stored_sum}
 use Rattle.hgs_revlog.specs.Load.{most_revisions, most_data}
+use Rattle.hgs_revlog.specs.Places.{place_in}
 
 -- no more revisions and data than the limits allow, no offset past them, the end of the data, and each node's revision
 pub record IsIndexed (a : Inside) : Type 0 where
@@ -14,4 +12,4 @@ pub record IsIndexed (a : Inside) : Type 0 where
   pub sum : a.end ≡ stored_sum a.entries.items
   pub short : a.end ≤ most_data
   pub low : (rev : ℕ) (e : Entry) → slice_get a.entries.items rev ≡ Some e → e.offset ≤ most_data
-  pub places : (node : List ℕ) → get (slice_cmp nat_cmp) a.revs node ≡ place_of a.entries.items node
+  pub places : (node : List ℕ) → place_in a.places node ≡ place_of a.entries.items node

@@ -5,5 +5,7 @@ pub mod Indexed
 pub mod Load
 pub mod Loaded
 pub mod Log
+pub mod Numbered
+pub mod Places
 pub mod Text
 pub mod Theorems

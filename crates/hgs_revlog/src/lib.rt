@@ -6,4 +6,5 @@
 pub mod add;
 pub mod fault;
 pub mod laws;
+mod places;
 pub mod revlog;

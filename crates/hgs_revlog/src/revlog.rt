@@ -1,8 +1,5 @@
 //! A loaded index.
-ghost use Rattle.std.specs.Prelude.{◌≡◌, ◌<◌, ◌≤◌, ◌/◌, true, false, not, ℕ, List, [], length, slice_get, Some, None, IfSome, IfOk, IfErr, IsOk, OnOk, OnErr};
-ghost use Rattle.std.specs.BTreeMap.{get, Updates};
-ghost use Rattle.std.specs.Cmp.Lexicographic.{slice_cmp};
-ghost use Rattle.std.specs.Ordering.{nat_cmp};
+ghost use Rattle.std.specs.Prelude.{◌≡◌, ◌+◌, ◌<◌, ◌≤◌, ◌/◌, true, false, not, [], length, slice_get, Some, None, Ok, IfSome, IfOk, IfErr, IsOk, OnOk, OnErr};
 ghost use Rattle.std.specs.Option.{option_map};
 ghost use Rattle.std.specs.Result.{result_map_both};
 ghost use Rattle.hgs_bytes.specs.Answer.{Gives};
@@ -12,17 +9,18 @@ ghost use Rattle.hgs_index.specs.Revision.{parent_node};
 ghost use Rattle.hgs_index.specs.Revlog.{chunk_text};
 ghost use Rattle.hgs_revlog.specs.declared.fault.RevFault.TheVariants.{Memory};
 ghost use Rattle.hgs_revlog.specs.Fault.{is_memory};
-ghost use Rattle.hgs_revlog.specs.Log.{place_of, nodes_of, new_header, stored_sum, with_entry};
+ghost use Rattle.hgs_revlog.specs.Loaded.{HaveOwnNodes};
+ghost use Rattle.hgs_revlog.specs.Log.{Log, place_of, nodes_of, new_header, stored_sum, with_entry};
 ghost use Rattle.hgs_revlog.specs.Load.{loaded, load_from, loaded_either, cell_of, separate_at, is_taken, entry_behind, fault_of, is_above, ends_at, at_end, most_data, most_revisions, pushed};
 ghost use Rattle.hgs_revlog.specs.Text.{span_in, span_of, node_with, text_of};
 
 use crate::fault::{RevFault, Tail};
+use crate::places::Places;
 use hgs_index::entry::{Entry, EntryFault, Header, decode};
 use hgs_index::inline::{is_inline, whole_item, without_inline};
 use hgs_index::kinds::{Span, Which};
 use hgs_index::node::{Node, node_of};
 use std::alloc::{AllocError, Global};
-use std::collections::BTreeMap;
 use std::marker::Model;
 
 pub(crate) const MOST_REVISIONS: u32 = 1_000_000;
@@ -37,7 +35,7 @@ pub struct Revlog {
     inline: bool,
     entries: Vec<Entry>,
     /// The revision of each node.
-    revs: BTreeMap<[u8; 20], u32>,
+    places: Places,
     /// Where the next chunk begins: the sum of the stored lengths.
     end: u64,
 }
@@ -73,21 +71,99 @@ fn ends(tail: &Tail, entry: &Entry) -> bool
     }
 }
 
-// Gives a node its revision and answers true, or answers false where it has one, which it keeps.
-fn put_fresh(revs: &mut BTreeMap<[u8; 20], u32>, node: [u8; 20], rev: u32) -> Result<bool, RevFault>
-    ensures fresh { result ≡ Ok true → get (slice_cmp nat_cmp) revs.old node ≡ None }
-    ensures put { result ≡ Ok true → Updates (slice_cmp nat_cmp) revs.old revs.new node (Some rev) }
-    ensures kept { result ≡ Ok false → (q : List ℕ) → get (slice_cmp nat_cmp) revs.new q ≡ get (slice_cmp nat_cmp) revs.old q }
-    ensures denied { OnErr result ((q : List ℕ) → get (slice_cmp nat_cmp) revs.new q ≡ get (slice_cmp nat_cmp) revs.old q) }
-    ensures err { IfErr result (λ fault. fault ≡ Memory) }
+// Whether an entry has no fault behind others, whose chunks end here, where none of them has its node.
+fn fits(before: &[Entry], end: u64, entry: &Entry) -> bool
+    requires few { length before.now < most_revisions }
+    requires sum { end ≡ stored_sum before.now }
+    requires short { end ≤ most_data }
+    ensures faultless { result ≡ true → place_of before.now entry.now.node.0 ≡ None → fault_of before.now entry.now ≡ None }
+    ensures short { result ≡ true → end + entry.now.stored ≤ most_data }
 {
-    match revs.insert(node, rev)? {
-        None => Ok(true),
-        Some(before) => {
-            revs.insert(node, before)?;
-            Ok(false)
-        }
+    let rev = before.len() as u32;
+    if entry.offset != end || entry.size > MOST_TEXT {
+        return false;
     }
+    if above(rev, entry.p1) || above(rev, entry.p2) || Node([0; 20]) == entry.node {
+        return false;
+    }
+    end + entry.stored as u64 <= MOST_DATA
+}
+
+// The entry that these bytes are behind others, where all is right with it but that one of them may have its node.
+fn fitting_entry(before: &[Entry], end: u64, bytes: &[u8; 64]) -> Option<Entry>
+    requires sum { end ≡ stored_sum before.now }
+    requires short { end ≤ most_data }
+    ensures few { IfSome result (λ entry. length before.now < most_revisions) }
+    ensures behind { IfSome result (λ entry. place_of before.now entry.node.0 ≡ None → entry_behind before.now bytes.now ≡ Ok entry) }
+    ensures short { IfSome result (λ entry. end + entry.stored ≤ most_data) }
+{
+    if before.len() >= MOST_REVISIONS as usize {
+        return None;
+    }
+    match separate_entry(bytes, before.len() as u32) {
+        Ok(entry) => {
+            if fits(before, end, &entry) {
+                Some(entry)
+            } else {
+                None
+            }
+        }
+        Err(_) => None,
+    }
+}
+
+/// Entries, and where their chunks end.
+#[derive(Drop)]
+struct Fitting {
+    entries: Vec<Entry>,
+    end: u64,
+}
+
+// The entries that an index has up to where its tail is, where all is right with each but that two may have one node.
+fn fitting_entries(alloc: Global, index: &[u8], tail: Tail) -> Result<Option<Fitting>, AllocError>
+    ensures few { IfOk result (λ found. IfSome found (λ fitting. length fitting.entries.items ≤ most_revisions)) }
+    ensures sum { IfOk result (λ found. IfSome found (λ fitting. fitting.end ≡ stored_sum fitting.entries.items)) }
+    ensures loads { IfOk result (λ found. IfSome found (λ fitting. HaveOwnNodes fitting.entries.items → loaded tail index.now ≡ Ok (record { inline = false; entries = fitting.entries.items }))) }
+{
+    let mut entries = Vec::with_capacity(alloc, index.len() / 64)?;
+    let mut end = 0;
+    let mut rest = index;
+    while let Some((bytes, behind)) = rest.split_first_chunk::<64>() {
+        let Some(entry) = fitting_entry(&entries, end, bytes) else {
+            return Ok(None);
+        };
+        entries.push(entry)?;
+        end += entry.stored as u64;
+        if ends(&tail, &entry) {
+            return Ok(Some(Fitting { entries, end }));
+        }
+        rest = behind;
+    }
+    if is_end(tail, rest) {
+        Ok(Some(Fitting { entries, end }))
+    } else {
+        Ok(None)
+    }
+}
+
+// Whether an index may end with these bytes, which are no whole entry.
+fn is_end(tail: Tail, rest: &[u8]) -> bool
+    ensures { (log : Log) → result ≡ true → at_end tail log rest.now ≡ Ok log }
+{
+    match tail {
+        Tail::Ignore => true,
+        Tail::Refuse => rest.is_empty(),
+        Tail::Until(_) => false,
+    }
+}
+
+// The same entries once more.
+fn copy_of(alloc: Global, entries: &[Entry]) -> Result<Vec<Entry>, AllocError>
+    ensures { IfOk result (λ copy. copy.items ≡ entries.now) }
+{
+    let mut copy = Vec::new(alloc);
+    copy.extend_from_slice(entries)?;
+    Ok(copy)
 }
 
 impl Revlog {
@@ -98,19 +174,42 @@ impl Revlog {
         Revlog {
             inline,
             entries: Vec::new(alloc),
-            revs: BTreeMap::new(alloc),
+            places: Places::new(alloc),
             end: 0,
         }
     }
 
     /// The revlog of a separate index, or its first fault in the order of revisions.
     ///
-    /// An inline one is refused for its header. The index is not copied. The time is that of a search among the nodes for
-    /// each entry.
+    /// An inline one is refused for its header. The index is not copied. The time is that of sorting the nodes; an index with a
+    /// fault is read twice.
     pub fn load(alloc: Global, index: &[u8], tail: Tail) -> Result<Revlog, RevFault>
         ensures { Gives is_memory (λ log. log) result (loaded tail index.now) }
     {
-        Revlog::empty(alloc, false).load_on(index, tail)
+        match Revlog::load_faultless(alloc, index, tail) {
+            Ok(Some(log)) => Ok(log),
+            Ok(None) => Revlog::empty(alloc, false).load_on(index, tail),
+            Err(_) => Err(RevFault::Memory),
+        }
+    }
+
+    // The revlog of a separate index without fault.
+    fn load_faultless(alloc: Global, index: &[u8], tail: Tail) -> Result<Option<Revlog>, AllocError>
+        ensures { IfOk result (λ found. IfSome found (λ log. loaded tail index.now ≡ Ok log)) }
+    {
+        let Some(fitting) = fitting_entries(alloc, index, tail)? else {
+            return Ok(None);
+        };
+        let Some(places) = Places::of(alloc, &fitting.entries)? else {
+            return Ok(None);
+        };
+        let Fitting { entries, end } = fitting;
+        Ok(Some(Revlog {
+            inline: false,
+            entries,
+            places,
+            end,
+        }))
     }
 
     /// The revlog with the entries of these bytes behind its own, or their first fault. The bytes are those of a separate
@@ -214,8 +313,8 @@ impl Revlog {
     {
         let rev = self.entries.len() as u32;
         self.entries.push(entry)?;
-        match self.revs.insert(entry.node.0, rev) {
-            Ok(_) => {
+        match self.places.put(entry.node.0, rev) {
+            Ok(()) => {
                 self.end += entry.stored as u64;
                 Ok(())
             }
@@ -226,97 +325,15 @@ impl Revlog {
         }
     }
 
-    // Takes the entry that these bytes are as the next one, or answers its first fault. One without fault costs one search
-    // among the nodes.
+    // Takes the entry that these bytes are as the next one, or answers its first fault.
     fn take_entry(&mut self, bytes: &[u8; 64]) -> Result<Entry, RevFault>
         ensures answer { Gives is_memory (λ entry. entry) result (entry_behind self.old.entries bytes.now) }
         ensures taken { IfOk result (λ entry. self.new ≡ with_entry self.old entry) }
     {
-        match self.take_fitting(bytes)? {
-            Some(entry) => Ok(entry),
-            None => {
-                let entry = self.next_entry(bytes)?;
-                match self.append(entry) {
-                    Ok(()) => Ok(entry),
-                    Err(fault) => Err(fault),
-                }
-            }
-        }
-    }
-
-    // Takes the entry that these bytes are as the next one, or answers none where it has a fault.
-    fn take_fitting(&mut self, bytes: &[u8; 64]) -> Result<Option<Entry>, RevFault>
-        ensures behind { IfOk result (λ fitting. IfSome fitting (λ entry. entry_behind self.old.entries bytes.now ≡ Ok entry)) }
-        ensures taken { IfOk result (λ fitting. IfSome fitting (λ entry. self.new ≡ with_entry self.old entry)) }
-        ensures kept { result ≡ Ok None → self.new ≡ self.old }
-        ensures err { IfErr result (λ fault. fault ≡ Memory) }
-    {
-        match self.fitting_entry(bytes) {
-            Some(entry) => {
-                if self.append_fresh(entry)? {
-                    Ok(Some(entry))
-                } else {
-                    Ok(None)
-                }
-            }
-            None => Ok(None),
-        }
-    }
-
-    // The entry that these bytes are as the next one, where all is right with it but that a revision may have its node.
-    fn fitting_entry(&self, bytes: &[u8; 64]) -> Option<Entry>
-        ensures few { IfSome result (λ entry. length self.now.entries < most_revisions) }
-        ensures faultless { IfSome result (λ entry. place_of self.now.entries entry.node.0 ≡ None → fault_of self.now.entries entry ≡ None) }
-        ensures behind { IfSome result (λ entry. place_of self.now.entries entry.node.0 ≡ None → entry_behind self.now.entries bytes.now ≡ Ok entry) }
-    {
-        let rev = self.len();
-        if rev >= MOST_REVISIONS {
-            return None;
-        }
-        match separate_entry(bytes, rev) {
-            Ok(entry) => { if self.fits(&entry) { Some(entry) } else { None } }
-            Err(_) => None,
-        }
-    }
-
-    // Whether an entry has no fault as the next one where no revision has its node.
-    fn fits(&self, entry: &Entry) -> bool
-        ensures { result ≡ true → place_of self.now.entries entry.now.node.0 ≡ None → fault_of self.now.entries entry.now ≡ None }
-    {
-        let rev = self.len();
-        if entry.offset != self.end || entry.size > MOST_TEXT {
-            return false;
-        }
-        if above(rev, entry.p1) || above(rev, entry.p2) || Node([0; 20]) == entry.node {
-            return false;
-        }
-        entry.offset + entry.stored as u64 <= MOST_DATA
-    }
-
-    // Takes an entry as the next one and answers true, or answers false where a revision has its node. Changes nothing else.
-    fn append_fresh(&mut self, entry: Entry) -> Result<bool, RevFault>
-        requires few { length self.old.entries < most_revisions }
-        requires faultless { place_of self.old.entries entry.node.0 ≡ None → fault_of self.old.entries entry ≡ None }
-        ensures fresh { result ≡ Ok true → place_of self.old.entries entry.node.0 ≡ None }
-        ensures taken { result ≡ Ok true → self.new ≡ with_entry self.old entry }
-        ensures kept { result ≡ Ok false → self.new ≡ self.old }
-        ensures err { IfErr result (λ fault. fault ≡ Memory) }
-    {
-        let rev = self.entries.len() as u32;
-        self.entries.push(entry)?;
-        match put_fresh(&mut self.revs, entry.node.0, rev) {
-            Ok(true) => {
-                self.end += entry.stored as u64;
-                Ok(true)
-            }
-            Ok(false) => {
-                self.entries.pop();
-                Ok(false)
-            }
-            Err(_) => {
-                self.entries.pop();
-                Err(RevFault::Memory)
-            }
+        let entry = self.next_entry(bytes)?;
+        match self.append(entry) {
+            Ok(()) => Ok(entry),
+            Err(fault) => Err(fault),
         }
     }
 
@@ -326,8 +343,8 @@ impl Revlog {
     {
         Ok(Revlog {
             inline: self.inline,
-            entries: self.entries.clone()?,
-            revs: self.revs.clone()?,
+            entries: copy_of(self.allocator(), &self.entries)?,
+            places: self.places.copy()?,
             end: self.end,
         })
     }
@@ -363,7 +380,7 @@ impl Revlog {
     pub fn rev_of(&self, node: &Node) -> Option<u32>
         ensures { result ≡ place_of self.now.entries node.now.0 }
     {
-        self.revs.get(&node.0).copied()
+        self.places.get(&node.0)
     }
 
     /// Whether the chunks stand in the index, each behind its entry.

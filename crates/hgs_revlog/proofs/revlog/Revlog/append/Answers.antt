@@ -1,16 +1,22 @@
 use Rattle.std.proofs.Common.{◌≡◌, ◌<◌, ◌≤◌, ◌+◌, ◌-◌, ◌++◌, ◌∷◌, [], None, Some, cond, length, take, refl, arith, rules, sym, ◌∙◌, ap, subst}
 use Rattle.std.specs.Prelude.{slice_get}
 use Rattle.std.specs.Ordering.{nat_cmp}
-use Rattle.std.specs.Map.{lookup}
-use Rattle.std.specs.BTreeMap.{get, is_at}
+use Rattle.std.specs.BTreeMap.{is_at}
 use Rattle.std.specs.Cmp.Lexicographic.{slice_cmp}
 use Rattle.std.proofs.lemmas.List.{length_push, take_at}
 use Rattle.hgs_revlog.specs.Log.{place_of, stored_sum}
 use Rattle.hgs_revlog.specs.Load.{fault_of, most_revisions}
+use Rattle.hgs_revlog.specs.Places.{place_in}
 use Rattle.hgs_revlog.specs.Theorems.LogLemmas.{place_push, sum_push}
 use Rattle.hgs_revlog.specs.Theorems.LoadLemmas.{faultless}
 use Rattle.hgs_revlog.proofs.LoadedLemmas.{low-push}
 use Rattle.hgs_revlog.proofs.revlog.Revlog.append.Goals as goal
+
+pub put-requires : goal.put-requires
+put-requires c =
+    let entry = c.args.entry in
+    let was : c.args.self.now.entries ≡ c.self.inside.entries.items = ap (λ log. log.entries) (sym c.self.view_is) in
+    c.self.invariant.places entry.node.0 ∙ ap (λ es. place_of es entry.node.0) (sym was) ∙ (faultless c.args.self.now.entries entry c.requires.faultless).fresh
 
 pub invariant_of-self-in-Ok : goal.invariant_of-self-in-Ok
 invariant_of-self-in-Ok c =
@@ -26,7 +32,7 @@ invariant_of-self-in-Ok c =
       sum = ap (λ n. n + entry.stored) c.self.invariant.sum ∙ sym (sum_push old entry) ∙ ap stored_sum (sym items);
       short = (let offset = fine.offset in let fits = fine.data_end in let sum = c.self.invariant.sum in omega (arith, offset, fits, sum));
       low = low-push old c.push.new.self.items entry items c.self.invariant.low (let offset = fine.offset in let sum = c.self.invariant.sum in let short = c.self.invariant.short in omega (arith, offset, sum, short));
-      places = λ q. place_push old entry (get (slice_cmp nat_cmp) c.self.inside.revs) (get (slice_cmp nat_cmp) c.insert.new.self) c.self.invariant.places fine.fresh (λ r. c.in-Ok.ensures.updates.0 r ∙ ap (λ n. cond (is_at (slice_cmp nat_cmp entry.node.0) r) (Some n) (get (slice_cmp nat_cmp) c.self.inside.revs r)) (search rules)) q ∙ ap (λ es. place_of es q) (sym items);
+      places = λ q. place_push old entry (place_in c.self.inside.places) (place_in c.put.new.self) c.self.invariant.places fine.fresh (λ r. c.in-Ok.ensures.ok r ∙ ap (λ n. cond (is_at (slice_cmp nat_cmp entry.node.0) r) (Some n) (place_in c.self.inside.places r)) (search rules)) q ∙ ap (λ es. place_of es q) (sym items);
     }
 
 pub invariant_of-self-in-Err : goal.invariant_of-self-in-Err
@@ -41,5 +47,5 @@ invariant_of-self-in-Err c =
       sum = c.self.invariant.sum ∙ ap stored_sum (sym back);
       short = c.self.invariant.short;
       low = λ rev e there. c.self.invariant.low rev e (ap (λ es. slice_get es rev) (sym back) ∙ there);
-      places = λ q. ap (lookup (is_at (slice_cmp nat_cmp q))) c.in-Err.ensures.err ∙ c.self.invariant.places q ∙ ap (λ es. place_of es q) (sym back);
+      places = λ q. c.in-Err.ensures.kept q ∙ c.self.invariant.places q ∙ ap (λ es. place_of es q) (sym back);
     }
