@@ -4,7 +4,7 @@
 _hg_store_words() {
     local command=${COMP_WORDS[1]} place=$COMP_CWORD
     if [ "$place" = 1 ]; then
-        printf '%s\n' log heads files cat bookmarks parents phase revset init commit bookmark verify gen recover play session --help --version
+        printf '%s\n' log heads files cat bookmarks parents phase revset branches init commit bookmark verify gen recover play session --help --version
         return
     fi
     [[ $command = phase && ${COMP_WORDS[2]} = --force && $place -gt 2 ]] && place=$((place - 1))
@@ -21,6 +21,7 @@ _hg_store_words() {
         HG_STORE_BUILD=no "${COMP_WORDS[0]}" bookmarks 2>/dev/null | cut -f 1
         ;;
     verify.2) echo --jobs ;;
+    branches.2) echo --steps ;;
     cat.3) HG_STORE_BUILD=no "${COMP_WORDS[0]}" files "${COMP_WORDS[2]}" 2>/dev/null | cut -d ' ' -f 3- ;;
     esac
 }

@@ -11,7 +11,7 @@ function __hg_store_words
     set -l place (count $words)
     set -l shown $place
     if test $place = 1
-        printf '%s\n' log heads files cat bookmarks parents phase revset init commit bookmark verify gen recover play session --help --version
+        printf '%s\n' log heads files cat bookmarks parents phase revset branches init commit bookmark verify gen recover play session --help --version
         return
     end
     if test "$command $words[3]" = 'phase --force'
@@ -32,6 +32,8 @@ function __hg_store_words
             __hg_store_bookmarks $words[1]
         case verify.2
             echo -- --jobs
+        case branches.2
+            echo -- --steps
         case cat.3
             HG_STORE_BUILD=no $words[1] files $words[3] 2>/dev/null | cut -d ' ' -f 3-
     end

@@ -22,15 +22,16 @@ sys.dont_write_bytecode = True
 from checks import Checks, built_program
 
 READERS = 8
-QUESTIONS = ["log", "bookmarks", "phase", "files", "cat"]
+QUESTIONS = ["log", "bookmarks", "phase", "branches", "files", "cat"]
+WORDS = {"phase": ["phase", "0"], "branches": ["branches", "--steps", "2"]}
 
 
 def record(number):
-    """The commit of this number: a file that it changes, one that grows, one that stays, and one with a data file."""
+    """The commit of this number, on one of three branches: a file that it changes, one that grows, one that stays, and one with a data file."""
     files = {b"changed": b"%d\n" % number, b"grows": b"line\n" * number, b"stays": b"s\n", b"large": b"%d\n" % number + b"l" * 4096}
     bodies = b"".join(b"file - %d %s\n%s\n" % (len(body), path, body) for path, body in sorted(files.items()))
     parent = b"parent tip\n" if number else b""
-    return b"commit\n" + parent + b"user u\ndate %d 0\ndesc 1\nc\n" % number + bodies + b"end\n"
+    return b"commit\n" + parent + b"user u\ndate %d 0\nbranch b%d\ndesc 1\nc\n" % (number, number % 3) + bodies + b"end\n"
 
 
 class Yard:
@@ -45,8 +46,8 @@ class Yard:
         return subprocess.run([self.program, *words], input=given, stdout=subprocess.PIPE, stderr=subprocess.PIPE, cwd=self.folder, check=False)
 
     def look(self):
-        """The answers of the repository at rest: the log, the bookmarks, and the phase of the first changeset."""
-        return {name: self.run(words).stdout for name, words in (("log", ["log"]), ("bookmarks", ["bookmarks"]), ("phase", ["phase", "0"]))}
+        """The answers of the repository at rest: the log, the bookmarks, the phase of the first changeset, and the heads of branches."""
+        return {name: self.run(words).stdout for name, words in (("log", ["log"]), ("bookmarks", ["bookmarks"]), ("phase", ["phase", "0"]), ("branches", ["branches"]))}
 
     def note(self):
         state = self.look()
@@ -73,8 +74,7 @@ class Reader(threading.Thread):
             if name in ("files", "cat"):
                 self.ask_of_tip(name)
             else:
-                words = ["phase", "0"] if name == "phase" else [name]
-                self.take(name, self.yard.run(words))
+                self.take(name, self.yard.run(WORDS.get(name, [name])))
 
     def take(self, name, ended):
         if ended.returncode != 0:

@@ -1,1 +1,4 @@
+pub mod HoldLemmas
 pub mod ReadLemmas
+pub mod SumLemmas
+pub mod WindowLemmas

@@ -1,1 +1,4 @@
 pub mod Read
+pub mod Rest
+pub mod Theorems
+pub mod Windows

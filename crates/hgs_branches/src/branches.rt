@@ -3,11 +3,13 @@ ghost use Rattle.std.specs.Prelude.{◌≡◌, ◌≤◌, ◌+◌, ◌++◌, [],
 ghost use Rattle.hgs_files.specs.Reads.{Grows};
 ghost use Rattle.hgs_index.specs.Revision.{ParentsBefore};
 ghost use Rattle.hgs_load.specs.Answer.{HasFaultCause};
+ghost use Rattle.hgs_load.specs.Given.{Takes};
 ghost use Rattle.hgs_revlog.specs.Log.{nodes_of};
 ghost use Rattle.hgs_branch.specs.Taken.{with_changes};
 ghost use Rattle.hgs_branch.specs.Text.{branches_text};
 ghost use Rattle.hgs_branch.specs.declared.changeset.OnBranch.{OnBranch};
 ghost use Rattle.hgs_branches.specs.Read.{stored_between, AreRead, IsRefused};
+ghost use Rattle.hgs_branches.specs.Windows.{changes_asks};
 
 use crate::read::read_changes;
 use hgs_branch::heads::BranchHeads;
@@ -62,7 +64,8 @@ impl Branches {
         ensures ok { OnOk result ((changes : List OnBranch) × (self.new ≡ with_changes self.old changes) × (length self.old.parents + length changes ≡ upto) × AreRead (R.seen files.old) (R.start files.old) (R.seen files.new) session.now (length self.old.parents) changes) }
         ensures err { OnErr result (self.new ≡ self.old) }
         ensures refused { IfErr result (λ e. IsRefused (R.seen files.old) (R.start files.old) (R.seen files.new) session.now (length self.old.parents) upto e) }
-        ensures given { R.given files.new ≤ R.given files.old + stored_between session.now.changelog.entries (length self.old.parents) upto }
+        ensures given { Takes (λ _. tt) (R.given files.old) (R.given files.new) (R.seen files.old) (R.start files.old) (R.seen files.new) (changes_asks session.now (length self.old.parents) upto) result }
+        ensures few { R.given files.new ≤ R.given files.old + stored_between session.now.changelog.entries (length self.old.parents) upto }
         ensures seen { Grows (R.seen files.old) (R.seen files.new) }
         ensures same_start { R.start files.new ≡ R.start files.old }
         ensures still { R.alone ≡ true → R.seen files.new ≡ R.seen files.old }
@@ -72,8 +75,10 @@ impl Branches {
             Ok(changes) => changes,
             Err(refusal) => return Err(refusal),
         };
-        self.heads.extend(&changes)?;
-        Ok(())
+        match self.heads.extend(&changes) {
+            Ok(()) => Ok(()),
+            Err(_) => Err(ReadAnswer::Memory),
+        }
     }
 
     /// Adds a line for each head of each branch, by branch in the order of bytes, then by revision: branch, tab, revision, tab

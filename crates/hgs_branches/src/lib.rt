@@ -3,3 +3,4 @@
 
 pub mod branches;
 mod read;
+mod window;

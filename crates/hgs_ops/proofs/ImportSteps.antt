@@ -88,7 +88,7 @@ renamed-none : (p : List ℕ) (next : Repo) (b : Bool) → appended p (cond b (n
 renamed-none p next true = refl
 renamed-none p next false = refl
 
-parts-appended : (t : Tree) (r next : Repo) (p : List ℕ) → appended p (appending t r next) ≡ appended p (growth t r next) ++ appends_at p (Append changelog_index (new_changelog_entry t r next))
+pub parts-appended : (t : Tree) (r next : Repo) (p : List ℕ) → appended p (appending t r next) ≡ appended p (growth t r next) ++ appends_at p (Append changelog_index (new_changelog_entry t r next))
 parts-appended t r next p =
     appended-append p (growth t r next ++ roots_renamed r next) (Append changelog_index (new_changelog_entry t r next) ∷ [])
     ∙ (λ i. appended-append p (growth t r next) (roots_renamed r next) i ++ append-nil (appends_at p (Append changelog_index (new_changelog_entry t r next))) i)

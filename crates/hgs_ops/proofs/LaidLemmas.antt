@@ -221,6 +221,9 @@ laid-same t u r next n aside =
     let second = map put_whole (new_dirstate next ∷ only_if (is_some n.bookmark) (new_bookmarks next)) in
     ap (λ g. g ++ (first ++ (Append changelog_index (new_changelog_entry u r next) ∷ second))) (growth-same t u aside r next) ∙ ap (λ e. growth t r next ++ (first ++ (Append changelog_index e ∷ second))) (entry-same t u aside r next)
 
+pub laid-alike : (t u : Tree) (r next : Repo) (n : NewChange) → AreSameAside t u → (path : List ℕ) → is_loose strays path ≡ false → after_all (laid u r n next) u path ≡ after_all (laid t r n next) t path
+laid-alike t u r next n aside path free = ap (λ ops. after_all ops u path) (laid-same t u r next n aside) ∙ lays-alike (laid t r n next) u t (laid-lays t r next n) (λ q k. aside q k) path free
+
 firsts-off : (rc : Bool) (a : List ℕ) → touched journal_path (map put_whole (only_if rc (roots_with a))) ≡ false
 firsts-off true a = refl
 firsts-off false a = refl
@@ -240,7 +243,7 @@ laid-off t r next n =
 pub commit-lays-beside : (t u : Tree) (r next : Repo) (n : NewChange) (who : List ℕ) → t journal_path ≡ None → after_all (operations (transaction_of t r (Commit n) who next)) t journal_path ≡ None → AreSameAside t u
     → (path : List ℕ) → is_loose strays path ≡ false → after_all (laid u r n next) u path ≡ after_all (operations (transaction_of t r (Commit n) who next)) t path
 commit-lays-beside t u r next n who none gone aside path free =
-    ap (λ ops. after_all ops u path) (laid-same t u r next n aside) ∙ lays-alike (laid t r n next) u t (laid-lays t r next n) (λ q k. aside q k) path free ∙ by (bool (same path journal_path))
+    laid-alike t u r next n aside path free ∙ by (bool (same path journal_path))
   where
     by : (same path journal_path ≡ true) ⊎ (same path journal_path ≡ false) → after_all (laid t r n next) t path ≡ after_all (operations (transaction_of t r (Commit n) who next)) t path
     by (inr e) = sym (commit-lays t r next n who path free e)

@@ -18,8 +18,10 @@ pub mod ImportParts
 pub mod ImportSteps
 pub mod InStep
 pub mod LaidLemmas
+pub mod LaidBytes
 pub mod RecordLemmas
 pub mod RootsAdded
 pub mod SmallBehind
+pub mod RecordNames
 pub mod PowerShape
 pub mod PowerLeads

@@ -1,9 +1,9 @@
 -- The phase roots, the dirstate and the bookmarks behind records that are laid one after another.
-use Rattle.std.proofs.Common.{◌≡◌, ◌<◌, List, [], ◌∷◌, Bool, true, false, cond, ◌||◌, not, length, map, refl, sym, ◌∙◌, ap, subst, Some}
+use Rattle.std.proofs.Common.{◌≡◌, ◌<◌, List, [], ◌∷◌, Bool, true, false, cond, ◌||◌, not, length, map, refl, sym, ◌∙◌, ap, subst, Some, append-nil}
 use Rattle.std.specs.Prelude.{is_some, if◌then◌else◌}
 use Rattle.std.specs.List.{AllByRecursion}
 use Rattle.hgs_bytes.specs.Bytes.{same}
-use Rattle.hgs_bytes.specs.Theorems.ByteLemmas.{same-eq}
+use Rattle.hgs_bytes.specs.Theorems.ByteLemmas.{same-eq, same-refl}
 use Rattle.hgs_files.specs.Tree.{Tree, after_all}
 use Rattle.hgs_marks.specs.Bookmarks.{bookmarks_text}
 use Rattle.hgs_model.specs.declared.command.Command.TheVariants.{Import}
@@ -17,13 +17,13 @@ use Rattle.hgs_model.specs.Theorems.NewChangesetLemmas.{commit-keeps, import-kee
 use Rattle.hgs_model.specs.Theorems.StepLemmas.{length-changeset_nodes}
 use Rattle.hgs_stands.specs.Places.{bookmarks_path, dirstate_path, roots_path}
 use Rattle.hgs_stands.specs.Stands.{Stands, mark_of}
-use Rattle.hgs_ops.specs.Laid.{AreLaid, Record, changes_of, laid, repo_behind, tree_behind}
+use Rattle.hgs_ops.specs.Laid.{AreLaid, Record, changes_of, changes_roots, laid, repo_behind, tree_behind}
 use Rattle.hgs_ops.specs.Replaced.{new_bookmarks, new_dirstate, roots_change, roots_of}
 use Rattle.hgs_ops.specs.Theorems.CommitLemmas.{marks-same, nodes-more}
 use Rattle.hgs_ops.proofs.ImportSteps.{commit-left}
 use Rattle.hgs_ops.proofs.LaidLemmas.{commit-lays}
 use Rattle.hgs_ops.proofs.RecordLemmas.{Laws, fewer, laid-stands, records-import}
-use Rattle.hgs_ops.proofs.RootsAdded.{GoesOn, roots-two}
+use Rattle.hgs_ops.proofs.RootsAdded.{GoesOn, goes-on, roots-two}
 
 -- these files of the tree u are those of a transaction from r to next over the tree t, which sets a bookmark or does not
 pub record Small (t : Tree) (r next : Repo) (marks : Bool) (u : Tree) : Type 0 where
@@ -91,3 +91,15 @@ module _ (laws : Laws) where
       let first = goes-one t r x (y ∷ records) s all in
       let second : GoesOn x.1 (repo_behind x.1 (y ∷ records)) = record { changesets = gone.changesets; phases = gone.phases; before = first.behind; behind = import-keeps x.1 (changes_of (y ∷ records)) (repo_behind x.1 (y ∷ records)) is.answer first.behind others.each is.accepted } in
       two-small t u (tree_behind u x.1 (y ∷ records)) r x.1 (repo_behind x.1 (y ∷ records)) (is_some x.0.bookmark) (sets_bookmark (changes_of (y ∷ records))) first second gone.marks (laid-small t r x.1 x.0) (records-small u x.1 y records stands others all.3)
+
+  -- the repository behind records goes on from the first one
+  goes-records : (t : Tree) (r : Repo) (records : List Record) → Stands t r → AreLaid t r records → GoesOn r (repo_behind r records)
+  goes-records t r [] s all = record { changesets = ([], sym (append-nil r.changesets)); phases = ([], sym (append-nil r.phases)); before = s.repository; behind = s.repository }
+  goes-records t r (x ∷ records) s all = goes-on r x.1 (repo_behind x.1 records) (goes-one t r x records s all) (goes-records (after_all (laid t r x.0 x.1) t) x.1 records (laid-stands laws t r s x records all) all.3)
+
+  pub records-roots : (t : Tree) (r : Repo) (records : List Record) → Stands t r → AreLaid t r records → roots_change r (repo_behind r records) ≡ changes_roots r records
+  records-roots t r [] s all = ap not (same-refl (roots_of r))
+  records-roots t r (x ∷ records) s all =
+      let u = after_all (laid t r x.0 x.1) t in
+      let stands = laid-stands laws t r s x records all in
+      roots-two r x.1 (repo_behind x.1 records) (goes-one t r x records s all) (goes-records u x.1 records stands all.3) ∙ ap (λ b. roots_change r x.1 || b) (records-roots u x.1 records stands all.3)

@@ -1,5 +1,5 @@
 -- What a commit leaves, laid into the tree at once.
-use Rattle.std.specs.Prelude.{◌≡◌, ℕ, List, [], ◌∷◌, ◌++◌, map, is_some, Ok}
+use Rattle.std.specs.Prelude.{◌≡◌, ℕ, List, [], ◌∷◌, ◌++◌, Bool, true, false, ◌||◌, map, is_some, Ok}
 use Rattle.hgs_files.specs.declared.op.Op.{Op}
 use Rattle.hgs_files.specs.declared.op.Op.TheVariants.{Append, Create}
 use Rattle.hgs_files.specs.Tree.{Tree, after_all}
@@ -9,6 +9,8 @@ use Rattle.hgs_model.specs.declared.command.Command.TheVariants.{Commit}
 use Rattle.hgs_model.specs.declared.command.NewChange.{NewChange}
 use Rattle.hgs_model.specs.Step.{Answer, step}
 use Rattle.hgs_model.specs.Valid.{IsNewChange}
+use Rattle.hgs_path.specs.declared.name.Ext.TheVariants.{I, D}
+use Rattle.hgs_path.specs.StoreName.{listed_name}
 use Rattle.hgs_stands.specs.Places.{changelog_index}
 use Rattle.hgs_ops.specs.Growth.{appended, growth, new_changelog_entry}
 use Rattle.hgs_ops.specs.Operations.{appending}
@@ -53,3 +55,22 @@ AreLaid t r (x ∷ records) =
 abbrev pub appended_by : List ℕ → Tree → Repo → List Record → List ℕ
 appended_by path t r [] = []
 appended_by path t r (x ∷ records) = appended path (appending t r x.1) ++ appended_by path (after_all (laid t r x.0 x.1) t) x.1 records
+
+-- whether one of them changes the phase roots
+abbrev pub changes_roots : Repo → List Record → Bool
+changes_roots r [] = false
+changes_roots r (x ∷ records) = roots_change r x.1 || changes_roots x.1 records
+
+-- ---- the list of filelogs
+
+-- the names of the files of a new filelog, with a data file or without one
+abbrev pub names_of_new : List ℕ → Bool → List (List ℕ)
+names_of_new path false = listed_name path I ∷ []
+names_of_new path true = listed_name path I ∷ listed_name path D ∷ []
+
+-- It is new where its index had no bytes and gets some; its data file may get some.
+abbrev pub names_with : List ℕ → List ℕ → List ℕ → List ℕ → List (List ℕ)
+names_with path (b ∷ standing) index data_bytes = []
+names_with path [] [] data_bytes = []
+names_with path [] (b ∷ index) [] = names_of_new path false
+names_with path [] (b ∷ index) (c ∷ data_bytes) = names_of_new path true

@@ -1,5 +1,5 @@
 //! What the definitions of this crate imply. Each function is one law; none does anything.
-ghost use Rattle.std.specs.Prelude.{◌≡◌, ◌⊎◌, ◌++◌, ◌∷◌, [], Bool, List, length, ℕ, Ok, Some, codes, false, suc, true, if◌then◌else◌};
+ghost use Rattle.std.specs.Prelude.{◌≡◌, ◌⊎◌, ◌++◌, ◌∷◌, [], Bool, List, length, ℕ, Ok, Some, codes, false, flat_map, suc, true, if◌then◌else◌};
 ghost use Rattle.hgs_bytes.specs.Bytes.{IsPrefixOf, among, same};
 ghost use Rattle.hgs_files.specs.declared.op.Op.{Op};
 ghost use Rattle.hgs_files.specs.Log.{IsDone};
@@ -7,13 +7,16 @@ ghost use Rattle.hgs_files.specs.Tree.{Tree, after_all, apply, bytes_at};
 ghost use Rattle.hgs_journal.specs.Covers.{Covers, HasOwnStrays, Restores, is_loose, journal_paths, no_repeat};
 ghost use Rattle.hgs_journal.specs.Names.{journal_path};
 ghost use Rattle.hgs_model.specs.declared.command.Command.{Command};
+ghost use Rattle.hgs_model.specs.History.{history, in_order};
 ghost use Rattle.hgs_model.specs.IsRepo.{IsRepo};
 ghost use Rattle.hgs_model.specs.Repo.{Repo};
 ghost use Rattle.hgs_model.specs.Step.{Answer, sets_bookmark, step};
-ghost use Rattle.hgs_model.specs.Valid.{IsNewChange, IsValid};
+ghost use Rattle.hgs_model.specs.Valid.{IsNewChange, IsValid, new_paths as paths_of_files};
 ghost use Rattle.hgs_model.specs.declared.command.Command.TheVariants.{Commit, Import, Mark, Move, Unmark};
 ghost use Rattle.hgs_model.specs.declared.command.NewChange.{NewChange};
 ghost use Rattle.hgs_model.specs.declared.phase.Phase.{Phase};
+ghost use Rattle.hgs_path.specs.declared.name.Ext.{Ext};
+ghost use Rattle.hgs_path.specs.StoreName.{store_name};
 ghost use Rattle.hgs_stands.specs.Open.{IsOpen};
 ghost use Rattle.hgs_stands.specs.Places.{bookmarks_path, changelog_index, dirstate_path, roots_path};
 ghost use Rattle.hgs_stands.specs.Same.{AreStrays};
@@ -25,9 +28,9 @@ ghost use Rattle.hgs_power.specs.Held.{IsOrderly, IsQuiet};
 ghost use Rattle.hgs_power.specs.Transaction.{IsTransaction, ops_to_removal, parts_of};
 ghost use Rattle.hgs_ops.specs.PowerCourses.{AreCalls, Call, parts_of_calls};
 ghost use Rattle.hgs_ops.specs.PowerSteps.{power_locks, power_steps, power_strays, resting_at};
-ghost use Rattle.hgs_ops.specs.Growth.{IsRevlogFile, appended, growth, growth_of, new_changelog_entry};
-ghost use Rattle.hgs_ops.specs.Laid.{AreLaid, Record, appended_by, changes_of, laid, repo_behind, tree_behind};
-ghost use Rattle.hgs_ops.specs.Operations.{changes_before, journal_lines, journal_of, journalled, new_changelog_path, operations, publishing, removals, strays, transaction_of};
+ghost use Rattle.hgs_ops.specs.Growth.{IsRevlogFile, appended, growth, growth_of, new_changelog_entry, new_names_of, new_paths};
+ghost use Rattle.hgs_ops.specs.Laid.{AreLaid, Record, appended_by, changes_of, changes_roots, laid, names_with, repo_behind, tree_behind};
+ghost use Rattle.hgs_ops.specs.Operations.{appending, changes_before, journal_lines, journal_of, journalled, new_changelog_path, operations, publishing, removals, strays, transaction_of};
 ghost use Rattle.hgs_ops.specs.Replaced.{new_bookmarks, new_dirstate, roots_change, roots_of};
 ghost use Rattle.hgs_ops.specs.Shown.{lacks_bookmarks, lacks_dirstate};
 ghost use Rattle.hgs_ops.specs.Stops.{IsBetween};
@@ -227,12 +230,37 @@ pub fn records_laid_are_an_import()
     imports_are_commits();
 }
 
-/// What stands in locks and strays keeps no command from being done, and changes none of the operations on other files.
+/// Records that are laid append to each file that none replaces what their commits append, joined; of the files of revlogs that is what the
+/// import of them appends. Behind them the phase roots are others than before where one of them changes them.
+pub fn records_laid_append_and_change_roots()
+    ensures laid { (t : Tree) (r next : Repo) (n : NewChange) (path : List ℕ) → appended path (laid t r n next) ≡ appended path (appending t r next) }
+    ensures bytes { (t : Tree) (r : Repo) (records : List Record) (path : List ℕ) → among path (roots_path ∷ dirstate_path ∷ bookmarks_path ∷ []) ≡ false → bytes_at (tree_behind t r records) path ≡ bytes_at t path ++ appended_by path t r records }
+    ensures appends { (t : Tree) (r : Repo) (x : Record) (records : List Record) (path : List ℕ) → Stands t r → IsValid (Import (changes_of (x ∷ records))) → AreLaid t r (x ∷ records) → IsRevlogFile (repo_behind r (x ∷ records)) path → appended path (appending t r (repo_behind r (x ∷ records))) ≡ appended_by path t r (x ∷ records) }
+    ensures roots { (t : Tree) (r : Repo) (records : List Record) → Stands t r → AreLaid t r records → roots_change r (repo_behind r records) ≡ changes_roots r records }
+{
+    other_files_do_not_matter();
+    imports_are_commits();
+}
+
+/// The new changesets of records that are laid have the paths of their files, and a filelog of these is listed, by the names of the files that it
+/// then has, where its index had no bytes.
+pub fn records_laid_name_new_filelogs()
+    ensures paths { (t : Tree) (r : Repo) (records : List Record) → IsRepo r → AreLaid t r records → new_paths r (repo_behind r records) ≡ in_order (flat_map (λ (n : NewChange). paths_of_files n.files) (changes_of records)) }
+    ensures names { (t : Tree) (r : Repo) (x : Record) (records : List Record) (path : List ℕ) → Stands t r → IsValid (Import (changes_of (x ∷ records))) → AreLaid t r (x ∷ records) → among path (new_paths r (repo_behind r (x ∷ records))) ≡ true →
+        new_names_of path ((history r.changesets).filelog path) ((history (repo_behind r (x ∷ records)).changesets).filelog path) ≡ names_with path (bytes_at t (store_name path Ext.I)) (appended_by (store_name path Ext.I) t r (x ∷ records)) (appended_by (store_name path Ext.D) t r (x ∷ records)) }
+{
+    other_files_do_not_matter();
+    imports_are_commits();
+}
+
+/// What stands in locks and strays keeps no command from being done, and changes none of the operations on other files, nor what a commit that is laid
+/// leaves of these.
 pub fn strays_hinder_nothing()
     ensures ready { (t u : Tree) (r next : Repo) (command : Command) → ((path : List ℕ) → is_loose strays path ≡ false → u path ≡ t path) → IsReady t r command next → IsReady u r command next }
     ensures changes { (t u : Tree) (r next : Repo) (command : Command) → ((path : List ℕ) → is_loose strays path ≡ false → u path ≡ t path) → changes_before u r command next ≡ changes_before t r command next }
     ensures publishing { (t u : Tree) (r next : Repo) (command : Command) → ((path : List ℕ) → is_loose strays path ≡ false → u path ≡ t path) → publishing u r command next ≡ publishing t r command next }
     ensures journalled { (t u : Tree) (r next : Repo) (command : Command) → ((path : List ℕ) → is_loose strays path ≡ false → u path ≡ t path) → journalled u r command next ≡ journalled t r command next }
+    ensures laid { (t u : Tree) (r next : Repo) (n : NewChange) → ((path : List ℕ) → is_loose strays path ≡ false → u path ≡ t path) → (path : List ℕ) → is_loose strays path ≡ false → after_all (laid u r n next) u path ≡ after_all (laid t r n next) t path }
 {}
 
 /// The transactions of commands, with their syncs and settles, bear a loss of power: over the tree with the writer's locks their

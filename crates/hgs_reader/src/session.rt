@@ -154,8 +154,8 @@ impl Session {
         }
     }
 
-    // The changeset of a revision whose chunk was read.
-    fn change_from(&self, rev: u32, chunk: &[u8]) -> Result<ChangeText, ReadAnswer>
+    /// The changeset of a revision whose chunk was read.
+    pub fn change_from(&self, rev: u32, chunk: &[u8]) -> Result<ChangeText, ReadAnswer>
         requires stands { rev < length self.now.changelog.entries }
         requires within { IfSome (slice_get self.now.changelog.entries rev) (λ e. length chunk.now ≤ e.stored) }
         ensures change { Gives is_of_outside view_change result (change_at self.now rev chunk.now) }

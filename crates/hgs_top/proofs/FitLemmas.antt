@@ -6,7 +6,7 @@ use Rattle.hgs_index.specs.MarkName.{is_mark_name}
 use Rattle.hgs_top.specs.declared.operands.Operand.{Operand}
 use Rattle.hgs_top.specs.declared.operands.Operand.TheVariants as operand_kinds
 use Rattle.hgs_top.specs.declared.pages.Page.{Page}
-use Rattle.hgs_top.specs.Words.{Job, do_init, do_commit, do_recover, do_move, do_mark, do_unmark, Request, to_answer, to_do, to_play, to_session, to_verify, to_generate, operands, operand, with_operand, asked_with, alone_named, alone_else, about_named, bookmark_with, verify_with, jobs_of, phase_with, phase_or_move, moved_with, behind_word, request_named, request_of_words, page_named, page_else}
+use Rattle.hgs_top.specs.Words.{Job, do_init, do_commit, do_recover, do_move, do_mark, do_unmark, Request, to_answer, to_do, to_play, to_session, to_verify, to_generate, operands, operand, with_operand, asked_with, alone_named, alone_else, about_named, bookmark_with, branches_with, steps_of, verify_with, jobs_of, phase_with, phase_or_move, moved_with, behind_word, request_named, request_of_words, page_named, page_else}
 
 abbrev pub IsFitJob : Job → Type 0
 IsFitJob do_init = ⊤
@@ -69,15 +69,21 @@ verify-fits (Some []) words = tt
 verify-fits (Some (word ∷ behind)) words = either (is_some (jobs_of word)) _ _ (with-operands _ (operands false [] 3 behind) (λ found h. tt)) tt
 verify-fits None words = with-operands _ (operands false [] 1 words) (λ found h. tt)
 
+branches-fit : (behind : Option (List (List ℕ))) (words : List (List ℕ)) → IfOk (branches_with behind words) IsFitRequest
+branches-fit (Some []) words = tt
+branches-fit (Some (word ∷ behind)) words = either (is_some (steps_of word)) _ _ (with-operands _ (operands false [] 3 behind) (λ found h. tt)) tt
+branches-fit None words = with-operands _ (operands false [] 1 words) (λ found h. tt)
+
 about-fits : (name : List ℕ) (words : List (List ℕ)) → IfOk (about_named name words) IsFitRequest
 about-fits name words =
     either (same name (codes "files")) _ _ (with-operands _ (operands false (operand_kinds.Any ∷ []) 1 words) (λ found h. tt))
     (either (same name (codes "cat")) _ _ (with-operands _ (operands false (operand_kinds.Any ∷ operand_kinds.Any ∷ []) 1 words) (λ found h. tt))
     (either (same name (codes "revset")) _ _ (with-operands _ (operands false (operand_kinds.Any ∷ []) 1 words) (λ found h. tt))
+    (either (same name (codes "branches")) _ _ (branches-fit (behind_word (codes "--steps") words) words)
     (either (same name (codes "phase")) _ _ (phase-fits (behind_word (codes "--force") words) words)
     (either (same name (codes "bookmark")) _ _ (bookmark-fits (behind_word (codes "--delete") words) words)
     (either (same name (codes "verify")) _ _ (verify-fits (behind_word (codes "--jobs") words) words)
-    (either (same name (codes "gen")) _ _ (with-operands _ (operands false (operand_kinds.Seed ∷ operand_kinds.Count ∷ []) 1 words) (λ found h. tt)) tt))))))
+    (either (same name (codes "gen")) _ _ (with-operands _ (operands false (operand_kinds.Seed ∷ operand_kinds.Count ∷ []) 1 words) (λ found h. tt)) tt)))))))
 
 abbrev IsFitOption : Option Request → Type 0
 IsFitOption None = ⊤

@@ -22,7 +22,7 @@ use Rattle.hgs_top.specs.Windows.{behind_line, chunk_in, chunk_span, held_asks, 
 abbrev left_of : {B : Type 0} → ℕ → ℕ → Option (List Op) → Tree → Option (List Op) → Asks (Result B ReadAnswer) → Type 0
 left_of {B} g0 g1 before start after q = (left : Asks (Result B ReadAnswer)) × Gave g0 g1 before start after q left
 
-refused-left : {B : Type 0} (b : Bool) (g0 g1 : ℕ) (before after : Option (List Op)) (start : Tree) (q : Asks (Result B ReadAnswer)) (e : ReadAnswer) → MatchBool b (left_of g0 g1 before start after q) (Gave g0 g1 before start after q (answer (Err e))) → left_of g0 g1 before start after q
+pub refused-left : {B : Type 0} (b : Bool) (g0 g1 : ℕ) (before after : Option (List Op)) (start : Tree) (q : Asks (Result B ReadAnswer)) (e : ReadAnswer) → MatchBool b (left_of g0 g1 before start after q) (Gave g0 g1 before start after q (answer (Err e))) → left_of g0 g1 before start after q
 refused-left true g0 g1 before after start q e m = m
 refused-left false g0 g1 before after start q e m = (answer (Err e), m)
 

@@ -1,3 +1,4 @@
+pub mod BranchLemmas
 pub mod ChangesetLemmas
 pub mod ConcludeLemmas
 pub mod ContentsLemmas

@@ -5,7 +5,7 @@ use Rattle.hgs_files.specs.Tree.{Tree}
 use Rattle.hgs_top.specs.Outcome.{Reply, told}
 use Rattle.hgs_top.specs.Pages.{page_outcome}
 use Rattle.hgs_top.specs.Run.{OfReply, reply_to}
-use Rattle.hgs_top.specs.Words.{Question, ask_page, ask_log, ask_heads, ask_bookmarks, ask_parents, ask_files, ask_cat, ask_phase, ask_set}
+use Rattle.hgs_top.specs.Words.{Question, ask_page, ask_log, ask_heads, ask_bookmarks, ask_parents, ask_files, ask_cat, ask_phase, ask_set, ask_branches}
 use Rattle.hgs_revset.specs.Read.{read_set}
 use Rattle.hgs_top.proofs.LogLemmas.{of_each}
 use Rattle.hgs_top.proofs.SetLemmas.{of_each_set}
@@ -20,3 +20,4 @@ of_each_reply (ask_files rev) log start P Q f h = of_each log start (λ t. P (re
 of_each_reply (ask_cat rev path) log start P Q f h = of_each log start (λ t. P (reply_to (ask_cat rev path) t)) (λ t. Q (reply_to (ask_cat rev path) t)) (λ t. f (reply_to (ask_cat rev path) t)) h
 of_each_reply (ask_phase rev) log start P Q f h = of_each log start (λ t. P (reply_to (ask_phase rev) t)) (λ t. Q (reply_to (ask_phase rev) t)) (λ t. f (reply_to (ask_phase rev) t)) h
 of_each_reply (ask_set text) log start P Q f h = of_each_set (read_set text) log start P Q f h
+of_each_reply (ask_branches steps) log start P Q f h = of_each log start (λ t. P (reply_to (ask_branches steps) t)) (λ t. Q (reply_to (ask_branches steps) t)) (λ t. f (reply_to (ask_branches steps) t)) h

@@ -1,18 +1,23 @@
 -- Over files that stand for a repository each question is answered as the repository is.
 use Rattle.std.proofs.Common.{◌≡◌, ℕ, zero, suc, ◌+◌, ◌<◌, List, [], ◌∷◌, ◌++◌, length, Option, Some, None, Result, Ok, Err, refl, sym, ◌∙◌, ap, subst, arith, append_assoc, append-nil}
-use Rattle.std.specs.Prelude.{slice_get, slice_index, if◌then◌else◌}
+use Rattle.std.specs.Prelude.{map, slice_get, slice_index, if◌then◌else◌}
 use Rattle.hgs_files.specs.declared.op.Op.{Op}
 use Rattle.hgs_files.specs.Tree.{Tree, after_all}
 use Rattle.hgs_model.specs.Names.{named as model_named}
 use Rattle.hgs_model.specs.Phase.{phase_name}
-use Rattle.hgs_model.specs.Repo.{Changeset, Repo}
+use Rattle.hgs_model.specs.Repo.{Changeset, Repo, all_parents}
 use Rattle.hgs_model.specs.IsRepo.{IsRepo}
 use Rattle.hgs_model.specs.declared.phase.Phase.{Phase}
 use Rattle.hgs_load.specs.declared.answer.ReadAnswer.{ReadAnswer}
 use Rattle.hgs_load.specs.Asks.{at_rest}
 use Rattle.hgs_reader.specs.Contents.{cat_asks, files_asks}
 use Rattle.hgs_reader.specs.Heads as reader_heads
-use Rattle.hgs_reader.specs.Line.{line_asks}
+use Rattle.hgs_index.specs.ChangeText.{Change}
+use Rattle.hgs_branch.specs.Extras.{branch_of}
+use Rattle.hgs_branch.specs.Text.{branches_text}
+use Rattle.hgs_branches.specs.Rest.{branch_then, branches_from}
+use Rattle.hgs_revlog.specs.Log.{nodes_of}
+use Rattle.hgs_reader.specs.Line.{change_asks, line_asks}
 use Rattle.hgs_reader.specs.Names.{named}
 use Rattle.hgs_load.specs.Open.{open_asks}
 use Rattle.hgs_reader.specs.Shown as reader_shown
@@ -25,11 +30,12 @@ use Rattle.hgs_revset.specs.Members.{Set, Story, is_known, story_of_repo, AreAli
 use Rattle.hgs_revset.specs.Read.{read_set}
 use Rattle.hgs_revset.specs.Text.{set_text}
 use Rattle.hgs_revset.specs.declared.fault.SetFault.{SetFault}
+use Rattle.hgs_top.specs.Branches.{branches_at, branches_of_load, branches_of_repo, branches_outcome, heads_of_view}
 use Rattle.hgs_top.specs.Sets.{set_of_load, set_reply, set_reply_of}
 use Rattle.hgs_top.proofs.SetLemmas.{set_at}
 use Rattle.hgs_top.specs.Repository.{body_reply, of_named, reply_of, said, SaysOfRepository}
 use Rattle.hgs_top.specs.Run.{OfReply, Replied, Says, reply_to}
-use Rattle.hgs_top.specs.Words.{Request, to_answer, to_do, to_play, to_session, to_verify, to_generate, Question, ask_page, ask_log, ask_heads, ask_bookmarks, ask_parents, ask_files, ask_cat, ask_phase, ask_set}
+use Rattle.hgs_top.specs.Words.{Request, to_answer, to_do, to_play, to_session, to_verify, to_generate, Question, ask_page, ask_log, ask_heads, ask_bookmarks, ask_parents, ask_files, ask_cat, ask_phase, ask_set, ask_branches}
 
 -- what the crates below say of the answers
 pub record Laws : Type 0 where
@@ -45,8 +51,22 @@ pub record Laws : Type 0 where
   pub body : (t : Tree) (r : Repo) (view : View) → IsReadable t r → at_rest t open_asks ≡ Ok view → (rev : ℕ) (c : Changeset) → slice_get r.changesets rev ≡ Some c → (path : List ℕ) → at_rest t (cat_asks view rev path) ≡ body_answer (body_at r rev path)
   pub there : (r : Repo) (name : List ℕ) (rev : ℕ) → IsRepo r → model_named r name ≡ Some rev → rev < length r.changesets
   pub alike : (t : Tree) (r : Repo) (view : View) → IsReadable t r → at_rest t open_asks ≡ Ok view → AreAlike (story_of view) (story_of_repo r)
+  pub changed : (t : Tree) (r : Repo) (view : View) → IsReadable t r → at_rest t open_asks ≡ Ok view → (rev : ℕ) (c : Changeset) → slice_get r.changesets rev ≡ Some c → (x : Change) × (at_rest t (change_asks view rev) ≡ Ok x) × (x.extras ≡ c.extras)
   pub known : (s t : Story) (a : Set) → AreAlike s t → is_known s a ≡ is_known t a
   pub lines : (s t : Story) (a : Set) → AreAlike s t → set_text s a ≡ set_text t a
+
+-- ---- branches
+
+-- the branches of changesets, the first of which has this number
+names-are : (change : ℕ → Result Change ReadAnswer) (rev : ℕ) (changesets : List Changeset) → ((i : ℕ) (c : Changeset) → slice_get changesets i ≡ Some c → (x : Change) × (change (rev + i) ≡ Ok x) × (x.extras ≡ c.extras))
+    → branches_from change rev (length changesets) ≡ Ok (map (λ (c : Changeset). branch_of c.extras) changesets)
+names-are change rev [] h = refl
+names-are change rev (c ∷ later) h =
+    let one = h 0 c refl in
+    let here : rev ≡ rev + 0 = omega arith in
+    let rest = names-are change (suc rev) later (λ i d at. let e : rev + suc i ≡ suc rev + i = omega arith in subst (λ n. (x : Change) × (change n ≡ Ok x) × (x.extras ≡ d.extras)) e (h (suc i) d at)) in
+    ap (λ q. branch_then q (branches_from change (suc rev) (length later))) (ap change here ∙ one.1) ∙ ap (branch_then (Ok one.0)) rest
+    ∙ ap (λ e. let r : Result (List (List ℕ)) ReadAnswer = Ok (branch_of e ∷ map (λ (c : Changeset). branch_of c.extras) later) in r) one.2
 
 -- ---- log
 
@@ -142,6 +162,18 @@ module _ (laws : Laws) (t : Tree) (r : Repo) (s : IsReadable t r) (view : View) 
       let own = story_of_repo r in
       ap (set_of_load a) answered ∙ ap (λ b. if b then said (set_text shown a) else unknown_revision) (laws.known shown own a same) ∙ ap (λ text. if is_known own a then said text else unknown_revision) (laws.lines shown own a same)
 
+  branches-are : branches_outcome t ≡ record { text = branches_of_repo r; refusal = None }
+  branches-are =
+      let same = laws.alike t r view s answered in
+      let change : ℕ → Result Change ReadAnswer = λ rev. at_rest t (change_asks view rev) in
+      let names = map (λ (c : Changeset). branch_of c.extras) r.changesets in
+      let count : branches_at t view ≡ branches_from change 0 (length r.changesets) = ap (branches_from change 0) (laws.count t r view s answered) in
+      let read : branches_from change 0 (length r.changesets) ≡ Ok names =
+      names-are change 0 r.changesets (λ i c at. let e : i ≡ 0 + i = omega arith in subst (λ n. (x : Change) × (change n ≡ Ok x) × (x.extras ≡ c.extras)) e (laws.changed t r view s answered i c at)) in
+      ap (branches_of_load t) answered ∙ ap (heads_of_view view) (count ∙ read)
+      ∙ ap (λ p. let o : Outcome = record { text = branches_text p names (nodes_of view.changelog.entries); refusal = None } in o) same.parents
+      ∙ ap (λ n. let o : Outcome = record { text = branches_text (all_parents r.changesets) names n; refusal = None } in o) same.nodes
+
   reply-of-view : (question : Question) → reply_to question t ≡ reply_of r question
   reply-of-view (ask_page page) = refl
   reply-of-view ask_log = ap told log-is
@@ -152,6 +184,7 @@ module _ (laws : Laws) (t : Tree) (r : Repo) (s : IsReadable t r) (view : View) 
   reply-of-view (ask_cat name path) = asked name (its_file path) (λ rev. body_reply (body_at r rev path)) (body-reply path)
   reply-of-view (ask_phase name) = asked name its_phase (λ rev. said (phase_text r rev)) phase-reply
   reply-of-view (ask_set text) = set-reply (read_set text)
+  reply-of-view (ask_branches steps) = ap told branches-are
 
 pub reply-is : (laws : Laws) (t : Tree) (r : Repo) → IsReadable t r → (question : Question) → reply_to question t ≡ reply_of r question
 reply-is laws t r s question = let o = laws.opens t r s in reply-of-view laws t r s o.0 o.1 question
@@ -167,6 +200,7 @@ of-question Faulted ask_parents log start status old new h = h
 of-question Faulted (ask_files name) log start status old new h = h
 of-question Faulted (ask_cat name path) log start status old new h = h
 of-question Faulted (ask_phase name) log start status old new h = h
+of-question Faulted (ask_branches steps) log start status old new h = h
 of-question Faulted (ask_set text) log start status old new h = set_at (read_set text) log start (λ reply. Replied Faulted reply status old new) h
 
 pub says-of : ((t : Tree) (r : Repo) → IsReadable t r → (question : Question) → reply_to question t ≡ reply_of r question) → (Faulted : Type 0) (asked : Result Request ℕ) (log : Option (List Op)) (start : Tree) (status : ℕ) (old new : Option (List ℕ)) → Says Faulted asked log start status old new → SaysOfRepository Faulted asked log start status old new

@@ -10,9 +10,10 @@ use Rattle.hgs_load.specs.View.{View}
 use Rattle.hgs_reader.specs.Names.{named}
 use Rattle.hgs_top.specs.Outcome.{Subject, its_files, its_file, its_phase, contents_asks}
 use Rattle.hgs_revset.specs.Read.{read_set}
+use Rattle.hgs_top.specs.Branches.{branches_reads}
 use Rattle.hgs_top.specs.Sets.{set_reads}
 use Rattle.hgs_top.specs.Windows.{lines_reads}
-use Rattle.hgs_top.specs.Words.{Question, ask_page, ask_log, ask_heads, ask_bookmarks, ask_parents, ask_files, ask_cat, ask_phase, ask_set, Request, to_answer, to_do, to_play, to_session, to_verify, to_generate}
+use Rattle.hgs_top.specs.Words.{Question, ask_page, ask_log, ask_heads, ask_bookmarks, ask_parents, ask_files, ask_cat, ask_phase, ask_set, ask_branches, Request, to_answer, to_do, to_play, to_session, to_verify, to_generate}
 
 abbrev pub log_reads : Asks (Result Unit ReadAnswer)
 log_reads = then_asks open_asks (λ view. lines_reads view (length view.changelog.entries))
@@ -38,6 +39,7 @@ question_reads (ask_files name) = contents_reads name its_files
 question_reads (ask_cat name path) = contents_reads name (its_file path)
 question_reads (ask_phase name) = contents_reads name its_phase
 question_reads (ask_set text) = set_reads (read_set text)
+question_reads (ask_branches steps) = branches_reads steps
 
 -- Some of these reads were made, from the first on, and nothing else was read: the count of bytes given rose by what they gave.
 abbrev pub ReadsOnly : ℕ → ℕ → Option (List Op) → Tree → Option (List Op) → Asks (Result Unit ReadAnswer) → Type 0

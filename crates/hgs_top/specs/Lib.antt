@@ -1,3 +1,4 @@
+pub mod Branches
 pub mod Given
 pub mod Histories
 pub mod History

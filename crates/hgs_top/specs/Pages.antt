@@ -20,6 +20,7 @@ page_lines Help =
     codes "  parents                    number and node of each working parent" ∷
     codes "  phase REV                  public, draft or secret" ∷
     codes "  revset EXPR                number and node of each member of a set of changesets" ∷
+    codes "  branches [--steps K]       branch, number and node of each head of each branch" ∷
     codes "  init                       makes an empty repository" ∷
     codes "  commit                     commits the record on standard input; bin/record prints one" ∷
     codes "  phase [--force] REV PHASE  sets a phase" ∷

@@ -7,11 +7,12 @@ use Rattle.hgs_model.specs.Repo.{Repo}
 use Rattle.hgs_load.specs.declared.answer.ReadAnswer.TheVariants.{UnknownPath}
 use Rattle.hgs_shown.specs.Answers.{IsReadable, body_at, bookmarks_text, files_text_of, heads_text, log_text, parents_text, phase_text}
 use Rattle.hgs_top.specs.Outcome.{Reply, told, unknown_revision, refused}
+use Rattle.hgs_top.specs.Branches.{branches_of_repo}
 use Rattle.hgs_top.specs.Pages.{page_outcome}
 use Rattle.hgs_revset.specs.Read.{read_set}
 use Rattle.hgs_top.specs.Run.{OfTree, Replied}
 use Rattle.hgs_top.specs.Sets.{set_reply_of}
-use Rattle.hgs_top.specs.Words.{Question, ask_page, ask_log, ask_heads, ask_bookmarks, ask_parents, ask_files, ask_cat, ask_phase, ask_set, Request, to_answer, to_do, to_play, to_session, to_verify, to_generate}
+use Rattle.hgs_top.specs.Words.{Question, ask_page, ask_log, ask_heads, ask_bookmarks, ask_parents, ask_files, ask_cat, ask_phase, ask_set, ask_branches, Request, to_answer, to_do, to_play, to_session, to_verify, to_generate}
 
 -- the whole of a text
 abbrev pub said : List ℕ → Reply
@@ -36,6 +37,7 @@ reply_of r (ask_files name) = of_named (named r name) (λ rev. said (files_text_
 reply_of r (ask_cat name path) = of_named (named r name) (λ rev. body_reply (body_at r rev path))
 reply_of r (ask_phase name) = of_named (named r name) (λ rev. said (phase_text r rev))
 reply_of r (ask_set text) = set_reply_of (read_set text) r
+reply_of r (ask_branches steps) = said (branches_of_repo r)
 
 -- What a run leaves in the sink over files that stand for a repository, within a reader's limits: the answer of the repository, unless the outside failed.
 abbrev pub SaysOfRepository : Type 0 → Result Request ℕ → Option (List Op) → Tree → ℕ → Option (List ℕ) → Option (List ℕ) → Type 0

@@ -18,9 +18,10 @@ use Rattle.hgs_top.specs.declared.listing.Listing.TheVariants.{Heads, Bookmarks,
 use Rattle.hgs_revset.specs.Members.{Set}
 use Rattle.hgs_revset.specs.Read.{read_set}
 use Rattle.hgs_revset.specs.declared.fault.SetFault.{SetFault}
+use Rattle.hgs_top.specs.Branches.{branches_outcome}
 use Rattle.hgs_top.specs.Pages.{page_outcome}
 use Rattle.hgs_top.specs.Sets.{set_refused, set_reply}
-use Rattle.hgs_top.specs.Words.{Question, ask_page, ask_log, ask_heads, ask_bookmarks, ask_parents, ask_files, ask_cat, ask_phase, ask_set, Request, to_answer, to_do, to_play, to_session, to_verify, to_generate}
+use Rattle.hgs_top.specs.Words.{Question, ask_page, ask_log, ask_heads, ask_bookmarks, ask_parents, ask_files, ask_cat, ask_phase, ask_set, ask_branches, Request, to_answer, to_do, to_play, to_session, to_verify, to_generate}
 use Rattle.hgs_findings.specs.Findings.{Finding, IsReport}
 use Rattle.hgs_load.specs.Open.{requires_path}
 use Rattle.hgs_load.specs.Requirements.{requires_answer}
@@ -169,6 +170,7 @@ reply_to (ask_files rev) t = contents_reply rev its_files t
 reply_to (ask_cat rev path) t = contents_reply rev (its_file path) t
 reply_to (ask_phase rev) t = contents_reply rev its_phase t
 reply_to (ask_set text) t = set_reply (read_set text) t
+reply_to (ask_branches steps) t = told (branches_outcome t)
 
 -- What no file decides holds as it is; what the files decide, over the tree that the log leads to, where it is told.
 abbrev pub OfSet : Result Set SetFault → Option (List Op) → Tree → (Reply → Type 0) → Type 0

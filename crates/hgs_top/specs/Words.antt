@@ -17,7 +17,7 @@ use Rattle.hgs_top.specs.declared.pages.Page.TheVariants.{Help, Version}
 use Rattle.hgs_top.specs.declared.words.Asked.{Asked}
 use Rattle.hgs_top.specs.declared.words.Asked.TheVariants as asked
 use Rattle.hgs_top.specs.declared.words.Command.{Command}
-use Rattle.hgs_top.specs.declared.words.Command.TheVariants.{Shown, Log, Heads, Bookmarks, Parents, Files, Cat, Phase as PhaseOf, Set as SetOf}
+use Rattle.hgs_top.specs.declared.words.Command.TheVariants.{Shown, Log, Heads, Bookmarks, Parents, Files, Cat, Phase as PhaseOf, Set as SetOf, Branches as BranchesOf}
 
 abbrev pub with_operand : List ℕ → Result (List (List ℕ)) ℕ → Result (List (List ℕ)) ℕ
 with_operand word (Ok words) = Ok (word ∷ words)
@@ -40,6 +40,10 @@ count_of word = kept_where (λ n. nat_le 1 n && nat_le n 5000) (number_up_to 500
 -- how many jobs a word gives: from 1 to 64
 abbrev pub jobs_of : List ℕ → Option ℕ
 jobs_of word = kept_where (λ n. nat_le 1 n && nat_le n 64) (number_up_to 64 word)
+
+-- how many changesets a word says to take at a time: from 1 to 1,000,000
+abbrev pub steps_of : List ℕ → Option ℕ
+steps_of word = kept_where (λ n. nat_le 1 n && nat_le n 1000000) (number_up_to 1000000 word)
 
 -- whether a word is what an operand has to be
 abbrev pub fits : Operand → List ℕ → Bool
@@ -83,6 +87,7 @@ pub data Question : Type 0 where
   ask_cat : List ℕ → List ℕ → Question
   ask_phase : List ℕ → Question
   ask_set : List ℕ → Question
+  ask_branches : Option ℕ → Question
 
 -- what a command does that changes files; revisions by their names
 pub data Job : Type 0 where
@@ -111,6 +116,7 @@ question_of (Files rev) = ask_files rev.now
 question_of (Cat rev path) = ask_cat rev.now path.now
 question_of (PhaseOf rev) = ask_phase rev.now
 question_of (SetOf text) = ask_set text.now
+question_of (BranchesOf steps) = ask_branches steps
 
 abbrev pub job_of : Order → Job
 job_of orders.Init = do_init
@@ -187,6 +193,16 @@ abbrev pub verify_with : Option (List (List ℕ)) → List (List ℕ) → Result
 verify_with (Some behind) words = verify_by behind
 verify_with None words = asked_with (λ w. to_verify 1) (operands false [] 1 words)
 
+-- the heads of branches, for which so many changesets are taken at a time, behind the option that says so
+abbrev pub branches_by : List (List ℕ) → Result Request ℕ
+branches_by [] = Err 2
+branches_by (word ∷ words) = if is_some (steps_of word) then asked_with (λ w. to_answer (ask_branches (steps_of word))) (operands false [] 3 words) else Err 2
+
+-- all at once, where no option says how many
+abbrev pub branches_with : Option (List (List ℕ)) → List (List ℕ) → Result Request ℕ
+branches_with (Some behind) words = branches_by behind
+branches_with None words = asked_with (λ w. to_answer (ask_branches None)) (operands false [] 1 words)
+
 -- a number and how many changesets it gives
 abbrev pub generate_with : List (List ℕ) → Result Request ℕ
 generate_with words = asked_with (λ w. to_generate (unwrap_or (seed_of (operand w 0)) 0) (unwrap_or (count_of (operand w 1)) 1)) (operands false (operand_kinds.Seed ∷ operand_kinds.Count ∷ []) 1 words)
@@ -197,6 +213,7 @@ about_named name words =
     if same name (codes "files") then asked_with (λ w. to_answer (ask_files (operand w 0))) (operands false (operand_kinds.Any ∷ []) 1 words)
     else if same name (codes "cat") then asked_with (λ w. to_answer (ask_cat (operand w 0) (operand w 1))) (operands false (operand_kinds.Any ∷ operand_kinds.Any ∷ []) 1 words)
     else if same name (codes "revset") then asked_with (λ w. to_answer (ask_set (operand w 0))) (operands false (operand_kinds.Any ∷ []) 1 words)
+    else if same name (codes "branches") then branches_with (behind_word (codes "--steps") words) words
     else if same name (codes "phase") then phase_with (behind_word (codes "--force") words) words
     else if same name (codes "bookmark") then bookmark_with (behind_word (codes "--delete") words) words
     else if same name (codes "verify") then verify_with (behind_word (codes "--jobs") words) words

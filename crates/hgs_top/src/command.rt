@@ -9,6 +9,7 @@ ghost use Rattle.hgs_top.specs.Given.{question_reads, ReadsOnly};
 ghost use Rattle.hgs_top.specs.Run.{IsOneOf, OfReply, IsReplied, Replied, SaysBadWord, Concludes, bad_set_line, bad_word_line, EndsLine, status_of_sink};
 ghost use Rattle.hgs_top.specs.Words.{question_of};
 
+use crate::branches::write_branches;
 use crate::contents::{About, write_contents};
 use crate::listing::{Listing, write_listing};
 use crate::log::{write_last, write_log};
@@ -161,6 +162,7 @@ fn answer<R: Reads, K: Sink>(
         Command::Cat { rev, path } => write_contents(alloc, files, rev, About::Body(path), out),
         Command::Phase { rev } => write_contents(alloc, files, rev, About::AtPhase, out),
         Command::Set { text } => write_set(alloc, files, text, out),
+        Command::Branches { steps } => whole(write_branches(alloc, files, steps, out)),
     }
 }
 

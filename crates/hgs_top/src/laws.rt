@@ -75,6 +75,7 @@ pub fn replies_of_repository()
     ensures { (t : Tree) (r : Repo) → IsReadable t r → (question : Question) → reply_to question t ≡ reply_of r question }
 {
     hgs_shown::answers::answers_of_repository();
+    hgs_shown::laws::contents_show_repository();
     hgs_model::laws::named_is_there();
     hgs_revset::laws::members_of_alike();
     hgs_sets_shown::laws::views_tell_repositories();

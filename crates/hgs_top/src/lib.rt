@@ -1,6 +1,7 @@
 //! The top call: what the program does with its words, its files, its input and its output.
 #![tactic(auto)]
 
+pub mod branches;
 pub mod command;
 pub mod contents;
 pub mod ended;

@@ -4,7 +4,7 @@ ghost use Rattle.std.specs.Option.{option_map};
 ghost use Rattle.std.specs.Result.{result_map_both};
 ghost use Rattle.std.specs.String.{string_bytes};
 ghost use Rattle.hgs_bytes.specs.Bytes.{same, begins_with};
-ghost use Rattle.hgs_top.specs.Words.{with_operand, operands_in, ends_here, fits, behind_word, count_of, jobs_of, seed_of};
+ghost use Rattle.hgs_top.specs.Words.{with_operand, operands_in, ends_here, fits, behind_word, count_of, jobs_of, seed_of, steps_of};
 ghost use Rattle.hgs_top.specs.declared.operands.Operand.{Operand};
 
 use hgs_bytes::parts::{equal, starts};
@@ -14,6 +14,9 @@ use hgs_model::phase::Phase;
 
 /// The most changesets that are generated.
 const MOST_GENERATED: u64 = 5000;
+
+/// The most changesets that are taken at a time.
+const MOST_TAKEN: u64 = 1_000_000;
 
 /// The most jobs that check a repository.
 const MOST_JOBS: u64 = 64;
@@ -89,6 +92,16 @@ pub(crate) fn count_of(word: &[u8]) -> Option<u32>
 {
     match number_up_to(word, MOST_GENERATED) {
         Some(number) if number >= 1 && number <= MOST_GENERATED => Some(number as u32),
+        _ => None,
+    }
+}
+
+/// How many changesets a word says to take at a time.
+pub(crate) fn steps_of(word: &[u8]) -> Option<u32>
+    ensures { result ≡ steps_of word.now }
+{
+    match number_up_to(word, MOST_TAKEN) {
+        Some(number) if number >= 1 && number <= MOST_TAKEN => Some(number as u32),
         _ => None,
     }
 }

@@ -4,11 +4,12 @@ ghost use Rattle.hgs_top.specs.Orders.{IsFitting};
 ghost use Rattle.std.specs.Option.{option_map};
 ghost use Rattle.std.specs.Result.{result_map_both};
 ghost use Rattle.std.specs.String.{string_bytes};
-ghost use Rattle.hgs_top.specs.Words.{operands_in, operand, asked_with, ask_files, ask_cat, ask_set, moved_with, phase_with, bookmark_with, behind_word, to_answer, to_do, do_mark, do_unmark, to_generate, seed_of, count_of, verify_by, verify_with, request_of, request_named, alone_named, about_named, is_session, page_named, request_of_words};
+ghost use Rattle.hgs_top.specs.Words.{operands_in, operand, asked_with, ask_files, ask_cat, ask_set, branches_by, branches_with, moved_with, phase_with, bookmark_with, behind_word, to_answer, to_do, do_mark, do_unmark, to_generate, seed_of, count_of, verify_by, verify_with, request_of, request_named, alone_named, about_named, is_session, page_named, request_of_words};
 ghost use Rattle.hgs_top.specs.declared.operands.Operand.TheVariants as operand_kinds;
 
 use crate::operands::{
-    Operand, Rest, behind_word, count_of, jobs_of, no_operand, one_operand, seed_of, two_operands,
+    Operand, Rest, behind_word, count_of, jobs_of, no_operand, one_operand, seed_of, steps_of,
+    two_operands,
 };
 use crate::orders::Order;
 use crate::pages::Page;
@@ -28,6 +29,8 @@ pub enum Command<'a> {
     Phase { rev: &'a [u8] },
     /// The members of the set with this text.
     Set { text: &'a [u8] },
+    /// The heads of each branch, for which so many changesets are taken at a time, all at once without a number.
+    Branches { steps: Option<u32> },
 }
 
 /// What the words ask for.
@@ -91,6 +94,39 @@ fn set_from(rest: Rest<'_>) -> Result<Asked<'_>, usize>
     match one_operand(rest, Operand::Any) {
         Ok(text) => Ok(Asked::Question(Command::Set { text })),
         Err(place) => Err(place),
+    }
+}
+
+// `branches` with the words behind its option.
+fn steps_from(words: &[String]) -> Result<Asked<'_>, usize>
+    requires { 2 + length words.now < 2 ^ 64 }
+    ensures asked { result_map_both request_of (λ place. place) result ≡ branches_by (map string_bytes words.now) }
+    ensures fitting { IfOk result IsFitting }
+{
+    match words {
+        [] => Err(2),
+        [word, behind @ ..] => match steps_of(word.as_bytes()) {
+            Some(steps) => alone(
+                Asked::Question(Command::Branches { steps: Some(steps) }),
+                Rest::at(3, behind),
+            ),
+            None => Err(2),
+        },
+    }
+}
+
+// `branches` with its option.
+fn branches_from(words: &[String]) -> Result<Asked<'_>, usize>
+    requires { 2 + length words.now < 2 ^ 64 }
+    ensures asked { result_map_both request_of (λ place. place) result ≡ branches_with (behind_word (codes "--steps") (map string_bytes words.now)) (map string_bytes words.now) }
+    ensures fitting { IfOk result IsFitting }
+{
+    match behind_word(words, b"--steps") {
+        Some(behind) => steps_from(behind),
+        None => alone(
+            Asked::Question(Command::Branches { steps: None }),
+            Rest::at(1, words),
+        ),
     }
 }
 
@@ -255,6 +291,9 @@ fn about_named<'a>(name: &String, words: &'a [String]) -> Result<Asked<'a>, usiz
     }
     if equal(name, b"revset") {
         return set_from(Rest::at(1, words));
+    }
+    if equal(name, b"branches") {
+        return branches_from(words);
     }
     if equal(name, b"phase") {
         return phase_from(words);

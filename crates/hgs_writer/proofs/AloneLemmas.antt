@@ -50,7 +50,7 @@ use Rattle.hgs_writer.specs.Planning.{ComesTo, IsNotPlannedFor, IsPlannedFor, ha
 use Rattle.hgs_writer.specs.Written.{IsCarriedOut, IsWritten, is_carried_out, is_not_planned, is_turned_away}
 use Rattle.hgs_writer.specs.declared.plan.Planned.{Planned}
 use Rattle.hgs_writer.specs.Below.{Below}
-use Rattle.hgs_writer.proofs.CommitLemmas.{IsFit, IsStepFor, IsTold, commit-fault, commit-step, has-under-locks, valid-fit}
+use Rattle.hgs_writer.proofs.CommitLemmas.{IsFit, IsStepFor, IsTold, commit-fault, commit-step, has-under-locks, import-fault, import-step, valid-fit}
 
 -- ---- what is done, as pieces
 
@@ -149,9 +149,9 @@ step-for u r command step_is a ready e is =
 
 module _ (laws : Below) where
   -- a step that is planned is the one that the repository makes
-  pub planned-step : (u : Tree) (r : Repo) (l : Loaded) (command : Command) (step_is : Step) → IsFit command → Stands u r → IsLoadedOf u l → ComesTo u l command (Ok step_is) → IsStepFor u r command step_is
+  pub planned-step : (u : Tree) (r : Repo) (l : Loaded) (command : Command) (step_is : Step) → IsFit u r command → Stands u r → IsLoadedOf u l → ComesTo u l command (Ok step_is) → IsStepFor u r command step_is
   planned-step u r l (Commit n) step_is fit s is comes = commit-step laws u r l n s is fit step_is comes.0
-  planned-step u r l (Import changes) step_is fit s is comes = absurd comes
+  planned-step u r l (Import changes) step_is fit s is comes = import-step laws u r l changes s is fit step_is comes
   planned-step u r l (Move name to force) step_is fit s is comes = step-for u r (Move name to force) step_is (planned l (move_of l name to force)) (λ next. tt) comes (laws.moved u r l name to force s is)
   planned-step u r l (Mark mark name) step_is fit s is comes = step-for u r (Mark mark name) step_is (planned l (mark_of l mark name)) (λ next. tt) comes (laws.marked u r l mark name s is)
   planned-step u r l (Unmark mark) step_is fit s is comes = step-for u r (Unmark mark) step_is (planned l (unmark_of l mark)) (λ next. tt) comes (laws.unmarked u r l mark s is)
@@ -162,19 +162,26 @@ module _ (laws : Below) where
       hindered-answered (IsTold laws u r l n s is fit a.0) u r n a.0 fault (step r (Commit n)) v a.1 after
 
   -- what is refused leaves the repository as it was
-  refused-answered : (u : Tree) (r : Repo) (l : Loaded) (command : Command) (fault : PlanFault) (v : Tree) → IsFit command → Stands u r → IsLoadedOf u l → ComesTo u l command (Err (commits.Refused fault)) → Stands v r → IsAnswered r (step r command) (outcome_of_plan fault) v
+  refused-answered : (u : Tree) (r : Repo) (l : Loaded) (command : Command) (fault : PlanFault) (v : Tree) → IsFit u r command → Stands u r → IsLoadedOf u l → ComesTo u l command (Err (commits.Refused fault)) → Stands v r → IsAnswered r (step r command) (outcome_of_plan fault) v
   refused-answered u r l (Commit n) plans.Memory v fit s is comes after = after
   refused-answered u r l (Commit n) (plans.Refused e) v fit s is comes after = commit-answered u r l n (plans.Refused e) v refl fit s is comes.0 after
   refused-answered u r l (Commit n) (plans.Limit w) v fit s is comes after = commit-answered u r l n (plans.Limit w) v refl fit s is comes.0 after
   refused-answered u r l (Commit n) (plans.NameClash p) v fit s is comes after = commit-answered u r l n (plans.NameClash p) v refl fit s is comes.0 after
   refused-answered u r l (Commit n) (plans.InTheWay p) v fit s is comes after = commit-answered u r l n (plans.InTheWay p) v refl fit s is comes.0 after
   refused-answered u r l (Commit n) (plans.Collision p rev) v fit s is comes after = commit-answered u r l n (plans.Collision p rev) v refl fit s is comes.0 after
-  refused-answered u r l (Import changes) fault v fit s is comes after = absurd comes
+  refused-answered u r l (Import changes) (plans.Refused e) v fit s is comes after =
+      let refused = laws.refused u r changes e (import-fault laws u r l changes s is fit (commits.Refused (plans.Refused e)) refl comes) in
+      subst (λ stepped. IsAnswered r stepped (outcome_of_plan (plans.Refused e)) v) (sym refused) (refusal-answered r e v after)
+  refused-answered u r l (Import changes) (plans.Limit w) v fit s is comes after = after
+  refused-answered u r l (Import changes) (plans.NameClash p) v fit s is comes after = after
+  refused-answered u r l (Import changes) (plans.InTheWay p) v fit s is comes after = after
+  refused-answered u r l (Import changes) (plans.Collision p rev) v fit s is comes after = after
+  refused-answered u r l (Import changes) plans.Memory v fit s is comes after = after
   refused-answered u r l (Move name to force) fault v fit s is comes after = given-answered u r (Move name to force) fault (step r (Move name to force)) (planned l (move_of l name to force)) v comes (laws.moved u r l name to force s is) after
   refused-answered u r l (Mark mark name) fault v fit s is comes after = given-answered u r (Mark mark name) fault (step r (Mark mark name)) (planned l (mark_of l mark name)) v comes (laws.marked u r l mark name s is) after
   refused-answered u r l (Unmark mark) fault v fit s is comes after = given-answered u r (Unmark mark) fault (step r (Unmark mark)) (planned l (unmark_of l mark)) v comes (laws.unmarked u r l mark s is) after
 
-  not-planned-answered : (u : Tree) (r : Repo) (command : Command) (fault : CommitFault) (v : Tree) → IsFit command → Stands u r → IsNotPlannedFor command u fault → Stands v r → IsAnswered r (step r command) (outcome_of_commit fault) v
+  not-planned-answered : (u : Tree) (r : Repo) (command : Command) (fault : CommitFault) (v : Tree) → IsFit u r command → Stands u r → IsNotPlannedFor command u fault → Stands v r → IsAnswered r (step r command) (outcome_of_commit fault) v
   not-planned-answered u r command _ v fit s (is_unread e m) after = read-answered r (step r command) e v after
   not-planned-answered u r command _ v fit s has_no_memory after = after
   not-planned-answered u r command _ v fit s (is_refused read l fault was from is comes) after = by fault comes
@@ -239,7 +246,7 @@ module _ (laws : Below) where
       let after = nothing-or-piece t r (step r command) done s (laws.turned_away t r who why answer.swept done turned) in
       (subst (λ o. IsAnswered r (step r command) o (after_all done t)) (sym outcome) (lock-answered t r who why answer.swept done (step r command) (after_all done t) s turned after.0), after.1)
 
-  not-planned-leaves : (t : Tree) (r : Repo) (command : Command) (who : List ℕ) (answer : Answer) (fault : CommitFault) (locking releasing : List Op) → Stands t r → IsFit command → AreLocked who t locking → IsNotPlannedFor command (after_all locking t) fault
+  not-planned-leaves : (t : Tree) (r : Repo) (command : Command) (who : List ℕ) (answer : Answer) (fault : CommitFault) (locking releasing : List Op) → Stands t r → IsFit (after_all locking t) r command → AreLocked who t locking → IsNotPlannedFor command (after_all locking t) fault
       → AreRemoved lock_removals answer.swept releasing → answer.outcome ≡ outcome_of_commit fault → LeavesAs t r command answer (locking ++ releasing)
   not-planned-leaves t r command who answer fault locking releasing s fit locks plans removed outcome =
       let piece = laws.released t r who answer.swept locking releasing locks removed in
@@ -251,13 +258,13 @@ module _ (laws : Below) where
   carried-leaves : (t : Tree) (r : Repo) (command : Command) (who : List ℕ) (answer : Answer) (planned : Planned) (locking carrying : List Op) → Stands t r → IsValid command → HasWhatItNeeds t r command → AreLocked who t locking → IsPlannedFor command (after_all locking t) planned
       → IsCarriedOut (after_all locking t) planned answer carrying → LeavesAs t r command answer (locking ++ carrying)
   carried-leaves t r command who answer planned locking carrying s valid has locks plan c =
-      let made = planned-step (after_all locking t) r plan.loaded command plan.step (valid-fit command valid) (laws.stands t r who locking locks s) plan.is_loaded plan.comes in
+      let made = planned-step (after_all locking t) r plan.loaded command plan.step (valid-fit (after_all locking t) r command valid (has-under-locks laws t who locking locks r command has)) (laws.stands t r who locking locks s) plan.is_loaded plan.comes in
       carried t r command made.next who plan.step.parts planned answer locking carrying s valid made.accepted (made.ready (has-under-locks laws t who locking locks r command has)) made.as_step.parts plan.plan (plan.rev ∙ made.as_step.rev) (ap (λ n. n.0) plan.node ∙ made.as_step.node) locks c
 
   pub written : (t : Tree) (r : Repo) (command : Command) (who : List ℕ) (answer : Answer) (done : List Op) → Stands t r → IsValid command → HasWhatItNeeds t r command → IsWritten who command t answer done → LeavesAs t r command answer done
   written t r command who answer done s valid has (is_turned_away why turned outcome) = turned-away-leaves t r command who answer done why s turned outcome
   written t r command who answer done s valid has (is_not_planned fault locking releasing locks plans removed outcome whole) =
-      subst (LeavesAs t r command answer) (sym whole) (not-planned-leaves t r command who answer fault locking releasing s (valid-fit command valid) locks plans removed outcome)
+      subst (LeavesAs t r command answer) (sym whole) (not-planned-leaves t r command who answer fault locking releasing s (valid-fit (after_all locking t) r command valid (has-under-locks laws t who locking locks r command has)) locks plans removed outcome)
   written t r command who answer done s valid has (is_carried_out made locking carrying locks plan c whole) =
       subst (LeavesAs t r command answer) (sym whole) (carried-leaves t r command who answer made locking carrying s valid has locks plan c)
 

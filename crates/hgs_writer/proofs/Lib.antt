@@ -42,6 +42,11 @@ pub mod MetLemmas
 pub mod CommitRefusalLemmas
 pub mod PushedLemmas
 pub mod PartsLemmas
+pub mod LayingLemmas
+pub mod FollowLemmas
+pub mod ImportPartsLemmas
+pub mod ImportsAgree
+pub mod AsideLemmas
 pub mod NextLemmas
 pub mod ReplacedLemmas
 pub mod CommitStepLemmas
@@ -66,3 +71,12 @@ pub mod Refused
 pub mod Planned
 pub mod Written
 pub mod Resting
+pub mod LaysLemmas
+pub mod OwnedLoops
+pub mod OverLemmas
+pub mod RecordsLaid
+pub mod JoinedLemmas
+pub mod ShapeLemmas
+pub mod ImportLemmas
+pub mod PathSets
+pub mod JoinLemmas

@@ -1,9 +1,8 @@
 -- What a command comes to over files that stand for a repository, within the limits.
-use Rattle.std.proofs.Common.{◌≡◌, ◌≤◌, ℕ, List, [], Bool, false, inl, inr, refl, sym, ap, subst}
-use Rattle.std.specs.Prelude.{Option, Result, Ok, Err, ⊤, length, unwrap_or}
+use Rattle.std.proofs.Common.{◌≡◌, ℕ, List, [], ◌∷◌, Bool, false, inl, inr, refl, sym, subst}
+use Rattle.std.specs.Prelude.{IsOk, Option, Result, Ok, Err, ⊤}
 use Rattle.std.specs.Bool.{MatchBool}
 use Rattle.hgs_answers.specs.declared.answer.Answer.{Answer}
-use Rattle.hgs_bytes.specs.Bytes.{same}
 use Rattle.hgs_commit.specs.Commit.{Steps}
 use Rattle.hgs_commit.specs.declared.fault.CommitFault.{CommitFault}
 use Rattle.hgs_commit.specs.declared.fault.CommitFault.TheVariants as commits
@@ -12,9 +11,9 @@ use Rattle.hgs_files.specs.Tree.{Tree, after_all}
 use Rattle.hgs_index.specs.declared.kinds.Which.{Which}
 use Rattle.hgs_index.specs.declared.kinds.Which.TheVariants.{Bookmarks, Inline}
 use Rattle.hgs_index.specs.declared.node.Node.{Node}
-use Rattle.hgs_index.specs.Either.{chunks_either}
 use Rattle.hgs_loading.specs.Store.{Loaded as Read, loaded_in}
-use Rattle.hgs_machine.specs.Locks.{AreLocked, IsTurnedAway}
+use Rattle.hgs_machine.specs.Locks.{IsTurnedAway}
+use Rattle.hgs_ops.specs.Laid.{laid}
 use Rattle.hgs_machine.specs.declared.ended.Short.{Short}
 use Rattle.hgs_machine.specs.declared.ended.Short.TheVariants as shorts
 use Rattle.hgs_machine.specs.declared.locks.LockRefusal.{LockRefusal}
@@ -27,15 +26,9 @@ use Rattle.hgs_model.specs.declared.command.Command.TheVariants.{Commit, Import,
 use Rattle.hgs_model.specs.declared.command.NewChange.{NewChange}
 use Rattle.hgs_model.specs.declared.command.Refusal.{Refusal}
 use Rattle.hgs_model.specs.declared.command.Refusal.TheVariants as refusals
-use Rattle.hgs_ops.specs.Operations.{lock_path, wlock_path}
 use Rattle.hgs_load.specs.declared.answer.ReadAnswer.{ReadAnswer}
 use Rattle.hgs_load.specs.declared.answer.ReadAnswer.TheVariants as reads
 use Rattle.hgs_load.specs.Answer.{is_of_outside}
-use Rattle.hgs_revlog.specs.Held.{AreWithinLimits}
-use Rattle.hgs_model.specs.History.{history}
-use Rattle.hgs_stands.specs.Places.{bookmarks_path, changelog_data, changelog_index, dirstate_path, fncache_path, manifest_data, manifest_index, roots_path}
-use Rattle.hgs_load.specs.Open.{most_bookmarks_text, most_dirstate, most_roots}
-use Rattle.hgs_loading.specs.Small.{most_fncache}
 use Rattle.hgs_stands.specs.Stands.{Stands, has_inline_log}
 use Rattle.hgs_steps.specs.Fault.{is_memory}
 use Rattle.hgs_writer.specs.Commits.{AnswersWith}
@@ -45,31 +38,18 @@ use Rattle.hgs_steps.specs.declared.loaded.Loaded.{Loaded}
 use Rattle.hgs_steps.specs.declared.fault.PlanFault.{PlanFault}
 use Rattle.hgs_steps.specs.declared.fault.PlanFault.TheVariants as plans
 use Rattle.hgs_steps.specs.declared.step.Step.{Step}
-use Rattle.hgs_writer.specs.Alone.{IsOutcomeOf, IsPassed, PassesLimit, ReadsWithin}
+use Rattle.hgs_writer.specs.Alone.{IsOutcomeOf, IsPassed, LacksRoom, PassesLimit, ReadsWithin, SomeLacksRoom}
 use Rattle.hgs_writer.specs.Below.{Below}
+use Rattle.hgs_writer.specs.Commits.{Hinders}
+use Rattle.hgs_writer.specs.Free.{IsFree}
+use Rattle.hgs_writer.specs.Imports.{AreReadWithin, ComesToNothing, IsKeptBy, SomeRecord}
+use Rattle.hgs_writer.specs.Records.{ImportComesTo}
 use Rattle.hgs_writer.specs.Limits.{LoadsWithin}
 use Rattle.hgs_writer.specs.Outcomes.{outcome_of_commit, outcome_of_ended, outcome_of_lock, outcome_of_plan, outcome_of_read}
 use Rattle.hgs_writer.specs.Planning.{ComesTo, IsNotPlannedFor, has_no_memory, is_refused, is_unread}
 use Rattle.hgs_writer.specs.Written.{IsWritten, is_carried_out, is_not_planned, is_turned_away}
 use Rattle.hgs_writer.proofs.AloneLemmas.{planned-step}
-use Rattle.hgs_writer.proofs.CommitLemmas.{IsTold, commit-fault, commit-read, outcome-before, reads-fit, reads-under-locks}
-
--- ---- under the locks
-
-abbrev pub FilesLaw : Type 0
-FilesLaw = (t : Tree) (who : List ℕ) (locking : List Op) (path : List ℕ) → AreLocked who t locking → same path wlock_path ≡ false → same path lock_path ≡ false → after_all locking t path ≡ t path
-
-within-locks : FilesLaw → (t : Tree) (r : Repo) (who : List ℕ) (locking : List Op) → AreLocked who t locking → LoadsWithin t r → LoadsWithin (after_all locking t) r
-within-locks files t r who locking locks within =
-    let at = λ (path : List ℕ) (w : same path wlock_path ≡ false) (l : same path lock_path ≡ false). ap (λ (o : Option (List ℕ)). unwrap_or o []) (sym (files t who locking path locks w l)) in
-    record {
-      bookmarks = subst (λ (b : List ℕ). length b ≤ most_bookmarks_text) (at bookmarks_path refl refl) within.bookmarks;
-      dirstate = subst (λ (b : List ℕ). length b ≤ most_dirstate) (at dirstate_path refl refl) within.dirstate;
-      roots = subst (λ (b : List ℕ). length b ≤ most_roots) (at roots_path refl refl) within.roots;
-      fncache = subst (λ (b : List ℕ). length b ≤ most_fncache) (at fncache_path refl refl) within.fncache;
-      changelog = subst (AreWithinLimits (history r.changesets).changelog) (λ i. chunks_either (at changelog_index refl refl i) (at changelog_data refl refl i)) within.changelog;
-      manifest = subst (AreWithinLimits (history r.changesets).manifest) (λ i. chunks_either (at manifest_index refl refl i) (at manifest_data refl refl i)) within.manifest;
-    }
+use Rattle.hgs_writer.proofs.CommitLemmas.{IsFit, IsTold, commit-fault, commit-read, import-fault, loads-under-locks, outcome-before, reads-fit, reads-under-locks}
 
 -- ---- refusals
 
@@ -107,6 +87,32 @@ hindered-outcome IsTold u r n clash (plans.InTheWay p) (Ok next) is = is
 hindered-outcome IsTold u r n clash (plans.Collision p rev) (Ok next) is = is
 hindered-outcome IsTold u r n clash plans.Memory (Ok next) is = absurd is
 
+-- ---- records
+
+-- a record that is accepted has met what keeps it from being written
+kept-lacks : (u : Tree) (r : Repo) (fault : PlanFault) (stepped : Result Next Refusal) → ((e : Refusal) → fault ≡ plans.Refused e → ⊥) → ((HasRoom : Type 0) (clash : Option (List ℕ)) → Hinders HasRoom clash fault → HasRoom → ⊥) → IsKeptBy u r fault stepped → LacksRoom u r stepped
+kept-lacks u r fault (Err e) other hinders kept = absurd (other e kept)
+kept-lacks u r fault (Ok next) other hinders kept = hinders (IsFree u r next.0) kept.0 kept.1
+
+kept-accepted : (u : Tree) (r : Repo) (fault : PlanFault) (stepped : Result Next Refusal) → ((e : Refusal) → fault ≡ plans.Refused e → ⊥) → IsKeptBy u r fault stepped → IsOk stepped
+kept-accepted u r fault (Err e) other kept = absurd (other e kept)
+kept-accepted u r fault (Ok next) other kept = refl
+
+some-map : (P Q : Tree → Repo → NewChange → Type 0) → ((u : Tree) (r : Repo) (n : NewChange) → P u r n → Q u r n) → (u : Tree) (r : Repo) (changes : List NewChange) → SomeRecord P u r changes → SomeRecord Q u r changes
+some-map P Q each u r [] some = absurd some
+some-map P Q each u r (n ∷ changes) (inl is) = inl (each u r n is)
+some-map P Q each u r (n ∷ changes) (inr (next, e, some)) = inr (next, e, some-map P Q each (after_all (laid u r n next.0) u) next.0 changes some)
+
+some-lacks : (u : Tree) (r : Repo) (changes : List NewChange) (fault : PlanFault) → ((e : Refusal) → fault ≡ plans.Refused e → ⊥) → ((HasRoom : Type 0) (clash : Option (List ℕ)) → Hinders HasRoom clash fault → HasRoom → ⊥) → SomeRecord (ComesToNothing (commits.Refused fault)) u r changes → SomeLacksRoom u r changes
+some-lacks u r changes fault other hinders some = some-map (ComesToNothing (commits.Refused fault)) (λ v now n. LacksRoom v now (step now (Commit n))) (λ v now n kept. kept-lacks v now fault (step now (Commit n)) other hinders kept) u r changes some
+
+-- the records of which all is read within the limits are read
+none-unread : {A : Type 0} (u : Tree) (r : Repo) (changes : List NewChange) (e : ReadAnswer) → AreReadWithin u r changes → SomeRecord (ComesToNothing (commits.Unread e)) u r changes → A
+none-unread u r [] e within some = absurd some
+none-unread u r (n ∷ changes) e within (inl (inl limit)) = absurd (limit.1 within.1)
+none-unread u r (n ∷ changes) e within (inl (inr unloaded)) = absurd (unloaded.1 within.0)
+none-unread u r (n ∷ changes) e within (inr (next, is, some)) = none-unread (after_all (laid u r n next.0) u) next.0 changes e (within.2 next is).1 some
+
 -- what is read is not refused
 not-refused : {A : Type 0} (t : Tree) (read : Read) (e : ReadAnswer) → loaded_in t ≡ Ok read → loaded_in t ≡ Err e → A
 not-refused t read e is refused = cc
@@ -126,7 +132,7 @@ ended-outcome t r command next few separate rev node shorts.Fault = tt
 ended-outcome t r command next few separate rev node (shorts.Unfinished published) = ((next, refl, few), separate)
 ended-outcome t r command next few separate rev node shorts.Memory = tt
 
-module _ (laws : Below) (files : FilesLaw) (reads_of : (t : Tree) (r : Repo) → Stands t r → LoadsWithin t r → (read : Read) × (loaded_in t ≡ Ok read)) where
+module _ (laws : Below) (reads_of : (t : Tree) (r : Repo) → Stands t r → LoadsWithin t r → (read : Read) × (loaded_in t ≡ Ok read)) where
   lock-outcome : (t : Tree) (r : Repo) (command : Command) (who : List ℕ) (why : LockRefusal) (swept : Bool) (log : List Op) (stepped : Result Next Refusal) → Stands t r → IsTurnedAway who t why swept log → IsOutcomeOf t r command stepped (outcome_of_lock why)
   lock-outcome t r command who (locked.Held holder) swept log stepped s turned = tt
   lock-outcome t r command who locked.Abandoned swept log stepped s turned = absurd (laws.abandoned t who swept log s.no_journal turned)
@@ -148,6 +154,27 @@ module _ (laws : Below) (files : FilesLaw) (reads_of : (t : Tree) (r : Repo) →
   unread-outcome u r l n (reads.Requirement w) within s is comes = tt
   unread-outcome u r l n reads.Memory within s is comes = tt
 
+  import-outcome : (u : Tree) (r : Repo) (l : Loaded) (changes : List NewChange) (fault : PlanFault) → IsFit u r (Import changes) → Stands u r → IsLoadedOf u l → ImportComesTo u l changes (Err (commits.Refused fault)) → IsOutcomeOf u r (Import changes) (step r (Import changes)) (outcome_of_plan fault)
+  import-outcome u r l changes plans.Memory fit s is comes = tt
+  import-outcome u r l changes (plans.Refused e) fit s is comes =
+      let refused = laws.refused u r changes e (import-fault laws u r l changes s is fit (commits.Refused (plans.Refused e)) refl comes) in
+      subst (λ stepped. IsOutcomeOf u r (Import changes) stepped (outcome_of_plan (plans.Refused e))) (sym refused) (refusal-outcome u r (Import changes) e)
+  import-outcome u r l changes (plans.Limit w) fit s is comes = some-lacks u r changes (plans.Limit w) (λ e k. cc) (λ HasRoom clash hinders. hinders) (import-fault laws u r l changes s is fit (commits.Refused (plans.Limit w)) refl comes)
+  import-outcome u r l changes (plans.NameClash p) fit s is comes =
+      some-map (ComesToNothing (commits.Refused (plans.NameClash p))) (λ v now n. IsOk (step now (Commit n))) (λ v now n kept. kept-accepted v now (plans.NameClash p) (step now (Commit n)) (λ e k. cc) kept) u r changes (import-fault laws u r l changes s is fit (commits.Refused (plans.NameClash p)) refl comes)
+  import-outcome u r l changes (plans.InTheWay p) fit s is comes = some-lacks u r changes (plans.InTheWay p) (λ e k. cc) (λ HasRoom clash hinders. hinders) (import-fault laws u r l changes s is fit (commits.Refused (plans.InTheWay p)) refl comes)
+  import-outcome u r l changes (plans.Collision p rev) fit s is comes = some-lacks u r changes (plans.Collision p rev) (λ e k. cc) (λ HasRoom clash hinders. hinders) (import-fault laws u r l changes s is fit (commits.Refused (plans.Collision p rev)) refl comes)
+
+  -- nor is what is read for an import
+  unread-import : (u : Tree) (r : Repo) (l : Loaded) (changes : List NewChange) (e : ReadAnswer) → ReadsWithin u r (Import changes) → Stands u r → IsLoadedOf u l → ImportComesTo u l changes (Err (commits.Unread e)) → IsOutcomeOf u r (Import changes) (step r (Import changes)) (outcome_of_read e)
+  unread-import u r l changes (reads.Damaged d) within s is comes = none-unread u r changes (reads.Damaged d) within.1 (import-fault laws u r l changes s is (reads-fit u r (Import changes) within) (commits.Unread (reads.Damaged d)) refl comes)
+  unread-import u r l changes reads.Fault within s is comes = tt
+  unread-import u r l changes (reads.Limit w) within s is comes = none-unread u r changes (reads.Limit w) within.1 (import-fault laws u r l changes s is (reads-fit u r (Import changes) within) (commits.Unread (reads.Limit w)) refl comes)
+  unread-import u r l changes reads.UnknownPath within s is comes = tt
+  unread-import u r l changes reads.NotARepository within s is comes = tt
+  unread-import u r l changes (reads.Requirement w) within s is comes = tt
+  unread-import u r l changes reads.Memory within s is comes = tt
+
   refused-outcome : (u : Tree) (r : Repo) (l : Loaded) (command : Command) (fault : PlanFault) → ReadsWithin u r command → Stands u r → IsLoadedOf u l → ComesTo u l command (Err (commits.Refused fault)) → IsOutcomeOf u r command (step r command) (outcome_of_plan fault)
   refused-outcome u r l (Commit n) plans.Memory within s is comes = tt
   refused-outcome u r l (Commit n) (plans.Refused e) within s is comes = commit-outcome u r l n (plans.Refused e) refl within.0 s is comes.0
@@ -155,7 +182,7 @@ module _ (laws : Below) (files : FilesLaw) (reads_of : (t : Tree) (r : Repo) →
   refused-outcome u r l (Commit n) (plans.NameClash p) within s is comes = commit-outcome u r l n (plans.NameClash p) refl within.0 s is comes.0
   refused-outcome u r l (Commit n) (plans.InTheWay p) within s is comes = commit-outcome u r l n (plans.InTheWay p) refl within.0 s is comes.0
   refused-outcome u r l (Commit n) (plans.Collision p rev) within s is comes = commit-outcome u r l n (plans.Collision p rev) refl within.0 s is comes.0
-  refused-outcome u r l (Import changes) fault within s is comes = absurd comes
+  refused-outcome u r l (Import changes) fault within s is comes = import-outcome u r l changes fault (reads-fit u r (Import changes) within) s is comes
   refused-outcome u r l (Move name to force) fault within s is comes = given-outcome u r (Move name to force) fault (step r (Move name to force)) (planned l (move_of l name to force)) (λ which next e. e) comes (laws.moved u r l name to force s is)
   refused-outcome u r l (Mark mark name) fault within s is comes = given-outcome u r (Mark mark name) fault (step r (Mark mark name)) (planned l (mark_of l mark name)) (λ which next e. e) comes (laws.marked u r l mark name s is)
   refused-outcome u r l (Unmark mark) fault within s is comes = given-outcome u r (Unmark mark) fault (step r (Unmark mark)) (planned l (unmark_of l mark)) (λ which next e. e) comes (laws.unmarked u r l mark s is)
@@ -164,7 +191,7 @@ module _ (laws : Below) (files : FilesLaw) (reads_of : (t : Tree) (r : Repo) →
   fault-comes : (u : Tree) (r : Repo) (l : Loaded) (command : Command) (fault : CommitFault) → ReadsWithin u r command → Stands u r → IsLoadedOf u l → ComesTo u l command (Err fault) → IsOutcomeOf u r command (step r command) (outcome_of_commit fault)
   fault-comes u r l command (commits.Refused f) within s is comes = refused-outcome u r l command f within s is comes
   fault-comes u r l (Commit n) (commits.Unread e) within s is comes = unread-outcome u r l n e within s is comes.0
-  fault-comes u r l (Import changes) (commits.Unread e) within s is comes = absurd comes
+  fault-comes u r l (Import changes) (commits.Unread e) within s is comes = unread-import u r l changes e within s is comes
   fault-comes u r l (Move name to force) (commits.Unread e) within s is comes = absurd comes
   fault-comes u r l (Mark mark name) (commits.Unread e) within s is comes = absurd comes
   fault-comes u r l (Unmark mark) (commits.Unread e) within s is comes = absurd comes
@@ -180,8 +207,8 @@ module _ (laws : Below) (files : FilesLaw) (reads_of : (t : Tree) (r : Repo) →
   outcome-of t r command who answer done s within reads_within (is_not_planned fault locking releasing locks plan removed outcome whole) =
       let u = after_all locking t in
       let stands = laws.stands t r who locking locks s in
-      let read = reads_of u r stands (within-locks files t r who locking locks within) in
+      let read = reads_of u r stands (loads-under-locks laws t who locking locks r within) in
       subst (IsOutcomeOf t r command (step r command)) (sym outcome) (outcome-before laws t who locking locks r command (step r command) (outcome_of_commit fault) (not-planned-outcome u r command fault read.0 (reads-under-locks laws t who locking locks r command reads_within) stands read.1 plan))
   outcome-of t r command who answer done s within reads_within (is_carried_out planned locking carrying locks plan c whole) =
-      let made = planned-step laws (after_all locking t) r plan.loaded command plan.step (reads-fit t r command reads_within) (laws.stands t r who locking locks s) plan.is_loaded plan.comes in
+      let made = planned-step laws (after_all locking t) r plan.loaded command plan.step (reads-fit (after_all locking t) r command (reads-under-locks laws t who locking locks r command reads_within)) (laws.stands t r who locking locks s) plan.is_loaded plan.comes in
       subst (IsOutcomeOf t r command (step r command)) (sym c.outcome) (subst (λ x. IsOutcomeOf t r command x (outcome_of_ended c.ended planned.rev planned.node)) (sym made.accepted) (outcome-before laws t who locking locks r command (Ok made.next) (outcome_of_ended c.ended planned.rev planned.node) (ended-outcome (after_all locking t) r command made.next made.as_step.few made.as_step.separate planned.rev planned.node c.ended)))

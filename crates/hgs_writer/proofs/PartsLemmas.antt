@@ -20,19 +20,19 @@ use Rattle.hgs_writer.proofs.Basics.{never}
 
 -- ---- lists of changes
 
-replacings-join : (xs ys : List Change) → replacings_of (xs ++ ys) ≡ replacings_of xs ++ replacings_of ys
+pub replacings-join : (xs ys : List Change) → replacings_of (xs ++ ys) ≡ replacings_of xs ++ replacings_of ys
 replacings-join [] ys = refl
 replacings-join (Append a ∷ xs) ys = replacings-join xs ys
 replacings-join (Replace x ∷ xs) ys = ap (λ l. x ∷ l) (replacings-join xs ys)
 replacings-join (MakeIndex bytes ∷ xs) ys = replacings-join xs ys
 replacings-join (RenameIndex before ∷ xs) ys = replacings-join xs ys
 
-replacings-back : (xs : List Replacing) → replacings_of (map (λ x. Replace x) xs) ≡ xs
+pub replacings-back : (xs : List Replacing) → replacings_of (map (λ x. Replace x) xs) ≡ xs
 replacings-back [] = refl
 replacings-back (x ∷ xs) = ap (λ l. x ∷ l) (replacings-back xs)
 
 -- changes that are appends replace nothing
-none-replaced : (xs : List Change) → list_all is_append (map change_op xs) ≡ true → replacings_of xs ≡ []
+pub none-replaced : (xs : List Change) → list_all is_append (map change_op xs) ≡ true → replacings_of xs ≡ []
 none-replaced [] e = refl
 none-replaced (Append a ∷ xs) e = none-replaced xs e
 none-replaced (Replace x ∷ xs) e = never (sym e)

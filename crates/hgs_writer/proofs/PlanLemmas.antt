@@ -6,12 +6,13 @@ use Rattle.hgs_commit.specs.OfCommit.{ArePartsOfCommit}
 use Rattle.hgs_commit.specs.declared.fault.CommitFault.TheVariants.{Unread}
 use Rattle.hgs_loading.specs.Store.{loaded_in, view_store}
 use Rattle.hgs_model.specs.declared.command.Command.{Command}
-use Rattle.hgs_model.specs.declared.command.Command.TheVariants.{Commit, Mark, Move, Unmark}
+use Rattle.hgs_model.specs.declared.command.Command.TheVariants.{Commit, Import, Mark, Move, Unmark}
 use Rattle.hgs_model.specs.declared.command.NewChange.{NewChange}
 use Rattle.hgs_model.specs.declared.phase.Phase.{Phase}
 use Rattle.hgs_load.specs.Answer.{is_of_outside}
 use Rattle.hgs_load.specs.declared.answer.ReadAnswer.{ReadAnswer}
 use Rattle.hgs_writer.specs.Planning.{ComesTo, GivesStep, Plans, is_unread}
+use Rattle.hgs_writer.specs.Records.{ImportComesTo}
 use Rattle.hgs_commit.specs.declared.fault.CommitFault.{CommitFault}
 use Rattle.hgs_files.specs.declared.op.Op.{Op}
 use Rattle.hgs_files.specs.Tree.{Tree, after_all, bytes_at}
@@ -61,6 +62,9 @@ at-rest alone seen start P Q follows h = λ is. by seen (h is)
 
 pub commit-comes : (t : Tree) (l : Loaded) (command : Command) (n : NewChange) (result : Result Step CommitFault) → command ≡ Commit n → IfOk result (λ step. ArePartsOfCommit l.changelog step.parts) → Steps l n t result → ComesTo t l command result
 commit-comes t l command n result is parts comes = subst (λ (x : Command). ComesTo t l x result) (sym is) (comes, parts)
+
+pub import-comes : (t : Tree) (l : Loaded) (command : Command) (changes given : List NewChange) (result : Result Step CommitFault) → command ≡ Import changes → given ≡ changes → ImportComesTo t l given result → ComesTo t l command result
+import-comes t l command changes given result is same_changes comes = subst (λ (x : Command). ComesTo t l x result) (sym is) (subst (λ x. ImportComesTo t l x result) same_changes comes)
 
 pub move-comes : (t : Tree) (l : Loaded) (command : Command) (name given : List ℕ) (to : Phase) (force : Bool) (result : Result Step CommitFault) → command ≡ Move name to force → given ≡ name → GivesStep result (planned l (move_of l given to force)) → ComesTo t l command result
 move-comes t l command name given to force result is same_name comes = subst (λ (x : Command). ComesTo t l x result) (sym is) (subst (λ (x : List ℕ). GivesStep result (planned l (move_of l x to force))) same_name comes)

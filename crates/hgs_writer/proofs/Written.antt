@@ -46,7 +46,8 @@ use Rattle.hgs_writer.specs.Written.{IsCarriedOut, IsWrittenFor, has_no_plan, ha
 use Rattle.hgs_writer.specs.declared.plan.Planned.{Planned}
 use Rattle.hgs_writer.specs.Turns.{IsAtRest, IsTurnOf, LeadsAs, LeadsOn, Order}
 use Rattle.hgs_writer.proofs.Carried.{Comes, comes}
-use Rattle.hgs_writer.proofs.Planned.{has-under-locks, planned-step}
+use Rattle.hgs_writer.proofs.CommitLemmas.{has-under-locks}
+use Rattle.hgs_writer.proofs.Planned.{planned-step}
 use Rattle.hgs_writer.proofs.PlanLists.{lists-are}
 use Rattle.hgs_writer.proofs.Refused.{released, turned-away}
 use Rattle.hgs_writer.proofs.Runs.{at, from-rest}

@@ -15,6 +15,7 @@ use Rattle.hgs_model.specs.Step.{Next, step}
 use Rattle.hgs_model.specs.Valid.{AreNewChanges, IsNewChange}
 use Rattle.hgs_model.specs.declared.command.Command.{Command}
 use Rattle.hgs_model.specs.declared.command.Command.TheVariants.{Commit, Import}
+use Rattle.hgs_model.specs.declared.command.NewChange.{NewChange}
 use Rattle.hgs_model.specs.declared.command.Refusal.{Refusal}
 use Rattle.hgs_model.specs.declared.command.Refusal.TheVariants as refusals
 use Rattle.hgs_ops.specs.Operations.{strays}
@@ -23,19 +24,20 @@ use Rattle.hgs_stands.specs.Stands.{Stands, has_inline_log}
 use Rattle.hgs_steps.specs.Planned.{passes_limit}
 use Rattle.hgs_writer.specs.Commits.{CanBeRead}
 use Rattle.hgs_writer.specs.Free.{IsFree}
+use Rattle.hgs_writer.specs.Imports.{AreReadWithin, NeedNoTests, SomeRecord}
 use Rattle.hgs_writer.specs.Ready.{NeedsNoTest}
 
--- Where a commit or an import is accepted, the tree has what it needs of it that no test tells. A phase or bookmark command needs nothing.
+-- Where a commit or a record of an import is accepted, the tree has what it needs of it that no test tells. A phase or bookmark command needs nothing.
 abbrev pub HasWhatItNeeds : Tree → Repo → Command → Type 0
 HasWhatItNeeds t r (Commit n) = (next : Next) → step r (Commit n) ≡ Ok next → NeedsNoTest t r next.0
-HasWhatItNeeds t r (Import changes) = (next : Next) → step r (Import changes) ≡ Ok next → NeedsNoTest t r next.0
+HasWhatItNeeds t r (Import changes) = NeedNoTests t r changes
 HasWhatItNeeds t r command = Unit {0}
 
 -- A record can hold the commit, or records the changesets of the import, and the trees and the filelogs that it reads are within the
--- limits. Another command reads no more than what is loaded for each.
+-- limits, of an import for each record. Another command reads no more than what is loaded for each.
 abbrev pub ReadsWithin : Tree → Repo → Command → Type 0
 ReadsWithin t r (Commit n) = IsNewChange n × CanBeRead t r
-ReadsWithin t r (Import changes) = AreNewChanges changes × CanBeRead t r
+ReadsWithin t r (Import changes) = AreNewChanges changes × AreReadWithin t r changes
 ReadsWithin t r command = Unit {0}
 
 -- The command was accepted, the tree stands for the next repository, and its changeset is answered.
@@ -95,20 +97,24 @@ IsAccepted r passes stepped = (next : Next) × (stepped ≡ Ok next) × (passes_
 abbrev pub MayBeWritten : Tree → Repo → Result Next Refusal → Type 0
 MayBeWritten t r stepped = IsAccepted r false stepped × (has_inline_log t ≡ false)
 
--- The repository accepts the commit or the import.
-abbrev pub IsAcceptedCommit : Command → Result Next Refusal → Type 0
-IsAcceptedCommit (Commit n) stepped = IsOk stepped
-IsAcceptedCommit (Import changes) stepped = IsOk stepped
-IsAcceptedCommit command stepped = ⊥
+-- The repository accepts the commit, or a record of the import behind those before it.
+abbrev pub IsAcceptedCommit : Tree → Repo → Command → Result Next Refusal → Type 0
+IsAcceptedCommit t r (Commit n) stepped = IsOk stepped
+IsAcceptedCommit t r (Import changes) stepped = SomeRecord (λ u now n. IsOk (step now (Commit n))) t r changes
+IsAcceptedCommit t r command stepped = ⊥
 
 -- It does, and there is no room for it: a limit would be passed, a file stands in the way, or a node stands already.
 abbrev pub LacksRoom : Tree → Repo → Result Next Refusal → Type 0
 LacksRoom t r (Err e) = ⊥
 LacksRoom t r (Ok next) = IsFree t r next.0 → ⊥
 
+-- Of an import that is so of one of its records.
+abbrev pub SomeLacksRoom : Tree → Repo → List NewChange → Type 0
+SomeLacksRoom t r changes = SomeRecord (λ u now n. LacksRoom u now (step now (Commit n))) t r changes
+
 abbrev pub IsCommitWithoutRoom : Tree → Repo → Command → Result Next Refusal → Type 0
 IsCommitWithoutRoom t r (Commit n) stepped = LacksRoom t r stepped
-IsCommitWithoutRoom t r (Import changes) stepped = LacksRoom t r stepped
+IsCommitWithoutRoom t r (Import changes) stepped = SomeLacksRoom t r changes
 IsCommitWithoutRoom t r command stepped = ⊥
 
 -- The limit is passed: by the bookmarks, or by a changelog or manifest that is inline, to which no writer appends.
@@ -120,7 +126,7 @@ IsPassed t r which stepped =
 -- It is passed for want of room for a commit or an import, or so by another command.
 abbrev pub PassesLimit : Tree → Repo → Command → Which → Result Next Refusal → Type 0
 PassesLimit t r (Commit n) which stepped = LacksRoom t r stepped
-PassesLimit t r (Import changes) which stepped = LacksRoom t r stepped
+PassesLimit t r (Import changes) which stepped = SomeLacksRoom t r changes
 PassesLimit t r command which stepped = IsPassed t r which stepped
 
 -- What a command comes to where the files are within the limits: where the repository accepts it, it is done, or left
@@ -133,7 +139,7 @@ IsOutcomeOf t r command stepped Memory = Unit {0}
 IsOutcomeOf t r command stepped (Done rev node) = MayBeWritten t r stepped
 IsOutcomeOf t r command stepped (Unfinished published) = MayBeWritten t r stepped
 IsOutcomeOf t r command stepped (Limit which) = PassesLimit t r command which stepped
-IsOutcomeOf t r command stepped (NameClash path) = IsAcceptedCommit command stepped
+IsOutcomeOf t r command stepped (NameClash path) = IsAcceptedCommit t r command stepped
 IsOutcomeOf t r command stepped (InTheWay path) = IsCommitWithoutRoom t r command stepped
 IsOutcomeOf t r command stepped (Collision path rev) = IsCommitWithoutRoom t r command stepped
 IsOutcomeOf t r command stepped UnknownRevision = stepped ≡ Err refusals.UnknownRevision

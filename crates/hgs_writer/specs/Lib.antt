@@ -4,6 +4,7 @@ pub mod Below
 pub mod Limits
 pub mod Outcomes
 pub mod Planning
+pub mod Imports
 pub mod Refusals
 pub mod Written
 pub mod CommitsBelow
@@ -18,3 +19,6 @@ pub mod StepsBelow
 pub mod Free
 pub mod Made
 pub mod Turns
+pub mod Joined
+pub mod Records
+pub mod Layered

@@ -1,8 +1,6 @@
 -- What a command is planned to, from the tree that is read under the locks.
-use Rattle.std.specs.Prelude.{◌≡◌, [], length, unwrap_or, Result, Ok, Err, IfOk, ⊤}
+use Rattle.std.specs.Prelude.{◌≡◌, [], length, unwrap_or, Result, Ok, Err, ⊤}
 use Rattle.std.specs.Bool.{MatchBool}
-use Rattle.hgs_commit.specs.Commit.{Steps}
-use Rattle.hgs_commit.specs.OfCommit.{ArePartsOfCommit}
 use Rattle.hgs_commit.specs.declared.fault.CommitFault.{CommitFault}
 use Rattle.hgs_commit.specs.declared.fault.CommitFault.TheVariants.{Unread, Refused}
 use Rattle.hgs_files.specs.Tree.{Tree}
@@ -21,6 +19,7 @@ use Rattle.hgs_steps.specs.declared.fault.PlanFault.TheVariants.{Memory}
 use Rattle.hgs_steps.specs.declared.loaded.Loaded.{Loaded}
 use Rattle.hgs_steps.specs.declared.step.Step.{Step}
 use Rattle.hgs_transaction.specs.Assembled.{IsPlanOf}
+use Rattle.hgs_writer.specs.Records.{CommitComesTo, ImportComesTo}
 use Rattle.hgs_writer.specs.declared.plan.Planned.{Planned}
 
 -- What a command is planned from has what was read.
@@ -42,11 +41,10 @@ GivesStep (Ok step) answer = answer ≡ Ok step
 GivesStep (Err (Unread e)) answer = ⊥
 GivesStep (Err (Refused fault)) answer = MatchBool (is_memory fault) ⊤ (answer ≡ Err fault)
 
--- What a command comes to by what was loaded of a tree; a commit also reads it. The parts of its step have a commit's shape. No
--- import comes to anything, since none can be asked for yet.
+-- What a command comes to by what was loaded of a tree; a commit and an import also read it.
 abbrev pub ComesTo : Tree → Loaded → Command → Result Step CommitFault → Type 0
-ComesTo t l (Commit n) result = Steps l n t result × IfOk result (λ step. ArePartsOfCommit l.changelog step.parts)
-ComesTo t l (Import changes) result = ⊥
+ComesTo t l (Commit n) result = CommitComesTo t l n result
+ComesTo t l (Import changes) result = ImportComesTo t l changes result
 ComesTo t l (Move rev phase force) result = GivesStep result (planned l (move_of l rev phase force))
 ComesTo t l (Mark name rev) result = GivesStep result (planned l (mark_of l name rev))
 ComesTo t l (Unmark name) result = GivesStep result (planned l (unmark_of l name))

@@ -41,6 +41,7 @@ ghost use Rattle.hgs_writer.specs.Written.{IsCarriedOut, IsWritten};
 ghost use Rattle.hgs_writer.specs.declared.plan.Planned.{Planned};
 
 use crate::commit_laws::commits_agree;
+use crate::import_laws::imports_agree;
 use crate::piece_laws::{
     locks_do_not_matter, refusals_are_for_files, refusals_are_pieces, swept_calls_leave_no_locks,
     swept_calls_leave_no_strays, transactions_are_pieces,
@@ -48,6 +49,7 @@ use crate::piece_laws::{
 use hgs_index::laws::held_index_length;
 use hgs_legal::laws::{fronts_are_pieces, pieces_end};
 use hgs_loading::laws::indexes_are_read_whole;
+use hgs_ops::laws::strays_hinder_nothing;
 use hgs_path::laws::filelogs_have_their_own_names;
 use hgs_revlog::laws::{entries_of_revisions, whole_index};
 use hgs_shown::laws::older_parts_stay;
@@ -124,7 +126,6 @@ pub fn calls_come_to_steps()
     ensures { (t : Tree) (r : Repo) (command : Command) (who : List ℕ) (answer : Answer) (done : List Op) → Stands t r → LoadsWithin t r → ReadsWithin t r command → IsWritten who command t answer done → IsOutcomeOf t r command (step r command) answer.outcome }
 {
     standing_trees_are_read();
-    locks_do_not_matter();
     laws_below();
 }
 
@@ -170,5 +171,7 @@ pub(crate) fn laws_below()
     phase_commands_agree();
     bookmark_commands_agree();
     commits_agree();
+    imports_agree();
+    strays_hinder_nothing();
     filelogs_have_their_own_names();
 }

@@ -5,7 +5,11 @@
 pub mod answers;
 pub mod begin;
 pub mod commit_laws;
+pub mod import;
+pub mod import_laws;
+mod joined;
 pub mod laws;
+pub mod loaded;
 pub mod piece_laws;
 pub mod plan;
 pub mod turn_laws;

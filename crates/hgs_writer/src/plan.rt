@@ -14,20 +14,20 @@ ghost use Rattle.hgs_commit.specs.Commit.{AtRest, Steps};
 ghost use Rattle.hgs_commit.specs.OfCommit.{ArePartsOfCommit};
 ghost use Rattle.hgs_writer.specs.Planning.{ComesTo, GivesStep, IsLoadedFrom, Plans};
 
+use crate::import::import;
 use crate::laws::{changelogs_are_counted, commits_are_sound, steps_are_sound, stores_are_loaded};
-use hgs_bytes::bytes::Bytes;
+use crate::loaded::loaded_of;
 use hgs_commit::commit::commit;
 use hgs_commit::fault::CommitFault;
 use hgs_files::files::Reads;
 use hgs_index::node::Node;
-use hgs_loading::small::SmallFiles;
-use hgs_loading::store::{LoadedStore, history};
+use hgs_loading::store::history;
 use hgs_machine::laws::plans_can_be_carried_out;
 use hgs_model::command::{Command, NewChange};
 use hgs_model::phase::Phase;
 use hgs_steps::commands::{mark, move_phase, unmark};
 use hgs_steps::fault::PlanFault;
-use hgs_steps::loaded::{Loaded, Standing};
+use hgs_steps::loaded::Loaded;
 use hgs_steps::step::Step;
 use hgs_transaction::assemble::{Plan, assemble};
 use std::alloc::Global;
@@ -38,53 +38,6 @@ pub struct Planned {
     pub plan: Plan,
     pub rev: u32,
     pub node: Node,
-}
-
-// How many bytes were read.
-fn length_of(bytes: &Option<Bytes>) -> u64
-    ensures { result ≡ length (unwrap_or bytes.now []) }
-{
-    match bytes {
-        Some(bytes) => bytes.len() as u64,
-        None => 0,
-    }
-}
-
-// What a command is planned from.
-fn loaded_of(store: LoadedStore) -> Loaded
-    requires first { IfSome store.working.first (λ rev. rev < length store.changelog.entries) }
-    requires second { IfSome store.working.second (λ rev. rev < length store.changelog.entries) }
-    requires phases { length store.phases ≡ length store.changelog.entries }
-    ensures { IsLoadedFrom (view_store store) result }
-{
-    let LoadedStore {
-        files,
-        changelog,
-        manifest,
-        working,
-        phases,
-    } = store;
-    let SmallFiles {
-        bookmarks,
-        dirstate,
-        roots,
-        fncache,
-    } = files;
-    let fncache_length = length_of(&fncache.bytes);
-    Loaded {
-        changelog,
-        manifest,
-        bookmarks: bookmarks.bookmarks,
-        working,
-        phases,
-        fncache: fncache.fncache,
-        fncache_length,
-        standing: Standing {
-            bookmarks: bookmarks.bytes,
-            dirstate: dirstate.bytes,
-            roots: roots.bytes,
-        },
-    }
 }
 
 // The step of a phase command.
@@ -184,8 +137,7 @@ fn step_of<R: Reads>(
 {
     match command {
         Command::Commit(change) => committed(alloc, files, loaded, change),
-        // Nobody can ask for one yet.
-        Command::Import(_) => Err(CommitFault::Refused(PlanFault::Memory)),
+        Command::Import(changes) => import(alloc, files, loaded, changes.as_slice()),
         Command::Move { rev, phase, force } => {
             moved(alloc, &loaded, rev.as_slice(), *phase, *force)
         }

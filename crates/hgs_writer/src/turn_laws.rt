@@ -17,10 +17,12 @@ ghost use Rattle.hgs_writer.specs.Written.{IsWrittenFor};
 ghost use Rattle.hgs_writer.specs.Turns.{IsAtRest, LeadsAs, LeadsOn};
 
 use crate::commit_laws::commits_agree;
+use crate::import_laws::imports_agree;
 use crate::piece_laws::{
     locks_do_not_matter, refusals_are_for_files, refusals_are_pieces, transactions_are_pieces,
 };
 use hgs_legal::laws::{numbers_rise, pieces_end, stops_are_safe};
+use hgs_ops::laws::strays_hinder_nothing;
 use hgs_path::laws::filelogs_have_their_own_names;
 use hgs_steps::laws::{bookmark_commands_agree, phase_commands_agree};
 use hgs_transaction::laws::plans_are_transactions;
@@ -73,5 +75,7 @@ pub(crate) fn laws_below()
     phase_commands_agree();
     bookmark_commands_agree();
     commits_agree();
+    imports_agree();
+    strays_hinder_nothing();
     filelogs_have_their_own_names();
 }

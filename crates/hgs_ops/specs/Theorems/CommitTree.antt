@@ -163,7 +163,7 @@ abbrev pub is_append : Op → Bool
 is_append (Append path bytes) = true
 is_append _ = false
 
-appends-only : (ops : List Op) (p : List ℕ) → list_all is_append ops ≡ true → list_all (only_appends p) ops ≡ true
+pub appends-only : (ops : List Op) (p : List ℕ) → list_all is_append ops ≡ true → list_all (only_appends p) ops ≡ true
 appends-only [] p e = refl
 appends-only (op ∷ ops) p e = and-both _ _ (one op (and-left _ _ e)) (appends-only ops p (and-right (is_append op) _ e))
   where

@@ -10,6 +10,7 @@ use Rattle.hgs_top.specs.declared.stopped.Stopped.TheVariants.{Refused, Unwritte
 use Rattle.hgs_top.specs.declared.words.Command.{Command}
 use Rattle.hgs_top.specs.Outcome.{Outcome, told, log_outcome, listing_outcome}
 use Rattle.hgs_top.specs.declared.listing.Listing.TheVariants.{Heads, Bookmarks, Parents}
+use Rattle.hgs_top.specs.Branches.{branches_outcome}
 use Rattle.hgs_top.specs.Pages.{page_outcome, page_text}
 use Rattle.hgs_top.specs.Run.{OfReply, IsTold, IsCut, IsUnwritten, IsReplied}
 use Rattle.hgs_top.specs.Words.{question_of}
@@ -104,6 +105,21 @@ returns-in-Set-clause-told g c = λ alone.
     let new = g.K.Sink.written c.write_set.new.out in
     let P : Command → Type 0 = λ k. OfReply (question_of k) seen start (λ reply. IsReplied reply old new c.write_set.result) in
     subst P (sym c.in-Set.is) (c.write_set.ensures.told alone)
+
+pub returns-in-Branches-clause-told : goal.returns-in-Branches-clause-told
+returns-in-Branches-clause-told g c = λ alone.
+    let seen = g.R.Reads.seen c.args.files.now in
+    let start = g.R.Reads.start c.args.files.now in
+    let old = g.K.Sink.written c.args.out.now in
+    let new = g.K.Sink.written c.write_branches.new.out in
+    let P : Command → Type 0 = λ k. OfReply (question_of k) seen start (λ reply. IsReplied reply old new c.whole-in-Branches.result) in
+    subst P (sym c.in-Branches.is)
+    (of_each seen start (λ t. IsTold (branches_outcome t) old new c.write_branches.result) (λ t. IsReplied (told (branches_outcome t)) old new c.whole-in-Branches.result) (λ t h. whole_told (branches_outcome t) old new c.write_branches.result c.whole-in-Branches.result c.whole-in-Branches.ensures h) (c.write_branches.ensures.told alone))
+
+pub returns-in-Branches-clause-given : goal.returns-in-Branches-clause-given
+returns-in-Branches-clause-given g c =
+    let P : Command → Type 0 = λ k. ReadsOnly (g.R.Reads.given c.args.files.now) (g.R.Reads.given c.write_branches.new.files) (g.R.Reads.seen c.args.files.now) (g.R.Reads.start c.args.files.now) (g.R.Reads.seen c.write_branches.new.files) (question_reads (question_of k)) in
+    subst P (sym c.in-Branches.is) c.write_branches.ensures.given
 
 pub returns-in-Log-clause-given : goal.returns-in-Log-clause-given
 returns-in-Log-clause-given g c =

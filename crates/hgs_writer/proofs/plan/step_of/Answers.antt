@@ -1,8 +1,9 @@
 use Rattle.std.proofs.Common.{subst}
 use Rattle.hgs_model.specs.Valid.{CanBeAsked}
-use Rattle.hgs_writer.proofs.PlanLemmas.{always-at-rest, at-rest, commit-comes, mark-comes, move-comes, unmark-comes, weaker}
+use Rattle.hgs_writer.proofs.PlanLemmas.{always-at-rest, at-rest, commit-comes, import-comes, mark-comes, move-comes, unmark-comes, weaker}
 use Rattle.hgs_commit.specs.Commit.{Steps}
 use Rattle.hgs_writer.specs.Planning.{ComesTo}
+use Rattle.hgs_writer.specs.Records.{ImportComesTo}
 use Rattle.hgs_writer.proofs.plan.step_of.Goals as goal
 
 pub returns-in-Move-clause-sound : goal.returns-in-Move-clause-sound
@@ -22,7 +23,7 @@ returns-in-Commit-clause-comes g c =
 pub returns-in-Move-clause-comes : goal.returns-in-Move-clause-comes
 returns-in-Move-clause-comes g c =
     always-at-rest g.R.Reads.alone (g.R.Reads.seen c.args.files.now) (g.R.Reads.start c.args.files.now) (λ t. ComesTo t c.args.loaded c.args.command.now c.moved.result)
-    (λ t. move-comes t c.args.loaded c.args.command.now c.in-Move.rev c.as_slice.result.now c.in-Move.phase c.in-Move.force c.moved.result c.in-Move.is c.as_slice.ensures c.moved.ensures.comes)
+    (λ t. move-comes t c.args.loaded c.args.command.now c.in-Move.rev c.as_slice-in-Move.result.now c.in-Move.phase c.in-Move.force c.moved.result c.in-Move.is c.as_slice-in-Move.ensures c.moved.ensures.comes)
 
 pub returns-in-Mark-clause-comes : goal.returns-in-Mark-clause-comes
 returns-in-Mark-clause-comes g c =
@@ -34,5 +35,13 @@ returns-in-Unmark-clause-comes g c =
     always-at-rest g.R.Reads.alone (g.R.Reads.seen c.args.files.now) (g.R.Reads.start c.args.files.now) (λ t. ComesTo t c.args.loaded c.args.command.now c.unmarked.result)
     (λ t. unmark-comes t c.args.loaded c.args.command.now c.in-Unmark.name c.as_slice-in-Unmark.result.now c.unmarked.result c.in-Unmark.is c.as_slice-in-Unmark.ensures c.unmarked.ensures.comes)
 
+pub import-requires-clause-valid : goal.import-requires-clause-valid
+import-requires-clause-valid g c = absurd (subst CanBeAsked c.in-Import.is c.requires.valid)
+
+pub returns-in-Import-clause-sound : goal.returns-in-Import-clause-sound
+returns-in-Import-clause-sound g c = weaker c.args.loaded c.import.result c.import.ensures.sound
+
 pub returns-in-Import-clause-comes : goal.returns-in-Import-clause-comes
-returns-in-Import-clause-comes g c = absurd (subst CanBeAsked c.in-Import.is c.requires.valid)
+returns-in-Import-clause-comes g c =
+    at-rest g.R.Reads.alone (g.R.Reads.seen c.import.new.files) (g.R.Reads.start c.import.new.files) (λ t. ImportComesTo t c.args.loaded c.as_slice.result.now c.import.result) (λ t. ComesTo t c.args.loaded c.args.command.now c.import.result)
+    (λ t comes. import-comes t c.args.loaded c.args.command.now c.in-Import.changes c.as_slice.result.now c.import.result c.in-Import.is c.as_slice.ensures comes) c.import.ensures.comes

@@ -15,6 +15,9 @@ returns c = record {
   marked = c.bookmark_commands_agree.ensures.set;
   unmarked = c.bookmark_commands_agree.ensures.deleted;
   committed = c.commits_agree.ensures;
+  imported = c.imports_agree.ensures.agree;
+  refused = c.imports_agree.ensures.refused;
+  laid_alike = c.strays_hinder_nothing.ensures.laid;
   others = c.locks_do_not_matter.ensures.others;
   filelog_names = c.filelogs_have_their_own_names.ensures.file;
 }

@@ -1,0 +1,3 @@
+-- What is proved of this crate's definitions and the crates above build on: statements with their proofs, no definitions
+-- that a contract cites.
+pub mod RestLemmas

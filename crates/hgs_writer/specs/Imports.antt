@@ -1,0 +1,65 @@
+-- When what the records of an import come to is the repository's answer.
+use Rattle.std.specs.Prelude.{◌≡◌, ◌⊎◌, ℕ, List, [], ◌∷◌, Option, Result, Ok, Err, ⊤}
+use Rattle.std.specs.Bool.{MatchBool}
+use Rattle.hgs_commit.specs.Commit.{is_free}
+use Rattle.hgs_commit.specs.declared.fault.CommitFault.{CommitFault}
+use Rattle.hgs_commit.specs.declared.fault.CommitFault.TheVariants.{Unread, Refused}
+use Rattle.hgs_files.specs.Tree.{Tree, after_all}
+use Rattle.hgs_load.specs.declared.answer.ReadAnswer.{ReadAnswer}
+use Rattle.hgs_loading.specs.Store.{loaded_in}
+use Rattle.hgs_model.specs.Repo.{Repo}
+use Rattle.hgs_model.specs.Step.{Next, step}
+use Rattle.hgs_model.specs.declared.command.Command.TheVariants.{Commit, Import}
+use Rattle.hgs_model.specs.declared.command.NewChange.{NewChange}
+use Rattle.hgs_model.specs.declared.command.Refusal.{Refusal}
+use Rattle.hgs_ops.specs.Laid.{laid}
+use Rattle.hgs_ops.specs.Unhindered.{IsReady}
+use Rattle.hgs_steps.specs.Planned.{IsStepOf}
+use Rattle.hgs_steps.specs.declared.fault.PlanFault.{PlanFault}
+use Rattle.hgs_steps.specs.declared.fault.PlanFault.TheVariants.{Refused as refused_for}
+use Rattle.hgs_steps.specs.declared.step.Step.{Step}
+use Rattle.hgs_writer.specs.Commits.{CanBeRead, Hinders, IsLimit}
+use Rattle.hgs_writer.specs.Free.{IsFree}
+use Rattle.hgs_writer.specs.Limits.{LoadsWithin}
+use Rattle.hgs_writer.specs.Ready.{HasOwnDigests, NeedsNoTest}
+
+-- Each record that is accepted has, of the tree into which those before it are laid, what it needs that no test tells.
+abbrev pub NeedNoTests : Tree → Repo → List NewChange → Type 0
+NeedNoTests t r [] = Unit {0}
+NeedNoTests t r (n ∷ changes) = (next : Next) → step r (Commit n) ≡ Ok next → NeedsNoTest t r next.0 × NeedNoTests (after_all (laid t r n next.0) t) next.0 changes
+
+-- Each has it where no other name in the list has the digest of the name of a new path's file.
+abbrev pub HaveOwnDigests : Tree → Repo → List NewChange → Type 0
+HaveOwnDigests t r [] = Unit {0}
+HaveOwnDigests t r (n ∷ changes) = (next : Next) → step r (Commit n) ≡ Ok next → HasOwnDigests t r next.0 × HaveOwnDigests (after_all (laid t r n next.0) t) next.0 changes
+
+-- Each record has that too, and what is read for it is within the limits.
+abbrev pub AreReadWithin : Tree → Repo → List NewChange → Type 0
+AreReadWithin t r [] = Unit {0}
+AreReadWithin t r (n ∷ changes) = LoadsWithin t r × CanBeRead t r × ((next : Next) → step r (Commit n) ≡ Ok next → NeedsNoTest t r next.0 × AreReadWithin (after_all (laid t r n next.0) t) next.0 changes)
+
+-- This holds of one of the records, on the tree into which those before it are laid; these are accepted.
+abbrev pub SomeRecord : (Tree → Repo → NewChange → Type 0) → Tree → Repo → List NewChange → Type 0
+SomeRecord Holds t r [] = ⊥
+SomeRecord Holds t r (n ∷ changes) = Holds t r n ⊎ ((next : Next) × (step r (Commit n) ≡ Ok next) × SomeRecord Holds (after_all (laid t r n next.0) t) next.0 changes)
+
+-- The refusal is the repository's; or it accepts, and this keeps the commit from being written.
+abbrev pub IsKeptBy : Tree → Repo → PlanFault → Result Next Refusal → Type 0
+IsKeptBy t r fault (Err e) = fault ≡ refused_for e
+IsKeptBy t r fault (Ok next) = (clash : Option (List ℕ)) × Hinders (IsFree t r next.0) clash fault
+
+-- It is unread only for a limit of what a commit reads, or where what is loaded before passes one.
+abbrev pub IsUnread : Tree → Repo → ReadAnswer → Type 0
+IsUnread t r why = (IsLimit why × (CanBeRead t r → ⊥)) ⊎ ((loaded_in t ≡ Err why) × (LoadsWithin t r → ⊥))
+
+-- why a record comes to nothing
+abbrev pub ComesToNothing : CommitFault → Tree → Repo → NewChange → Type 0
+ComesToNothing (Unread why) t r n = IsUnread t r why
+ComesToNothing (Refused fault) t r n = IsKeptBy t r fault (step r (Commit n))
+
+-- An import is answered by its step, for which the tree is ready; or it comes to nothing for one of its records, or for a fault of the
+-- files or want of memory.
+abbrev pub ImportAnswersAs : Tree → Repo → List NewChange → Result Step CommitFault → Result Next Refusal → Type 0
+ImportAnswersAs t r changes (Ok step) (Err e) = ⊥
+ImportAnswersAs t r changes (Ok step) (Ok next) = IsStepOf t r (Import changes) next step × IsReady t r (Import changes) next.0
+ImportAnswersAs t r changes (Err fault) answer = MatchBool (is_free fault) ⊤ (SomeRecord (ComesToNothing fault) t r changes)
