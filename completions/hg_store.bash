@@ -4,7 +4,7 @@
 _hg_store_words() {
     local command=${COMP_WORDS[1]} place=$COMP_CWORD
     if [ "$place" = 1 ]; then
-        printf '%s\n' log heads files cat bookmarks parents phase revset branches init commit bookmark verify gen recover play session --help --version
+        printf '%s\n' log heads files cat bookmarks parents phase revset branches init commit import bookmark verify gen recover play session --help --version
         return
     fi
     [[ $command = phase && ${COMP_WORDS[2]} = --force && $place -gt 2 ]] && place=$((place - 1))

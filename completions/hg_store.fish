@@ -11,7 +11,7 @@ function __hg_store_words
     set -l place (count $words)
     set -l shown $place
     if test $place = 1
-        printf '%s\n' log heads files cat bookmarks parents phase revset branches init commit bookmark verify gen recover play session --help --version
+        printf '%s\n' log heads files cat bookmarks parents phase revset branches init commit import bookmark verify gen recover play session --help --version
         return
     end
     if test "$command $words[3]" = 'phase --force'

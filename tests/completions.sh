@@ -35,7 +35,7 @@ in_fish() {
     fish --no-config -c 'source $argv[1]/hg_store.fish; complete -C "hg_store $argv[2..] " | string replace -r "\t.*" ""' "$completions" "$@"
 }
 
-commands='--help --version bookmark bookmarks branches cat commit files gen heads init log parents phase play recover revset session verify'
+commands='--help --version bookmark bookmarks branches cat commit files gen heads import init log parents phase play recover revset session verify'
 
 offers() { # SHELL EXPECTED WORD..
     local shell=$1 expected=$2

@@ -6,12 +6,13 @@ command's status and text are the same, and then all files byte for byte, and th
 
 2,000 commands where nothing is said: half of them in one history, the others in histories of 200. Commits with one parent, none or two,
 from any changeset, on some branch, with files that are changed, removed, moved, copied, flagged and brought back, folders that are renamed,
-and files of the other side of a merge; phases and bookmarks; commands that are refused, for what they ask or for what stands in their way; and records
+and files of the other side of a merge; imports of some of these at once; phases and bookmarks; commands that are refused, for what they ask or for what stands in their way; and records
 that are changed or cut. `verify` finds nothing at each look, and Mercurial, where it is there, nothing now and then. The statuses that
 came are counted, and each that a history can have must have come. The last line is 'N passed, M failed' or 'N passed, M failed, K skipped'.
 """
 
 import collections
+import copy
 import os
 import random
 import shutil
@@ -21,7 +22,7 @@ import tempfile
 
 sys.dont_write_bytecode = True
 from checks import Checks, built_program, bytes_of, lay
-from plain_record import read_record
+from plain_record import read_import, read_one
 from plain_store import PHASES, REQUIRES, Refused, Store, store_name
 
 NAMES = [b"a", b"b", b"README", b"Makefile", b".hgignore", b"x_y", b"long.name.txt", b"aux.c", b"lpt1", b" sp ace ", b"t.", b"caf\xc3\xa9", b"n" * 110]
@@ -118,18 +119,33 @@ class Histories(Checks):
         line = b"" if source is None else b"copyfrom %s\n" % source
         return line + b"file %s %d %s\n%s\n" % (file[0].encode(), len(file[1]), path, file[1])
 
+    def some_import(self):
+        """Some records, each made over what those before it leave in the second store."""
+        store, bodies = self.store, self.bodies
+        self.store, self.bodies = copy.deepcopy(store), list(bodies)
+        records = []
+        for _ in range(self.random.randint(1, 4)):
+            records.append(self.some_record())
+            try:
+                self.by_the_second([read_one(records[-1])])
+            except Refused:
+                pass
+        self.store, self.bodies = store, bodies
+        return b"".join(records) + b"end import\n"
+
+    def by_the_second(self, changes):
+        """What the second store answers."""
+        changes = [([name.decode("utf-8", "surrogateescape") for name in names], *rest) for names, *rest in changes]
+        said = self.store.commit(*changes[0]) if len(changes) == 1 else self.store.commit_all(changes)
+        self.bodies += [{path: (flag, body) for path, (flag, body, _) in tree.items()} for _, tree, *_ in changes]
+        return said
+
     def commit(self, record):
         """Of a record that may be no record: what the second reader makes of it is asked of the second store."""
-        trees = []
+        self.answer(["commit"], record, lambda: self.by_the_second([read_one(record)]))
 
-        def by_the_second():
-            names, tree, *rest = read_record(record)
-            said = self.store.commit([name.decode("utf-8", "surrogateescape") for name in names], tree, *rest)
-            trees.append({path: (flag, body) for path, (flag, body, _) in tree.items()})
-            return said
-
-        if self.answer(["commit"], record, by_the_second):
-            self.bodies += trees
+    def commit_all(self, records):
+        self.answer(["import"], records, lambda: self.by_the_second(read_import(records)))
 
     def damaged(self, record):
         """A record that is cut, or has another byte, or one more or less, or a length that no body may have."""
@@ -141,13 +157,21 @@ class Histories(Checks):
             return record.replace(b"end\n", b"file - %d zz\n" % self.random.choice([16_777_216, 16_777_217, 10**30]))
         return record[:place] + (byte if kind < 3 else b"") + record[place + (kind != 2) :]
 
+    def damaged_one(self):
+        if self.random.random() < 0.7:
+            self.commit(self.damaged(self.some_record()))
+        else:
+            self.commit_all(self.damaged(self.some_import()))
+
     def step(self):
-        kinds = {"commit": 12, "damaged": 2, "move": 4, "mark": 4, "unmark": 2, "obstacle": 3, "stray": 1, "question": 1, "words": 1}
+        kinds = {"commit": 12, "import": 3, "damaged": 2, "move": 4, "mark": 4, "unmark": 2, "obstacle": 3, "stray": 1, "question": 1, "words": 1}
         kind = self.random.choices(list(kinds), kinds.values())[0]
         if kind == "commit" and len(self.store.trees) < MOST:
             self.commit(self.some_record())
+        elif kind == "import" and len(self.store.trees) < MOST:
+            self.commit_all(self.some_import())
         elif kind == "damaged":
-            self.commit(self.damaged(self.some_record()))
+            self.damaged_one()
         elif kind in ("obstacle", "stray", "question", "words"):
             getattr(self, kind)()
         else:
@@ -195,7 +219,7 @@ class Histories(Checks):
 
     def small_or_commit_refused(self, choice):
         if choice != 5:
-            self.random.choice([lambda: self.small("mark"), lambda: self.small("unmark"), lambda: self.small("move"), lambda: self.commit(self.some_record()), lambda: self.commit(self.damaged(self.some_record()))])()
+            self.random.choice([lambda: self.small("mark"), lambda: self.small("unmark"), lambda: self.small("move"), lambda: self.commit(self.some_record()), lambda: self.commit_all(self.some_import()), self.damaged_one])()
 
     def stray(self):
         """Files stand at names of new paths."""

@@ -57,7 +57,8 @@ RECORDS = [
     (b"commit\nuser u\ndate 0 0\ndesc 0\n\nend", 34),
 ]
 
-# schedules,
+# schedules, some with a record of nothing,
+EMPTY = b"commit\nuser u\ndate 0 0\ndesc 0\n\nend\n"
 SCHEDULES = [
     # the number of readers: none, too many, a needless zero, no number
     (b"play 0\nend\n", 0),
@@ -98,9 +99,31 @@ SCHEDULES = [
     (b"play 1\nbegin commit\ncommit\nuser test\ndate 01 0\n", 37),
     (b"play 1\nbegin commit\ncommit\nuser u\ndate 0 0\ndesc 0\n\nend\ncommit\n", 55),
     (b"play 1\nend\nx", 11),
+    # an import without a record, with a line between two, and with one behind its last line
+    (b"play 1\nbegin import\nend import\n", 20),
+    (b"play 1\nbegin import \n", 7),
+    (b"play 1\nbegin import\n" + EMPTY + b"end\n", 55),
+    (b"play 1\nbegin import\n" + EMPTY + b"end import\n" + EMPTY, 66),
     # a cut line has no fault but that
     (b"play 1\nload 1", 13),
     (b"play 1\nend", 10),
+]
+
+# imports,
+IMPORTS = [
+    # no record at all
+    (b"end import\n", 0),
+    (b"begin import\n", 0),
+    # another line behind a record, and one behind the last
+    (EMPTY + b"end\n", 35),
+    (EMPTY + b"\n" + EMPTY + b"end import\n", 35),
+    (EMPTY + b"end import \n", 35),
+    (EMPTY + EMPTY + b"end import\nx\n", 81),
+    (EMPTY + b"end import\nend import\n", 46),
+    # a second record that is out of form
+    (EMPTY + b"commit\ndate 0 0\n", 42),
+    # a cut line has no fault but that
+    (EMPTY + b"end import", 45),
 ]
 
 # and scripts.
@@ -148,6 +171,8 @@ WITHIN_AN_ENTRY = (
     b"commit\nparent tip\nuser test\ndate 60 0\ndesc 1\nb\nfile - 0 b\n\nend\nuntil publish\nload 0\nwrite 63\n"
     b"load 0\nwrite 1\nload 0\nfinish\nend\n"
 )
+BOTH = FIRST + b"commit\nparent tip\nuser test\ndate 60 0\ndesc 1\nb\nfile - 0 b\n\nend\nend import\n"
+IMPORTED = b"play 1\nbegin import\n" + BOTH + b"until publish\nload 0\nfinish\nend\n"
 BETWEEN = (
     b"session 3\n2 phase 0\n0 commit\ncommit\nparent tip\nuser test\ndate 0 0\ndesc 1\na\nfile - 2 a\na\n\nend\n"
     b"2 bookmark 0 main\n0 cat tip a\n2 unbookmark x\n0 log\nend session\n"
@@ -162,7 +187,7 @@ BODIES = [
 ]
 
 BODY, TREE, INPUT = 1, 2, 7
-MOST_FILES, MOST_INPUT, MOST_JOBS = 20_000, 268_435_456, 10_000
+MOST_FILES, MOST_INPUT, MOST_JOBS, MOST_RECORDS = 20_000, 268_435_456, 10_000, 10_000
 
 
 def bad(place):
@@ -175,7 +200,7 @@ def limit(number):
 
 def rows():
     """Words, the input, and the status and the text that come of it."""
-    for word, texts, whole in (("commit", RECORDS, FIRST), ("play", SCHEDULES, WITHIN_AN_ENTRY), ("session", SCRIPTS, BETWEEN)):
+    for word, texts, whole in (("commit", RECORDS, FIRST), ("import", IMPORTS, BOTH), ("play", SCHEDULES, WITHIN_AN_ENTRY), ("play", [], IMPORTED), ("session", SCRIPTS, BETWEEN)):
         for text, place in texts:
             yield word, text, bad(place)
         for length in range(len(whole)):
@@ -196,6 +221,9 @@ def rows():
     yield "commit", most + b"a", limit(INPUT)
     yield "commit", most + b"a\n", limit(INPUT)
     yield "commit", b"x" + most[1:] + b"a\na", bad(0)
+    # as many records as may be, of which only a parent is refused; and one more
+    yield "import", b"commit\nparent none\n" + EMPTY[len(b"commit\n") :] + EMPTY * (MOST_RECORDS - 1) + b"end import\n", (12, b"abort: unknown revision\n")
+    yield "import", EMPTY * (MOST_RECORDS + 1), bad(len(EMPTY) * MOST_RECORDS)
     # as many jobs of one worker as may be, and one more
     jobs = b"session 2\n1 log\n" + b"0 log\n" * MOST_JOBS
     said = b"".join(b"worker 0 job %d status 0 length 0\n\n" % number for number in range(MOST_JOBS))

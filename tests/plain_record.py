@@ -1,4 +1,4 @@
-"""A second, simple reader of the record of a commit, after docs/FORMATS.md alone: what it says, or the first fault with its place.
+"""A second, simple reader of the records of commits and imports, after docs/FORMATS.md alone: what they say, or the first fault with its place.
 `tests/histories.py` compares the program with it.
 """
 
@@ -7,7 +7,7 @@ import re
 from plain_store import Refused
 
 MOST_BODY, MOST_FILES, MOST_TEXT, MOST_USER = 16_777_216, 20_000, 65_536, 1_024
-MOST_SECONDS, MOST_OFFSET = 2**40, 50_400
+MOST_SECONDS, MOST_OFFSET, MOST_RECORDS = 2**40, 50_400, 10_000
 NUMBER = rb"0|[1-9][0-9]*"
 
 
@@ -103,9 +103,8 @@ def read_file(reader, files, earlier):
     reader.at += length + 1
 
 
-def read_record(data):
+def read_next(reader):
     """The arguments of a commit: parents, tree, user, date, phase, bookmark, branch and description."""
-    reader = Reader(data)
     reader.must(reader.line() == b"commit")
     reader.pass_line()
     parents = []
@@ -140,5 +139,23 @@ def read_record(data):
     while reader.line() != b"end":
         read_file(reader, files, earlier)
     reader.pass_line()
-    reader.must(reader.at == len(data))
     return parents, files, user, date, phase.decode(), mark and mark.decode(), branch, description
+
+
+def read_one(data):
+    """The one record of an input."""
+    reader = Reader(data)
+    change = read_next(reader)
+    reader.must(reader.at == len(data))
+    return change
+
+
+def read_import(data):
+    """The records of an input, 1 to 10,000, and its last line."""
+    reader, changes = Reader(data), []
+    while reader.line() != b"end import" or not changes:
+        reader.must(len(changes) < MOST_RECORDS)
+        changes.append(read_next(reader))
+    reader.pass_line()
+    reader.must(reader.at == len(data))
+    return changes

@@ -2,6 +2,7 @@
 bytes that its files have, and what stands in the way of its commands. `tests/histories.py` compares the program with it.
 """
 
+import copy
 import hashlib
 import struct
 
@@ -77,6 +78,11 @@ class Revlog:
 def extensions_for(text):
     """The files of a new filelog that begins with a text: an inline one has no data file."""
     return (b".i",) if len(text) <= MOST_INLINE else (b".i", b".d")
+
+
+def lines_for(path, text):
+    """The lines of a new filelog in the list of filelogs."""
+    return b"".join(listed_name(path, ext) + b"\n" for ext in extensions_for(text))
 
 
 def listed_name(path, ext):
@@ -284,7 +290,7 @@ class Store:
         for path in sorted(added):
             if path not in self.filelogs:
                 self.filelogs[path] = Revlog()
-                self.list += b"".join(listed_name(path, ext) + b"\n" for ext in extensions_for(added[path][0]))
+                self.list += lines_for(path, added[path][0])
             rows[path] = (self.filelogs[path].add(*added[path], link), rows[path][1])
         self.manifests.append(self.manifest.add(text, above, link))
         self.changelog.add(change, parents, link)
@@ -295,6 +301,15 @@ class Store:
             self.marks[mark] = link
         self.roots = self.roots_text()
         return f"{link}:{self.changelog.nodes[link].hex()}"
+
+    def commit_all(self, changes):
+        """Commits of these, all or none. The paths of all are listed in order."""
+        after = copy.deepcopy(self)
+        said = [after.commit(*change) for change in changes][-1]
+        new = sorted(after.filelogs.keys() - self.filelogs.keys())
+        after.list = self.list + b"".join(lines_for(path, after.filelogs[path].texts[0]) for path in new)
+        self.__dict__ = after.__dict__
+        return said
 
     # ---- the other commands
 

@@ -1,5 +1,5 @@
 #!/usr/bin/env python3
-"""Eight readers ask without pause while a writer commits, moves phases, sets bookmarks, is killed and recovers.
+"""Eight readers ask without pause while a writer commits, imports, moves phases, sets bookmarks, is killed and recovers.
 
     tests/readers.py [SECONDS]
 
@@ -116,9 +116,16 @@ class MercurialReader(threading.Thread):
             (self.logs if ended.returncode == 0 else self.refused).append(ended.stdout or ended.stderr)
 
 
+def writing(number):
+    """The command that adds changesets from this number on, what it is given, and how many they are: an import of two, or a commit."""
+    if number % 4 == 3:
+        return ["import"], record(number) + record(number + 1) + b"end import\n", 2
+    return ["commit"], record(number), 1
+
+
 def commands(number, phase):
-    """The commands of a writer, one after another: a commit, and in turn a bookmark, a phase, a bookmark that comes and goes."""
-    yield ["commit"], record(number)
+    """The commands of a writer, one after another: a commit or an import, and in turn a bookmark, a phase, a bookmark that comes and goes."""
+    yield writing(number)[:2]
     if number % 3 == 1:
         yield ["bookmark", f"at{number % 4}", "tip"], b""
     if number % 5 == 2:
@@ -162,14 +169,15 @@ def write_until(yard, end, number):
                 print(f"{words} of {number} was refused")
                 break
             yard.note()
-        number += 1
+        number += writing(number)[2]
     return number, done
 
 
 def kill_one(yard, number, generator):
-    """A commit that is killed at some moment."""
-    process = subprocess.Popen([yard.program, "commit"], stdin=subprocess.PIPE, stdout=subprocess.PIPE, cwd=yard.folder)
-    process.stdin.write(record(number))
+    """A commit or an import that is killed at some moment."""
+    words, given, _ = writing(number)
+    process = subprocess.Popen([yard.program, *words], stdin=subprocess.PIPE, stdout=subprocess.PIPE, cwd=yard.folder)
+    process.stdin.write(given)
     process.stdin.close()
     time.sleep(generator.uniform(0, 0.004))
     process.kill()
@@ -193,13 +201,14 @@ def play_round(checks, yard, number, seconds, generator):
     for reader in readers + others:
         reader.join()
     before = yard.states[-1]
-    yard.note()  # what the commit published that was killed, which recovering takes back where it was not answered
+    yard.note()  # what the command published that was killed, which recovering takes back where it was not answered
     seen = len(yard.states)
     checks.check("the program recovers", yard.run(["recover"]).returncode in (0, 1))
     yard.note()
     after = yard.states[-1]
     grown = after["log"].count(b"\n") - before["log"].count(b"\n")
-    checks.check("an answered commit stays, and no more than it is there", grown == 1 if answered else grown in (0, 1))
+    whole = writing(number)[2]
+    checks.check("an answered command stays, and no part of one is there", grown == whole if answered else grown in (0, whole))
     checks.check("its marks are as before", after["bookmarks"] == before["bookmarks"])
     for reader in readers:
         faults = faults_of(reader, yard.states[:seen], start)
@@ -214,7 +223,7 @@ def play_round(checks, yard, number, seconds, generator):
         checks.check(f"Mercurial is not refused: {other.refused[:1]}", not other.refused)
         wrong = [log for log in other.logs if [line.split()[1] for line in reversed(log.splitlines())] != nodes[: log.count(b"\n")]]
         checks.check("Mercurial reads the same history", not wrong)
-    return number + (grown == 1)
+    return number + grown
 
 
 def main():

@@ -122,6 +122,17 @@ check "a copy of two files" refused "b is a copy of two files" record -m m --cop
 check "a copy without a path" refused "a copy is SOURCE:PATH" record -m m --copy a copying/files
 check "a branch without a name to record" refused "a branch has a name" record -m m --branch "" copying/files
 
+# Two folders in one import, each on the one before; the same two by commits have the same nodes.
+mkdir -p several/old several/new by-commits && echo 1 >several/old/a && echo 2 >several/new/a
+cd several && hg_store init || exit 1
+imported=$(record -m one -m two -u u -d '0 0' --parent null old new | hg_store import)
+cd ../by-commits && hg_store init || exit 1
+record -m one -u u -d '0 0' --parent null ../several/old | hg_store commit >/dev/null
+check "answer the node of the second commit" [ "$(record -m two -u u -d '0 0' ../several/new | hg_store commit)" = "$imported" ]
+cd ..
+check "two messages for three folders" refused "one message for all folders, or one for each" record -m a -m b tree tree tree
+check "a copy among folders" refused "a copy is said of one folder" record -m a --copy a:b tree tree
+
 # The example of README.md: the commands behind '$ ', and what they write.
 sed -n '/^By hand:/,/^[A-Z#`]/p' "$here/../README.md" | sed -n 's/^    //p' >"$work/example"
 sed -n 's/^\$ //p' "$work/example" >"$work/commands"

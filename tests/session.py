@@ -20,7 +20,7 @@ import tempfile
 
 sys.dont_write_bytecode = True
 from checks import Checks, built_program, bytes_of, lay
-from plain_record import read_record
+from plain_record import read_one
 from plain_store import PHASES, Refused, Store
 
 PLACED = b"abort: bad input at %d\n"
@@ -82,7 +82,7 @@ class Replay:
         names = rest.split(" ", 1)
         try:
             if word == b"commit":
-                parents, tree, *more = read_record(job[len(b"commit\n") :])
+                parents, tree, *more = read_one(job[len(b"commit\n") :])
                 said = self.store.commit([name.decode() for name in parents], tree, *more)
                 self.bodies.append(tree)
             elif word == b"bookmark":

@@ -303,12 +303,13 @@ def main():
         for words, given in [
             # with a new inline filelog and a new separate one
             (["commit"], record(b"second", b"two\n", e=b"", f=b"f" * 4097)),
+            (["import"], record(b"second", b"two\n", e=b"", f=b"f" * 4097) + record(b"third", b"three\n", g=b"g") + b"end import\n"),
             (["phase", "0", "public"], b""),
             (["bookmark", "other", "0"], b""),
             (["bookmark", "--delete", "main"], b""),
         ]:
             places += try_command(checks, world, base, words, given, opened)
-            if words == ["commit"]:
+            if words[0] in ("commit", "import"):
                 # a place at which the journal stood
                 places += try_recovery(checks, world, opened[-1], before)
         print(f"{places} places, {checks.undone} transactions undone by recover")

@@ -163,7 +163,9 @@ ROWS = [
     ({**INLINE, MANIFEST: INLINE[MANIFEST] + b"x"}, [f"{MANIFEST} 2 17"], 2, 1),
     ({**INLINE, FILE: INLINE[FILE][:65] + b"x" + INLINE[FILE][66:]}, [f"{FILE} 0 3", f"{FILE} 0 5", f"{FILE} 1 5"], 2, 1),
     # the first chunk cut: no whole entry is left
-    ({**INLINE, FILE: INLINE[FILE][:66]}, [f"{FILE} 0 5", f"{FILE} 0 17", f"{FILE} 1 5"], 2, 1),
+    # cut in its first entry it is inline still, and with fewer bytes than the header has it is separate
+    *(({**INLINE, FILE: INLINE[FILE][:size]}, [f"{FILE} 0 5", f"{FILE} 0 17", f"{FILE} 1 5"], 2, 1) for size in (66, 63, 4)),
+    ({**INLINE, FILE: INLINE[FILE][:3]}, [f"{FILE} 0 5", f"{FILE} 0 17", f"{FILE} 1 5", f"{FILE_DATA} - 10"], 2, 1),
     # a stored length with its sign set, a flag of the header that none has, and another version
     ({**INLINE, FILE: INLINE[FILE][:8] + b"\x80" + INLINE[FILE][9:]}, [f"{FILE} 0 3", f"{FILE} 0 5", f"{FILE} 1 5"], 2, 1),
     ({**INLINE, FILE: b"\0\5" + INLINE[FILE][2:]}, [f"{FILE} 0 3", f"{FILE} 0 5", f"{FILE} 1 5", f"{FILE_DATA} - 10"], 2, 1),
@@ -178,6 +180,8 @@ ROWS = [
     ({**ALL_INLINE, CHANGELOG: ALL_INLINE[CHANGELOG][:-1]}, [f"{CHANGELOG} 1 17", *SECOND_LOST], 1, 1),
     # its first chunk cut, a stored length with its sign set, and another version: no changeset is left
     ({**ALL_INLINE, CHANGELOG: ALL_INLINE[CHANGELOG][:66]}, [f"{CHANGELOG} 0 17", *BOTH_LOST], 0, 0),
+    # cut in its first entry: inline still, so that a data file beside it is not looked at
+    *(({**ALL_INLINE, CHANGELOG: ALL_INLINE[CHANGELOG][:size], CHANGELOG_DATA: b"?"}, [f"{CHANGELOG} 0 17", *BOTH_LOST], 0, 0) for size in (63, 4)),
     ({**ALL_INLINE, CHANGELOG: ALL_INLINE[CHANGELOG][:8] + b"\x80" + ALL_INLINE[CHANGELOG][9:]}, [f"{CHANGELOG} 0 3", *BOTH_LOST], 0, 0),
     ({**ALL_INLINE, CHANGELOG: b"\0\1\0\2" + ALL_INLINE[CHANGELOG][4:]}, [f"{CHANGELOG} 0 3", *BOTH_LOST], 0, 0),
     # the greatest length of an inline changelog and manifest

@@ -12,7 +12,6 @@ use Rattle.hgs_legal.specs.LegalLog.{IsRun, Run, State, Turn, current, start_of,
 use Rattle.hgs_legal.specs.Numbers.{acknowledged_of, b_of, n_of, w_of}
 use Rattle.hgs_machine.specs.Carry.{tree_now}
 use Rattle.hgs_model.specs.Repo.{Repo}
-use Rattle.hgs_model.specs.Theorems.ValidLemmas.{asked-valid}
 use Rattle.hgs_model.specs.Valid.{IsValid}
 use Rattle.hgs_model.specs.declared.command.Command.{Command}
 use Rattle.hgs_script.specs.Script.{CanBeDone, IsShare}
@@ -68,7 +67,7 @@ job-valid jobs worker job command shares e = by (slice_get jobs worker) refl e
       where
         nowhere : {Y : Type 0} {y : Y} → ◌≡◌ {A = Option Y} None (Some y) → ⊥
         nowhere e = cc
-    by (Some mine) is e = asked-valid command (each-at CanBeDone mine job (Change command) (each-at IsShare jobs worker mine shares is).each e)
+    by (Some mine) is e = (each-at CanBeDone mine job (Change command) (each-at IsShare jobs worker mine shares is).each e).0
 
 -- ---- what the session's lists say of one call more
 

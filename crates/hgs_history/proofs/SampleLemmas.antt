@@ -31,7 +31,7 @@ one-job : (n : ℕ) → n ≡ 1 → n ≤ 10000
 one-job n e = omega arith
 
 pub held-shares : AllByRecursion IsShare two_jobs
-held-shares = (record { most = one-job 1 refl; each = (tt, tt) }, (record { most = one-job 1 refl; each = (tt, tt) }, tt))
+held-shares = (record { most = one-job 1 refl; each = ((tt, tt), tt) }, (record { most = one-job 1 refl; each = ((tt, tt), tt) }, tt))
 
 pub held-order : AreInOrder held_calls
 held-order = ((λ same. absurd (cc same), tt), (tt, tt))

@@ -1,7 +1,7 @@
 //! A reading end loads a repository while the writing end commits: between two of its reads, and where the commit has stopped or
 //! failed at each of its calls.
 ghost use Rattle.std.specs.Prelude.{IfOk};
-ghost use Rattle.hgs_model.specs.Valid.{CanBeAsked};
+ghost use Rattle.hgs_model.specs.Valid.{IsValid};
 
 use crate::ends::{Free, Pair, put, two_ends};
 use crate::given::given;
@@ -36,7 +36,7 @@ const CALLS: u64 = 100;
 const WHO: &[u8] = b"me";
 
 fn commit_of(alloc: Global, record: &[u8]) -> Result<Command, Fail>
-    ensures { IfOk result (λ command. CanBeAsked command) }
+    ensures { IfOk result (λ command. IsValid command) }
 {
     read_records_are_records();
     match read_commit(alloc, record) {

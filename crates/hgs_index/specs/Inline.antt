@@ -8,9 +8,10 @@ abbrev pub says_inline : Result Header EntryFault → Bool
 says_inline (Ok h) = h.inline
 says_inline (Err f) = false
 
--- whether the header, which an index with an entry has, says that each entry is followed by its chunk
+-- whether the first four bytes, which are the header, say that each entry is followed by its chunk; where fewer stand, as
+-- in an index without entries, nothing says so
 abbrev pub is_inline : List ℕ → Bool
-is_inline index = nat_le 64 (length index) && says_inline (header_at index)
+is_inline index = nat_le 4 (length index) && says_inline (header_at index)
 
 -- Whether these bytes begin with no whole entry that is followed by its whole chunk. Where the stored length has its sign
 -- set the entry counts as whole, since it is refused for that.

@@ -6,16 +6,17 @@ ghost use Rattle.hgs_index.specs.Inline.{is_inline, whole_item, without_inline};
 use crate::fields::u32_at;
 use crate::head::header;
 
-/// Whether an index says that each of its entries is followed by its chunk. Only one with an entry says so.
+/// Whether an index says that each of its entries is followed by its chunk. Its first four bytes say so, also where its
+/// first entry is cut behind them.
 pub fn is_inline(index: &[u8]) -> bool
     ensures { result ≡ is_inline index.now }
 {
-    if index.len() < 64 {
-        return false;
-    }
-    match header(&[index[0], index[1], index[2], index[3]]) {
-        Ok(header) => header.inline,
-        Err(_) => false,
+    match index.first_chunk::<4>() {
+        None => false,
+        Some(first) => match header(first) {
+            Ok(header) => header.inline,
+            Err(_) => false,
+        },
     }
 }
 

@@ -18,4 +18,3 @@ pub mod ReachedLemmas
 pub mod RowLemmas
 pub mod StepLemmas
 pub mod UsedLemmas
-pub mod ValidLemmas

@@ -66,11 +66,3 @@ IsValid (Import changes) = AreNewChanges changes
 IsValid (Move rev phase force) = Unit {0}
 IsValid (Mark name rev) = is_mark_name name ≡ true
 IsValid (Unmark name) = Unit {0}
-
--- A command that may be asked for: a valid one that is no import, since no plan of an import is made yet.
-abbrev pub CanBeAsked : Command → Type 0
-CanBeAsked (Commit c) = IsNewChange c
-CanBeAsked (Import changes) = ⊥
-CanBeAsked (Move rev phase force) = Unit {0}
-CanBeAsked (Mark name rev) = is_mark_name name ≡ true
-CanBeAsked (Unmark name) = Unit {0}

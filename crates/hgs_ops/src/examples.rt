@@ -1,5 +1,5 @@
 //! The laws tried on a first commit. Each function is one example; none does anything.
-ghost use Rattle.std.specs.Prelude.{◌≡◌, ◌∷◌, ◌++◌, [], ℕ, List, Ok, codes};
+ghost use Rattle.std.specs.Prelude.{◌≡◌, ◌∷◌, ◌++◌, [], true, ℕ, List, Ok, codes};
 ghost use Rattle.hgs_files.specs.Tree.{after_all, bytes_at};
 ghost use Rattle.hgs_model.specs.Repo.{empty_repo};
 ghost use Rattle.hgs_model.specs.Step.{answer_at, step};
@@ -8,7 +8,7 @@ ghost use Rattle.hgs_model.specs.declared.command.Command.TheVariants.{Commit, I
 ghost use Rattle.hgs_stands.specs.Places.{bookmarks_path, changelog_data, changelog_index, fncache_path, manifest_data, manifest_index, roots_path};
 ghost use Rattle.hgs_stands.specs.Samples.{two_drafts, two_drafts_files};
 ghost use Rattle.hgs_stands.specs.Stands.{IsClean, Stands};
-ghost use Rattle.hgs_ops.specs.Laid.{AreLaid};
+ghost use Rattle.hgs_ops.specs.Laid.{AreLaid, appended_by, changes_roots, names_with};
 ghost use Rattle.hgs_ops.specs.Operations.{operations, transaction_of};
 ghost use Rattle.hgs_ops.specs.PowerCourses.{AreCalls, parts_of_calls};
 ghost use Rattle.hgs_ops.specs.PowerSteps.{power_strays, resting_at};
@@ -45,6 +45,12 @@ pub fn first_import()
     ensures ready { IsReady bare empty_repo (Import (first_change ∷ [])) one_draft }
     ensures laid { AreLaid bare empty_repo ((first_change, one_draft) ∷ []) }
     ensures leads { (who : List ℕ) → IsClean (after_all (operations (transaction_of bare empty_repo (Import (first_change ∷ [])) who one_draft)) bare) one_draft }
+{}
+
+/// Laid into that store it changes the phase roots, and its filelog is listed by the name of its index alone, since it is inline.
+pub fn first_record_laid()
+    ensures roots { changes_roots empty_repo ((first_change, one_draft) ∷ []) ≡ true }
+    ensures names { names_with (codes "a") (bytes_at bare (codes "store/data/a.i")) (appended_by (codes "store/data/a.i") bare empty_repo ((first_change, one_draft) ∷ [])) (appended_by (codes "store/data/a.d") bare empty_repo ((first_change, one_draft) ∷ [])) ≡ codes "data/a.i" ∷ [] }
 {}
 
 /// An import of two records, the first with a bookmark, leaves the phase roots, the bookmarks, the changelog and the manifest as

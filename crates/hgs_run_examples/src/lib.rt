@@ -4,6 +4,8 @@
 #[cfg(test)]
 mod given;
 #[cfg(test)]
+mod imports;
+#[cfg(test)]
 mod outside;
 #[cfg(test)]
 mod refresh;

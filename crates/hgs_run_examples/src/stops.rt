@@ -19,7 +19,7 @@ const SECOND: &[u8] =
 const BEFORE: &[u8] =
     b"0\x09cb9a9f314b8b07ba71012fcdbc544b5a4d82ff5b\x09-1\x09-1\x090\x090\x09test\x09a\n";
 
-const AFTER: &[u8] =
+pub(crate) const AFTER: &[u8] =
     b"1\x0937bdf19219c0e69b87d6371fabfaf5c3a63794d9\x090\x09-1\x0960\x090\x09test\x09b\n0\x09cb9a9f314b8b07ba71012fcdbc544b5a4d82ff5b\x09-1\x09-1\x090\x090\x09test\x09a\n";
 
 /// The first commit of an empty file.
@@ -42,13 +42,13 @@ const CALLS: u64 = 100;
 
 /// What a word comes to over these files, with this input: the status, the text, and the files.
 #[derive(Drop)]
-struct Came {
-    status: u8,
-    text: Vec<u8>,
-    files: MemFiles,
+pub(crate) struct Came {
+    pub(crate) status: u8,
+    pub(crate) text: Vec<u8>,
+    pub(crate) files: MemFiles,
 }
 
-fn run_word<R: Alloc<A = Global> + Threads + Sync + Wait>(
+pub(crate) fn run_word<R: Alloc<A = Global> + Threads + Sync + Wait>(
     rt: &R,
     files: MemFiles,
     word: &str,
@@ -157,7 +157,9 @@ fn bytes_of(alloc: Global, files: &mut MemFiles, path: &[u8]) -> Result<Option<V
 }
 
 /// The files of a new repository.
-fn begun<R: Alloc<A = Global> + Threads + Sync + Wait>(rt: &R) -> Result<MemFiles, Fail> {
+pub(crate) fn begun<R: Alloc<A = Global> + Threads + Sync + Wait>(
+    rt: &R,
+) -> Result<MemFiles, Fail> {
     let none = MemFiles::new(rt.alloc())?;
     let made = run_word(rt, none, "init", b"")?;
     Ok(made.files.restart())

@@ -8,8 +8,10 @@ use Rattle.hgs_bytes.specs.Bytes.{same}
 use Rattle.hgs_bytes.specs.Text.{split}
 use Rattle.hgs_index.specs.MarkName.{is_mark_name}
 use Rattle.hgs_model.specs.declared.command.Command.{Command}
+use Rattle.hgs_model.specs.declared.command.NewChange.{NewChange}
 use Rattle.hgs_model.specs.declared.command.Command.TheVariants.{Move, Mark, Unmark}
-use Rattle.hgs_model.specs.Valid.{CanBeAsked}
+use Rattle.hgs_model.specs.Valid.{AreNewChanges, IsValid}
+use Rattle.hgs_input.specs.Import.{IsImportText}
 use Rattle.hgs_input.specs.Read.{behind, and_then, where_true}
 use Rattle.hgs_schedule.specs.declared.event.Event.{Event}
 use Rattle.hgs_schedule.specs.declared.event.Event.TheVariants as events
@@ -84,26 +86,26 @@ phase_can readers line event e =
 
 -- ---- commands
 
-begin_can : (line : List ℕ) (command : Command) → begin_of line ≡ Some command → CanBeAsked command
+begin_can : (line : List ℕ) (command : Command) → begin_of line ≡ Some command → IsValid command
 begin_can line command e = by_move (or_some _ _ command e)
   where
-    by_mark : (mark_of line ≡ Some command) ⊎ (unmark_of line ≡ Some command) → CanBeAsked command
+    by_mark : (mark_of line ≡ Some command) ⊎ (unmark_of line ≡ Some command) → IsValid command
     by_mark (inl h) =
         let a = then_some (behind (codes "begin bookmark ") line) _ command h in
         let b = then_some (split 32 a.0) _ command a.2 in
         let w = where_some (is_mark_name b.0.1) (Mark b.0.1 b.0.0) command b.2 in
-        subst CanBeAsked w.1 w.0
+        subst IsValid w.1 w.0
     by_mark (inr h) =
         let a = then_some (behind (codes "begin unbookmark ") line) _ command h in
         let w = where_some (is_mark_name a.0) (Unmark a.0) command a.2 in
-        subst CanBeAsked w.1 tt
+        subst IsValid w.1 tt
 
-    by_move : (move_of line ≡ Some command) ⊎ (option_or (mark_of line) (unmark_of line) ≡ Some command) → CanBeAsked command
+    by_move : (move_of line ≡ Some command) ⊎ (option_or (mark_of line) (unmark_of line) ≡ Some command) → IsValid command
     by_move (inl h) =
         let a = then_some (behind (codes "begin phase ") line) _ command h in
         let b = then_some (split 32 a.0) _ command a.2 in
         let c = then_some (target_of b.0.1) _ command b.2 in
-        subst CanBeAsked (some_is (Move b.0.0 c.0.0 c.0.1) command c.2) tt
+        subst IsValid (some_is (Move b.0.0 c.0.0 c.0.1) command c.2) tt
     by_move (inr h) = by_mark (or_some _ _ command h)
 
 asked_can : (readers : ℕ) (line : List ℕ) (event : Event) → asked_of readers line ≡ Some event → CanCome readers event
@@ -163,18 +165,23 @@ line_can readers line event e = by_word (or_some _ _ event e)
 
 -- ---- the schedule
 
-text_can : (readers : ℕ) (text : List ℕ) (event : Event) → IsEventText readers text event → CanCome readers event
-text_can readers text event (inl h) = line_can readers h.said event h.says
-text_can readers text event (inr h) = subst (CanCome readers) h.begins h.valid
+-- the changesets of an import's records can be imported
+abbrev ImportsValid : Type 0
+ImportsValid = (text : List ℕ) (changes : List NewChange) → IsImportText text changes → AreNewChanges changes
 
-texts_can : (readers : ℕ) (texts : List (List ℕ)) (all : List Event) → AreEventTexts readers texts all → AllByRecursion (CanCome readers) all
-texts_can readers [] [] h = tt
-texts_can readers [] (event ∷ all) h = absurd h
-texts_can readers (text ∷ texts) [] h = absurd h
-texts_can readers (text ∷ texts) (event ∷ all) h = (text_can readers text event h.0, texts_can readers texts all h.1)
+text_can : ImportsValid → (readers : ℕ) (text : List ℕ) (event : Event) → IsEventText readers text event → CanCome readers event
+text_can valid readers text event (inl h) = line_can readers h.said event h.says
+text_can valid readers text event (inr (inl h)) = subst (CanCome readers) h.begins h.valid
+text_can valid readers text event (inr (inr h)) = subst (CanCome readers) h.begins (valid h.records h.changes h.are)
 
-pub schedule_can : (bytes : List ℕ) (s : Schedule) → IsSchedule bytes s → CanBePlayed s
-schedule_can bytes s h =
+texts_can : ImportsValid → (readers : ℕ) (texts : List (List ℕ)) (all : List Event) → AreEventTexts readers texts all → AllByRecursion (CanCome readers) all
+texts_can valid readers [] [] h = tt
+texts_can valid readers [] (event ∷ all) h = absurd h
+texts_can valid readers (text ∷ texts) [] h = absurd h
+texts_can valid readers (text ∷ texts) (event ∷ all) h = (text_can valid readers text event h.0, texts_can valid readers texts all h.1)
+
+pub schedule_can : ImportsValid → (bytes : List ℕ) (s : Schedule) → IsSchedule bytes s → CanBePlayed s
+schedule_can valid bytes s h =
     let a = then_some (behind (codes "play ") h.first) (λ text. and_then (number_of text) (λ n. where_true (nat_le 1 n && nat_le n most_readers) n)) s.readers h.readers in
     let b = then_some (number_of a.0) (λ n. where_true (nat_le 1 n && nat_le n most_readers) n) s.readers a.2 in
     let w = where_some (nat_le 1 b.0 && nat_le b.0 most_readers) b.0 s.readers b.2 in
@@ -182,4 +189,4 @@ schedule_can bytes s h =
     let least = leb-true 1 b.0 t.0 in
     let most = leb-true b.0 most_readers t.1 in
     let is = w.1 in
-    record { least = omega (arith, least, is); most = omega (arith, most, is); events = texts_can s.readers h.texts s.events h.events }
+    record { least = omega (arith, least, is); most = omega (arith, most, is); events = texts_can valid s.readers h.texts s.events h.events }

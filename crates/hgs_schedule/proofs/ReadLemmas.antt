@@ -3,39 +3,46 @@ use Rattle.std.proofs.Common.{◌≡◌, ℕ, zero, suc, ◌-◌, ◌<◌, ◌�
 use Rattle.std.specs.Prelude.{codes, if◌then◌else◌}
 use Rattle.std.specs.Option.{option_map}
 use Rattle.hgs_bytes.specs.Bytes.{same}
-use Rattle.hgs_model.specs.declared.command.Command.TheVariants.{Commit}
+use Rattle.hgs_model.specs.declared.command.Command.TheVariants.{Commit, Import}
 use Rattle.hgs_input.specs.declared.fault.InputFault.{InputFault}
+use Rattle.hgs_input.specs.Import.{import_from}
 use Rattle.hgs_input.specs.Read.{Rest, Reading, ◌>>=◌, bad_at, place, next_line, required_at, more, record_from, is_memory}
 use Rattle.hgs_schedule.specs.declared.event.Event.{Event}
 use Rattle.hgs_schedule.specs.declared.event.Event.TheVariants as events
 use Rattle.hgs_schedule.specs.Read.{event_of, event_at, next_event, events_from}
-use Rattle.hgs_schedule.specs.Theorems.ReadLemmas.{bound, ok_is, line_fewer, line_at_end, RecordsStand, record_fewer, Refused, free}
+use Rattle.hgs_schedule.specs.Theorems.ReadLemmas.{bound, ok_is, line_fewer, line_at_end, RecordsStand, ImportsStand, record_fewer, import_fewer, Refused, free}
 
 -- ---- fewer bytes are left
 
-behind_fewer : RecordsStand → (at readers : ℕ) (line : List ℕ) (r : Rest) (p : Option Event × Rest) → event_at at readers line r ≡ Ok p → length p.1.bytes ≤ length r.bytes
-behind_fewer stand at readers line r p e = by (same line (codes "end")) (same line (codes "begin commit")) (event_of readers line) e
+behind_fewer : RecordsStand → ImportsStand → (at readers : ℕ) (line : List ℕ) (r : Rest) (p : Option Event × Rest) → event_at at readers line r ≡ Ok p → length p.1.bytes ≤ length r.bytes
+behind_fewer stand imports at readers line r p e = by (same line (codes "end")) (same line (codes "begin commit")) (same line (codes "begin import")) (event_of readers line) e
   where
     kept : (q : Option Event × Rest) → ◌≡◌ {A = Result (Option Event × Rest) InputFault} (Ok q) (Ok p) → q.1 ≡ r → length p.1.bytes ≤ length r.bytes
     kept q k h = let a = ap (λ x. length x.1.bytes) (ok_is {A = Option Event × Rest} q p k) in let b = ap (λ (x : Rest). length x.bytes) h in omega (arith, a, b)
 
-    by : (s t : Bool) (o : Option Event) → (if s then Ok (None, r)
+    by : (s t u : Bool) (o : Option Event) → (if s then Ok (None, r)
         else if t then (record_from r >>= λ c. Ok (Some (events.Begin (Commit c.0)), c.1))
+        else if u then (import_from r >>= λ c. Ok (Some (events.Begin (Import c.0)), c.1))
         else required_at at (option_map (λ e. Some e) o) r) ≡ Ok p → length p.1.bytes ≤ length r.bytes
-    by true t o k = kept (None, r) k refl
-    by false true o k =
+    by true t u o k = kept (None, r) k refl
+    by false true u o k =
         let b = bound (record_from r) (λ c. Ok (Some (events.Begin (Commit c.0)), c.1)) p k in
         let few = record_fewer stand r b.value b.is in
         let same = ap (λ x. length x.1.bytes) (ok_is {A = Option Event × Rest} (Some (events.Begin (Commit b.value.0)), b.value.1) p b.gives) in
         omega (arith, few, same)
-    by false false None k = cc
-    by false false (Some e) k = kept (Some e, r) k refl
+    by false false true o k =
+        let b = bound (import_from r) (λ c. Ok (Some (events.Begin (Import c.0)), c.1)) p k in
+        let few = import_fewer imports r b.value b.is in
+        let same = ap (λ x. length x.1.bytes) (ok_is {A = Option Event × Rest} (Some (events.Begin (Import b.value.0)), b.value.1) p b.gives) in
+        omega (arith, few, same)
+    by false false false None k = cc
+    by false false false (Some e) k = kept (Some e, r) k refl
 
-pub event_fewer : RecordsStand → (readers : ℕ) (r : Rest) (p : Option Event × Rest) → next_event readers r ≡ Ok p → length p.1.bytes < length r.bytes
-event_fewer stand readers r p e =
+pub event_fewer : RecordsStand → ImportsStand → (readers : ℕ) (r : Rest) (p : Option Event × Rest) → next_event readers r ≡ Ok p → length p.1.bytes < length r.bytes
+event_fewer stand imports readers r p e =
     let b = bound (next_line r) (λ l. event_at (place r) readers l.0 l.1) p e in
     let first = line_fewer r b.value b.is in
-    let behind_line = behind_fewer stand (place r) readers b.value.0 b.value.1 p b.gives in
+    let behind_line = behind_fewer stand imports (place r) readers b.value.0 b.value.1 p b.gives in
     omega (arith, first, behind_line)
 
 -- ---- the loop

@@ -9,8 +9,11 @@ use Rattle.hgs_bytes.specs.Text.{Lacks, line, split}
 use Rattle.hgs_index.specs.MarkName.{is_mark_name}
 use Rattle.hgs_model.specs.declared.command.Command.{Command}
 use Rattle.hgs_model.specs.declared.command.Command.TheVariants.{Commit, Import, Move, Mark, Unmark}
+use Rattle.hgs_model.specs.declared.command.NewChange.{NewChange}
 use Rattle.hgs_model.specs.declared.phase.Phase.{Phase}
 use Rattle.hgs_model.specs.Phase.{phase_name}
+use Rattle.hgs_model.specs.Valid.{AreNewChanges}
+use Rattle.hgs_input.specs.Import.{IsImportText, import_text}
 use Rattle.hgs_input.specs.Record.{Wording, most_input}
 use Rattle.hgs_input.specs.Read.{and_then, where_true}
 use Rattle.hgs_schedule.specs.declared.event.Event.{Event}
@@ -218,31 +221,35 @@ said_phase words readers reader rev most below word =
 line_text : (readers : ℕ) (event : Event) → Said readers event → IsEventText readers (line (event_line event) ++ []) event
 line_text readers event h = inl (record { said = event_line event; is = append-nil (line (event_line event)); lacks = h.lacks; says = h.says })
 
-text_of : Words → (says : Wording) (readers : ℕ) (event : Event) → readers ≤ 64 → CanCome readers event → CanBeWritten event → IsEventText readers (event_text says event) event
-text_of words says readers (events.Begin (Commit change)) most can written = inr (record { says = says; change = change; is = refl; valid = can; begins = refl })
-text_of words says readers (events.Begin (Import changes)) most can written = absurd can
-text_of words says readers (events.Begin (Move rev phase force)) most can written = line_text readers (events.Begin (Move rev phase force)) (said_move readers rev phase force written)
-text_of words says readers (events.Begin (Mark name rev)) most can written = line_text readers (events.Begin (Mark name rev)) (said_mark words readers name rev written can)
-text_of words says readers (events.Begin (Unmark name)) most can written = line_text readers (events.Begin (Unmark name)) (said_unmark words readers name written)
-text_of words says readers (events.Write None) most can written = line_text readers (events.Write None) (record { lacks = lacks_lf (codes "write") refl; says = refl })
-text_of words says readers (events.Write (Some n)) most can written = line_text readers (events.Write (Some n)) (said_write words readers n can written)
-text_of words says readers (events.Fail n) most can written = line_text readers (events.Fail n) (said_fail words readers n written)
-text_of words says readers events.UntilPublish most can written = line_text readers events.UntilPublish (record { lacks = lacks_lf (codes "until publish") refl; says = refl })
-text_of words says readers events.UntilClean most can written = line_text readers events.UntilClean (record { lacks = lacks_lf (codes "until clean") refl; says = refl })
-text_of words says readers events.Finish most can written = line_text readers events.Finish (record { lacks = lacks_lf (codes "finish") refl; says = refl })
-text_of words says readers (events.Open n) most can written = line_text readers (events.Open n) (said_open words readers n most can)
-text_of words says readers (events.Read n) most can written = line_text readers (events.Read n) (said_read words readers n most can)
-text_of words says readers (events.Load n) most can written = line_text readers (events.Load n) (said_load words readers n most can)
-text_of words says readers (events.Log n) most can written = line_text readers (events.Log n) (said_log words readers n most can)
-text_of words says readers (events.Cat reader rev path) most can written = line_text readers (events.Cat reader rev path) (said_cat words readers reader rev path most can written.0 written.1)
-text_of words says readers (events.Phase reader rev) most can written = line_text readers (events.Phase reader rev) (said_phase words readers reader rev most can written)
-text_of words says readers (events.Bookmarks n) most can written = line_text readers (events.Bookmarks n) (said_bookmarks words readers n most can)
-text_of words says readers (events.Stop n) most can written = line_text readers (events.Stop n) (said_stop words readers n written)
-text_of words says readers events.Recover most can written = line_text readers events.Recover (record { lacks = lacks_lf (codes "recover") refl; says = refl })
+-- the records of an import that is written
+abbrev ImportsWritten : Type 0
+ImportsWritten = (says : Wording) (changes : List NewChange) → AreNewChanges changes → IsImportText (import_text says changes) changes
 
-texts_of : Words → (says : Wording) (readers : ℕ) (all : List Event) → readers ≤ 64 → AllByRecursion (CanCome readers) all → AllByRecursion CanBeWritten all → AreEventTexts readers (map (event_text says) all) all
-texts_of words says readers [] most can written = tt
-texts_of words says readers (event ∷ all) most can written = (text_of words says readers event most can.0 written.0, texts_of words says readers all most can.1 written.1)
+text_of : Words → ImportsWritten → (says : Wording) (readers : ℕ) (event : Event) → readers ≤ 64 → CanCome readers event → CanBeWritten event → IsEventText readers (event_text says event) event
+text_of words imports says readers (events.Begin (Commit change)) most can written = inr (inl (record { says = says; change = change; is = refl; valid = can; begins = refl }))
+text_of words imports says readers (events.Begin (Import changes)) most can written = inr (inr (record { records = import_text says changes; changes = changes; is = refl; are = imports says changes can; begins = refl }))
+text_of words imports says readers (events.Begin (Move rev phase force)) most can written = line_text readers (events.Begin (Move rev phase force)) (said_move readers rev phase force written)
+text_of words imports says readers (events.Begin (Mark name rev)) most can written = line_text readers (events.Begin (Mark name rev)) (said_mark words readers name rev written can)
+text_of words imports says readers (events.Begin (Unmark name)) most can written = line_text readers (events.Begin (Unmark name)) (said_unmark words readers name written)
+text_of words imports says readers (events.Write None) most can written = line_text readers (events.Write None) (record { lacks = lacks_lf (codes "write") refl; says = refl })
+text_of words imports says readers (events.Write (Some n)) most can written = line_text readers (events.Write (Some n)) (said_write words readers n can written)
+text_of words imports says readers (events.Fail n) most can written = line_text readers (events.Fail n) (said_fail words readers n written)
+text_of words imports says readers events.UntilPublish most can written = line_text readers events.UntilPublish (record { lacks = lacks_lf (codes "until publish") refl; says = refl })
+text_of words imports says readers events.UntilClean most can written = line_text readers events.UntilClean (record { lacks = lacks_lf (codes "until clean") refl; says = refl })
+text_of words imports says readers events.Finish most can written = line_text readers events.Finish (record { lacks = lacks_lf (codes "finish") refl; says = refl })
+text_of words imports says readers (events.Open n) most can written = line_text readers (events.Open n) (said_open words readers n most can)
+text_of words imports says readers (events.Read n) most can written = line_text readers (events.Read n) (said_read words readers n most can)
+text_of words imports says readers (events.Load n) most can written = line_text readers (events.Load n) (said_load words readers n most can)
+text_of words imports says readers (events.Log n) most can written = line_text readers (events.Log n) (said_log words readers n most can)
+text_of words imports says readers (events.Cat reader rev path) most can written = line_text readers (events.Cat reader rev path) (said_cat words readers reader rev path most can written.0 written.1)
+text_of words imports says readers (events.Phase reader rev) most can written = line_text readers (events.Phase reader rev) (said_phase words readers reader rev most can written)
+text_of words imports says readers (events.Bookmarks n) most can written = line_text readers (events.Bookmarks n) (said_bookmarks words readers n most can)
+text_of words imports says readers (events.Stop n) most can written = line_text readers (events.Stop n) (said_stop words readers n written)
+text_of words imports says readers events.Recover most can written = line_text readers events.Recover (record { lacks = lacks_lf (codes "recover") refl; says = refl })
+
+texts_of : Words → ImportsWritten → (says : Wording) (readers : ℕ) (all : List Event) → readers ≤ 64 → AllByRecursion (CanCome readers) all → AllByRecursion CanBeWritten all → AreEventTexts readers (map (event_text says) all) all
+texts_of words imports says readers [] most can written = tt
+texts_of words imports says readers (event ∷ all) most can written = (text_of words imports says readers event most can.0 written.0, texts_of words imports says readers all most can.1 written.1)
 
 -- ---- the text of a schedule
 
@@ -251,8 +258,8 @@ first_back words n least most =
     and_then_back (number_of (decimal n)) n (λ n. where_true (nat_le 1 n && nat_le n most_readers) n) (Some n) (number_back words n (omega (arith, most)))
     (ap (λ t. where_true (t && nat_le n most_readers) n) (le-leb 1 n least) ∙ ap (λ t. where_true t n) (le-leb n most_readers most))
 
-pub text_is : Words → (says : Wording) (s : Schedule) → CanBePlayed s → AllByRecursion CanBeWritten s.events → length (schedule_text says s) ≤ most_input → IsSchedule (schedule_text says s) s
-text_is words says s can written size =
+pub text_is : Words → ImportsWritten → (says : Wording) (s : Schedule) → CanBePlayed s → AllByRecursion CanBeWritten s.events → length (schedule_text says s) ≤ most_input → IsSchedule (schedule_text says s) s
+text_is words imports says s can written size =
     let most = can.most in
     record {
       first = codes "play " ++ decimal s.readers;
@@ -260,6 +267,6 @@ text_is words says s can written size =
       is = refl;
       lacks = counted_line words (codes "play ") s.readers (lacks_lf (codes "play ") refl) (omega (arith, most));
       readers = first_back words s.readers can.least can.most;
-      events = texts_of words says s.readers s.events can.most can.events written;
+      events = texts_of words imports says s.readers s.events can.most can.events written;
       size = size;
     }

@@ -6,10 +6,11 @@ use Rattle.hgs_bytes.specs.Bytes.{same}
 use Rattle.hgs_bytes.specs.Text.{split}
 use Rattle.hgs_index.specs.MarkName.{is_mark_name}
 use Rattle.hgs_model.specs.declared.command.Command.{Command}
-use Rattle.hgs_model.specs.declared.command.Command.TheVariants.{Commit, Move, Mark, Unmark}
+use Rattle.hgs_model.specs.declared.command.Command.TheVariants.{Commit, Import, Move, Mark, Unmark}
 use Rattle.hgs_model.specs.declared.phase.Phase.{Phase}
 use Rattle.hgs_model.specs.Phase.{phase_named}
 use Rattle.hgs_input.specs.declared.fault.InputFault.{InputFault}
+use Rattle.hgs_input.specs.Import.{import_from}
 use Rattle.hgs_input.specs.Read.{Rest, Reading, ◌>>=◌, bad_at, place, next_line, required_at, required, behind, and_then, where_true, number_up_to, more, nothing_behind, record_from, start_of}
 use Rattle.hgs_schedule.specs.declared.event.Event.{Event}
 use Rattle.hgs_schedule.specs.declared.event.Event.TheVariants as events
@@ -114,11 +115,12 @@ event_of readers line = option_or (word_event line) (option_or (bytes_event line
 
 -- ---- the schedule
 
--- at the last line no event; at a commit its record; else what the line says
+-- at the last line no event; at a commit its record, and at an import its records; else what the line says
 abbrev pub event_at : ℕ → ℕ → List ℕ → Rest → Reading (Option Event)
 event_at at readers line rest =
     if same line (codes "end") then Ok (None, rest)
     else if same line (codes "begin commit") then (record_from rest >>= λ c. Ok (Some (events.Begin (Commit c.0)), c.1))
+    else if same line (codes "begin import") then (import_from rest >>= λ c. Ok (Some (events.Begin (Import c.0)), c.1))
     else required_at at (option_map (λ e. Some e) (event_of readers line)) rest
 
 -- the next event, where the schedule is not at its end

@@ -7,7 +7,8 @@ use Rattle.hgs_model.specs.declared.command.Command.{Command}
 use Rattle.hgs_model.specs.declared.command.Command.TheVariants.{Commit, Import, Move, Mark, Unmark}
 use Rattle.hgs_index.specs.MarkName.{is_mark_name}
 use Rattle.hgs_model.specs.Phase.{phase_name}
-use Rattle.hgs_model.specs.Valid.{CanBeAsked, IsNewChange}
+use Rattle.hgs_model.specs.Valid.{IsNewChange, IsValid}
+use Rattle.hgs_input.specs.Import.{IsImportText, import_text}
 use Rattle.hgs_input.specs.Record.{Wording, most_input, record_text}
 use Rattle.hgs_schedule.specs.declared.event.Event.{Event}
 use Rattle.hgs_schedule.specs.declared.event.Event.TheVariants.{Begin, Write, Fail, UntilPublish, UntilClean, Finish, Open, Read, Load, Log, Cat, Phase, Bookmarks, Stop, Recover}
@@ -29,8 +30,16 @@ pub record IsCommitOf (text : List ℕ) (event : Event) : Type 0 where
   pub valid : IsNewChange change
   pub begins : Begin (Commit change) ≡ event
 
+-- the text is a line and the records of an import, with whose changesets it begins
+pub record IsImportOf (text : List ℕ) (event : Event) : Type 0 where
+  pub records : List ℕ
+  pub changes : List NewChange
+  pub is : text ≡ line (codes "begin import") ++ records
+  pub are : IsImportText records changes
+  pub begins : Begin (Import changes) ≡ event
+
 abbrev pub IsEventText : ℕ → List ℕ → Event → Type 0
-IsEventText readers text event = IsLineOf readers text event ⊎ IsCommitOf text event
+IsEventText readers text event = IsLineOf readers text event ⊎ (IsCommitOf text event ⊎ IsImportOf text event)
 
 -- each text is that of one event, in order
 abbrev pub AreEventTexts : ℕ → List (List ℕ) → List Event → Type 0
@@ -51,7 +60,7 @@ pub record IsSchedule (bytes : List ℕ) (s : Schedule) : Type 0 where
 
 -- an event that can come where there are so many readers: its command is one that can be given, a part of an operation has a byte, and the reader is one of them
 abbrev pub CanCome : ℕ → Event → Type 0
-CanCome readers (Begin command) = CanBeAsked command
+CanCome readers (Begin command) = IsValid command
 CanCome readers (Write None) = ⊤
 CanCome readers (Write (Some count)) = 1 ≤ count
 CanCome readers (Fail count) = ⊤
@@ -106,13 +115,14 @@ event_line (Bookmarks reader) = codes "bookmarks " ++ decimal reader
 event_line (Stop count) = codes "stop " ++ decimal count
 event_line Recover = codes "recover"
 
--- what stands behind the line of an event: the record of a commit
-abbrev pub record_behind : Wording → Event → List ℕ
-record_behind says (Begin (Commit change)) = record_text says change
-record_behind says event = []
+-- what stands behind the line of an event: the record of a commit, or those of an import
+abbrev pub records_behind : Wording → Event → List ℕ
+records_behind says (Begin (Commit change)) = record_text says change
+records_behind says (Begin (Import changes)) = import_text says changes
+records_behind says event = []
 
 abbrev pub event_text : Wording → Event → List ℕ
-event_text says event = line (event_line event) ++ record_behind says event
+event_text says event = line (event_line event) ++ records_behind says event
 
 -- a schedule, whose records are all worded alike
 abbrev pub schedule_text : Wording → Schedule → List ℕ

@@ -8,7 +8,10 @@ ghost use Rattle.hgs_schedule.specs.declared.event.Schedule.{Schedule};
 ghost use Rattle.hgs_schedule.specs.Read.{read_schedule};
 ghost use Rattle.hgs_schedule.specs.Schedule.{IsSchedule, CanBePlayed, CanBeWritten, schedule_text};
 
-use hgs_input::laws::{fronts_are_read_alike, records_stand_in_front, words_written_then_read};
+use hgs_input::laws::{
+    fronts_are_read_alike, imports_are_read_alike, imports_stand_in_front, records_stand_in_front,
+    words_written_then_read,
+};
 
 /// Each front of a schedule is cut, and so refused at its length.
 pub fn fronts_are_cut()
@@ -16,6 +19,8 @@ pub fn fronts_are_cut()
 {
     records_stand_in_front();
     fronts_are_read_alike();
+    imports_stand_in_front();
+    imports_are_read_alike();
 }
 
 /// A fault that is not at the end of the input is that of each input that goes on, so only what stands before it decides.
@@ -27,6 +32,8 @@ pub fn faults_stay()
 {
     records_stand_in_front();
     fronts_are_read_alike();
+    imports_stand_in_front();
+    imports_are_read_alike();
 }
 
 /// An input that is longer than the limit is decided by its bytes up to the first past the limit.
@@ -39,6 +46,7 @@ pub fn read_schedules_are_schedules()
     ensures { (bytes : List ℕ) (s : Schedule) → read_schedule bytes ≡ Ok s → IsSchedule bytes s }
 {
     records_stand_in_front();
+    imports_stand_in_front();
 }
 
 /// Each schedule is read, as its readers and its events.
@@ -46,6 +54,7 @@ pub fn schedules_are_read()
     ensures { (bytes : List ℕ) (s : Schedule) → IsSchedule bytes s → read_schedule bytes ≡ Ok s }
 {
     records_stand_in_front();
+    imports_stand_in_front();
 }
 
 /// What is read can be played: each reader is there, each part of an operation has a byte, each command can be given.
@@ -53,6 +62,7 @@ pub fn read_schedules_can_be_played()
     ensures { (bytes : List ℕ) (s : Schedule) → read_schedule bytes ≡ Ok s → CanBePlayed s }
 {
     read_schedules_are_schedules();
+    imports_stand_in_front();
 }
 
 /// A schedule is read from its text again, however its records are worded.
@@ -60,5 +70,6 @@ pub fn schedule_written_then_read()
     ensures { (says : Wording) (s : Schedule) → CanBePlayed s → AllByRecursion CanBeWritten s.events → length (schedule_text says s) ≤ most_input → read_schedule (schedule_text says s) ≡ Ok s }
 {
     words_written_then_read();
+    imports_stand_in_front();
     schedules_are_read();
 }

@@ -10,7 +10,7 @@ use crate::line::{event_from, readers_from};
 use hgs_bytes::parts::equal;
 use hgs_input::fault::InputFault;
 use hgs_input::input::{Input, bad_at};
-use hgs_input::laws::records_stand_in_front;
+use hgs_input::laws::{imports_stand_in_front, records_stand_in_front};
 use hgs_model::command::Command;
 use std::alloc::Global;
 
@@ -43,6 +43,10 @@ fn event<'a>(
         let change = input.record(alloc)?;
         return Ok(Some(Event::Begin(Command::Commit(change))));
     }
+    if equal(line, b"begin import") {
+        let changes = input.import(alloc)?;
+        return Ok(Some(Event::Begin(Command::Import(changes))));
+    }
     let Some(event) = event_from(alloc, readers, line)? else {
         return Err(bad_at(place));
     };
@@ -53,6 +57,7 @@ fn events<'a>(alloc: Global, readers: u32, input: &mut Input<'a>) -> Result<Even
     ensures { Reads (λ e. e) result input.new (events_from readers (length input.old.bytes) [] input.old) }
 {
     records_stand_in_front();
+    imports_stand_in_front();
     let mut events = Events::new(alloc);
     while let Some(event) = event(alloc, readers, input)? {
         events.push(event)?;
@@ -71,7 +76,8 @@ fn schedule<'a>(alloc: Global, input: &mut Input<'a>) -> Result<Schedule, InputF
 /// The schedule of an input, or its first fault.
 ///
 /// It has, each with an LF: `play N`, the number of readers, 1 to 64; the events, each in a line, but for `begin commit`,
-/// behind whose line a record stands; `end`, with nothing behind it.
+/// behind whose line a record stands, and `begin import`, behind whose line those of an import stand, with their last line; `end`, with
+/// nothing behind it.
 ///
 /// An input that is too long is decided as that of a record is.
 ///

@@ -8,7 +8,6 @@ use Rattle.hgs_bytes.specs.Text.{split}
 use Rattle.hgs_index.specs.MarkName.{is_mark_name}
 use Rattle.hgs_model.specs.declared.command.Command.{Command}
 use Rattle.hgs_model.specs.declared.command.Command.TheVariants.{Move, Mark, Unmark}
-use Rattle.hgs_model.specs.Valid.{CanBeAsked}
 use Rattle.hgs_input.specs.Read.{behind, and_then, where_true, number_up_to}
 use Rattle.hgs_schedule.specs.Read.{target_of}
 use Rattle.hgs_script.specs.declared.job.Job.{Job}
@@ -21,26 +20,29 @@ use Rattle.hgs_schedule.specs.Theorems.ReadLemmas.{some_is, or_some, map_some, t
 
 -- ---- one job
 
-change_can : (said : List ℕ) (command : Command) → change_of said ≡ Some command → CanBeAsked command
+change_can : (said : List ℕ) (command : Command) → change_of said ≡ Some command → CanBeDone (Change command)
 change_can said command e = by_move (or_some _ _ command e)
   where
-    by_mark : (mark_of said ≡ Some command) ⊎ (unmark_of said ≡ Some command) → CanBeAsked command
+    CanBe : Command → Type 0
+    CanBe command = CanBeDone (Change command)
+
+    by_mark : (mark_of said ≡ Some command) ⊎ (unmark_of said ≡ Some command) → CanBeDone (Change command)
     by_mark (inl h) =
         let a = then_some (behind (codes "bookmark ") said) _ command h in
         let b = then_some (split 32 a.0) _ command a.2 in
         let w = where_some (is_mark_name b.0.1) (Mark b.0.1 b.0.0) command b.2 in
-        subst CanBeAsked w.1 w.0
+        subst CanBe w.1 (w.0, tt)
     by_mark (inr h) =
         let a = then_some (behind (codes "unbookmark ") said) _ command h in
         let w = where_some (is_mark_name a.0) (Unmark a.0) command a.2 in
-        subst CanBeAsked w.1 tt
+        subst CanBe w.1 (tt, tt)
 
-    by_move : (move_of said ≡ Some command) ⊎ (option_or (mark_of said) (unmark_of said) ≡ Some command) → CanBeAsked command
+    by_move : (move_of said ≡ Some command) ⊎ (option_or (mark_of said) (unmark_of said) ≡ Some command) → CanBeDone (Change command)
     by_move (inl h) =
         let a = then_some (behind (codes "phase ") said) _ command h in
         let b = then_some (split 32 a.0) _ command a.2 in
         let c = then_some (target_of b.0.1) _ command b.2 in
-        subst CanBeAsked (some_is (Move b.0.0 c.0.0 c.0.1) command c.2) tt
+        subst CanBe (some_is (Move b.0.0 c.0.0 c.0.1) command c.2) (tt, tt)
     by_move (inr h) = by_mark (or_some _ _ command h)
 
 job_can : (said : List ℕ) (job : Job) → job_of said ≡ Some job → CanBeDone job
@@ -52,7 +54,7 @@ job_can said job e = by (or_some _ _ job e)
 
 text_can : (n : ℕ) (text : List ℕ) (task : Task) → IsTaskText n text task → CanBeDone task.1
 text_can n text task (inl h) = job_can h.said task.1 h.says
-text_can n text task (inr h) = subst CanBeDone h.commits h.valid
+text_can n text task (inr h) = subst CanBeDone h.commits (h.valid, tt)
 
 -- ---- all jobs
 

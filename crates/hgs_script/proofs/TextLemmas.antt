@@ -131,10 +131,10 @@ line_text words n worker job most there h = inl (record {
 
 text_of : Words → (says : Wording) (n worker : ℕ) (job : Job) → n ≤ most_workers → worker < n → CanBeDone job → CanBeWritten job → IsTaskText n (task_text says (worker, job)) (worker, job)
 text_of words says n worker (Change (Commit change)) most there can written =
-    inr (record { word = decimal worker; says = says; change = change; is = refl; worker = worker_back words n worker most there; valid = can; commits = refl })
-text_of words says n worker (Change (Import changes)) most there can written = absurd can
+    inr (record { word = decimal worker; says = says; change = change; is = refl; worker = worker_back words n worker most there; valid = can.0; commits = refl })
+text_of words says n worker (Change (Import changes)) most there can written = absurd can.1
 text_of words says n worker (Change (Move rev phase force)) most there can written = line_text words n worker (Change (Move rev phase force)) most there (said_move rev phase force written)
-text_of words says n worker (Change (Mark name rev)) most there can written = line_text words n worker (Change (Mark name rev)) most there (said_mark words name rev written can)
+text_of words says n worker (Change (Mark name rev)) most there can written = line_text words n worker (Change (Mark name rev)) most there (said_mark words name rev written can.0)
 text_of words says n worker (Change (Unmark name)) most there can written = line_text words n worker (Change (Unmark name)) most there (said_unmark words name written)
 text_of words says n worker (Ask (questions.Phase rev)) most there can written = line_text words n worker (Ask (questions.Phase rev)) most there (said_phase rev written)
 text_of words says n worker (Ask questions.Log) most there can written = line_text words n worker (Ask questions.Log) most there (record { lacks = lacks_lf (codes "log") refl; says = refl })

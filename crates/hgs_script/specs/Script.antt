@@ -6,7 +6,7 @@ use Rattle.hgs_model.specs.declared.command.NewChange.{NewChange}
 use Rattle.hgs_model.specs.declared.command.Command.{Command}
 use Rattle.hgs_model.specs.declared.command.Command.TheVariants.{Commit, Import, Move, Mark, Unmark}
 use Rattle.hgs_model.specs.Phase.{phase_name}
-use Rattle.hgs_model.specs.Valid.{CanBeAsked, IsNewChange}
+use Rattle.hgs_model.specs.Valid.{IsNewChange, IsValid}
 use Rattle.hgs_input.specs.Record.{Wording, most_input, record_text}
 use Rattle.hgs_input.specs.Read.{number_up_to}
 use Rattle.hgs_schedule.specs.Schedule.{IsWord, HasWords, force_text}
@@ -86,9 +86,17 @@ pub record IsScript (bytes : List ℕ) (s : Script) : Type 0 where
 
 -- ---- what a session can run
 
--- the command of a job that writes is one that can be given
+-- no job is an import
+abbrev pub IsJob : Command → Type 0
+IsJob (Commit change) = ⊤
+IsJob (Import changes) = ⊥
+IsJob (Move rev phase force) = ⊤
+IsJob (Mark name rev) = ⊤
+IsJob (Unmark name) = ⊤
+
+-- the command of a job that writes is one that can be given to a worker
 abbrev pub CanBeDone : Job → Type 0
-CanBeDone (Change command) = CanBeAsked command
+CanBeDone (Change command) = IsValid command × IsJob command
 CanBeDone (Ask question) = ⊤
 
 pub record IsShare (jobs : List Job) : Type 0 where
@@ -103,7 +111,7 @@ pub record CanBeRun (s : Script) : Type 0 where
 
 -- ---- how a script is written
 
--- no job is an import
+-- an import has none
 abbrev pub change_line : Command → List ℕ
 change_line (Commit change) = codes "commit"
 change_line (Import changes) = []

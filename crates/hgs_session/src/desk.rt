@@ -1,7 +1,7 @@
 //! What lies under the lock of a session: the writing end, with the history of what was done by it.
 ghost use Rattle.std.specs.Prelude.{◌≡◌, ◌++◌, ◌∷◌, ◌≤◌, [], Some, IfOk, IfSome, OnOk, false, true, length};
 ghost use Rattle.hgs_answers.specs.Answer.{answer_text, status_of};
-ghost use Rattle.hgs_model.specs.Valid.{CanBeAsked};
+ghost use Rattle.hgs_model.specs.Valid.{IsValid};
 ghost use Rattle.hgs_script.specs.declared.job.Job.TheVariants.{Change};
 ghost use Rattle.hgs_session.specs.Calls.{MayMake, is_published, is_unsure, job_in, name_of, published_by, unsure_with};
 ghost use Rattle.hgs_session.specs.Desk.{HasMade, IsDone, IsOpen, StandsAt};
@@ -182,7 +182,7 @@ impl<N: Naming, W: Leads> Desk<N, W> {
         requires may { IsOpen self.old.next.items worker job }
         requires job { job_in N.begins.jobs worker job ≡ Some (Change command.now) }
         requires name { name.now ≡ name_of worker job }
-        requires valid { CanBeAsked command.now }
+        requires valid { IsValid command.now }
         requires least { 1 ≤ length name.now }
         requires most { length name.now ≤ 255 }
         requires allows { MayMake N.begins W.allows }
@@ -229,7 +229,7 @@ impl<N: Naming, W: Leads> Desk<N, W> {
         job: u32,
     ) -> Option<Done<N, W::Front>>
         requires job { job_in N.begins.jobs worker job ≡ Some (Change command.now) }
-        requires valid { CanBeAsked command.now }
+        requires valid { IsValid command.now }
         requires allows { MayMake N.begins W.allows }
         ensures home { IfSome result (λ done. W.Front.home done.front ≡ N.home) }
         ensures done { IfSome result (λ done. ∥ IsDone worker job command.now (W.Front.log done.front) done.history done.answered ∥₁) }

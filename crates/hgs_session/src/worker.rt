@@ -1,7 +1,7 @@
 //! A worker of a session.
 ghost use Rattle.std.specs.Prelude.{◌≡◌, [], Some, IfSome, length, slice_get, false};
 ghost use Rattle.std.specs.List.{AllByRecursion};
-ghost use Rattle.hgs_model.specs.Valid.{CanBeAsked};
+ghost use Rattle.hgs_model.specs.Valid.{IsValid};
 ghost use Rattle.hgs_script.specs.declared.job.Job.TheVariants.{Ask, Change};
 ghost use Rattle.hgs_script.specs.Script.{CanBeDone};
 ghost use Rattle.hgs_session.specs.Calls.{MayMake, job_in};
@@ -46,7 +46,7 @@ fn write_at<N: Naming, W: Leads, T: Wait>(
     job: u32,
 ) -> Option<Done<N, W::Front>>
     requires job { job_in N.begins.jobs worker job ≡ Some (Change command.now) }
-    requires valid { CanBeAsked command.now }
+    requires valid { IsValid command.now }
     requires allows { MayMake N.begins W.allows }
     ensures home { IfSome result (λ done. W.Front.home done.front ≡ N.home) }
     ensures done { IfSome result (λ done. ∥ IsDone worker job command.now (W.Front.log done.front) done.history done.answered ∥₁) }
@@ -98,7 +98,7 @@ impl<N: Naming, R: Follows> Worker<N, R> {
         requires sound { self.old.broken ≡ false }
         requires number { job ≡ length self.old.replies.items }
         requires job { job_in N.begins.jobs self.old.number job ≡ Some (Change command.now) }
-        requires valid { CanBeAsked command.now }
+        requires valid { IsValid command.now }
         requires allows { MayMake N.begins W.allows }
         ensures number { self.new.number ≡ self.old.number }
     {

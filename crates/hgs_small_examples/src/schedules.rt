@@ -15,7 +15,7 @@ fn is_command(command: &Command, (kind, number, first, second): Row) -> bool {
                 && change.files.len() as u64 == number
                 && change.description.as_slice() == first
         }
-        Command::Import(_) => false,
+        Command::Import(changes) => kind == "import" && changes.len() as u64 == number,
         Command::Move { rev, phase, force } => {
             let kind_is = if *force { "force" } else { "phase" };
             kind == kind_is && phase.number() as u64 == number && rev.as_slice() == first
@@ -103,6 +103,12 @@ const EACH_ROWS: [Row; 23] = [
     ("recover", 0, b"", b""),
 ];
 
+/// An import of two changesets, and an event behind its last line.
+const IMPORTS: &[u8] =
+    b"play 1\nbegin import\ncommit\nuser u\ndate 0 0\ndesc 0\n\nend\ncommit\nuser v\ndate 0 0\ndesc 0\n\nend\nend import\nfinish\nend\n";
+
+const IMPORTS_ROWS: [Row; 2] = [("import", 2, b"", b""), ("finish", 0, b"", b"")];
+
 #[test]
 fn schedules(rt: HostRuntime) -> Result<(), Fail> {
     for (text, readers, rows) in [
@@ -112,6 +118,7 @@ fn schedules(rt: HostRuntime) -> Result<(), Fail> {
             WITHIN_AN_ENTRY_ROWS.as_slice(),
         ),
         (EACH, 64, &EACH_ROWS),
+        (IMPORTS, 1, &IMPORTS_ROWS),
         (b"play 2\nend\n", 2, &[]),
     ] {
         let read = given(read_schedule(rt.alloc(), text))?;

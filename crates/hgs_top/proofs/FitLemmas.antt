@@ -6,11 +6,12 @@ use Rattle.hgs_index.specs.MarkName.{is_mark_name}
 use Rattle.hgs_top.specs.declared.operands.Operand.{Operand}
 use Rattle.hgs_top.specs.declared.operands.Operand.TheVariants as operand_kinds
 use Rattle.hgs_top.specs.declared.pages.Page.{Page}
-use Rattle.hgs_top.specs.Words.{Job, do_init, do_commit, do_recover, do_move, do_mark, do_unmark, Request, to_answer, to_do, to_play, to_session, to_verify, to_generate, operands, operand, with_operand, asked_with, alone_named, alone_else, about_named, bookmark_with, branches_with, steps_of, verify_with, jobs_of, phase_with, phase_or_move, moved_with, behind_word, request_named, request_of_words, page_named, page_else}
+use Rattle.hgs_top.specs.Words.{Job, do_init, do_commit, do_import, do_recover, do_move, do_mark, do_unmark, Request, to_answer, to_do, to_play, to_session, to_verify, to_generate, operands, operand, with_operand, asked_with, alone_named, alone_else, about_named, bookmark_with, branches_with, steps_of, verify_with, jobs_of, phase_with, phase_or_move, moved_with, behind_word, request_named, request_of_words, page_named, page_else}
 
 abbrev pub IsFitJob : Job → Type 0
 IsFitJob do_init = ⊤
 IsFitJob do_commit = ⊤
+IsFitJob do_import = ⊤
 IsFitJob do_recover = ⊤
 IsFitJob (do_move rev phase force) = ⊤
 IsFitJob (do_mark name rev) = is_mark_name name ≡ true
@@ -96,7 +97,7 @@ either-option false x y hx hy = hy
 alone-fits : (name : List ℕ) → IsFitOption (alone_named name)
 alone-fits name =
     either-option (same name (codes "log")) _ _ tt (either-option (same name (codes "heads")) _ _ tt (either-option (same name (codes "bookmarks")) _ _ tt (either-option (same name (codes "parents")) _ _ tt
-    (either-option (same name (codes "init")) _ _ tt (either-option (same name (codes "commit")) _ _ tt (either-option (same name (codes "recover")) _ _ tt (either-option (same name (codes "play")) _ _ tt (either-option (same name (codes "session")) _ _ tt tt))))))))
+    (either-option (same name (codes "init")) _ _ tt (either-option (same name (codes "commit")) _ _ tt (either-option (same name (codes "import")) _ _ tt (either-option (same name (codes "recover")) _ _ tt (either-option (same name (codes "play")) _ _ tt (either-option (same name (codes "session")) _ _ tt tt)))))))))
 
 alone-else-fits : (o : Option Request) (about : Result Request ℕ) (words : List (List ℕ)) → IsFitOption o → IfOk about IsFitRequest → IfOk (alone_else o about words) IsFitRequest
 alone-else-fits None about words fit h = h

@@ -4,12 +4,13 @@ use Rattle.std.proofs.lemmas.List.{take_all, take_at}
 use Rattle.hgs_files.specs.Streams.{IsTaken}
 use Rattle.hgs_input.specs.Record.{most_input}
 use Rattle.hgs_bytes.specs.Answer.{Gives}
+use Rattle.hgs_input.specs.Import.{read_import}
 use Rattle.hgs_input.specs.Read.{is_memory, read_record}
 use Rattle.hgs_input.specs.declared.fault.InputFault.{InputFault}
 use Rattle.hgs_model.specs.declared.command.NewChange.{NewChange}
 use Rattle.hgs_schedule.specs.Read.{read_schedule}
 use Rattle.hgs_schedule.specs.declared.event.Schedule.{Schedule}
-use Rattle.hgs_top.specs.Orders.{Gave, IsAtEnd}
+use Rattle.hgs_top.specs.Orders.{Gave, GaveImport, IsAtEnd}
 use Rattle.hgs_top.specs.Play.{GaveSchedule}
 use Rattle.hgs_top.specs.Theorems.Inputs.{looked_at_decides}
 
@@ -62,6 +63,13 @@ gave long None bytes given e h = tt
 gave long (Some all) bytes given e h =
     let P : Result NewChange InputFault → Type 0 = λ r. Gives is_memory (λ change. change) given r in
     subst P (ap read_record e ∙ looked_at_decides read_record long all) h
+
+pub gave_import : ((front more : List ℕ) → most_input < length front → read_import (front ++ more) ≡ read_import front) → (left : Option (List ℕ)) (bytes : List ℕ) (given : Result (List NewChange) InputFault) → IfSome left (λ all. bytes ≡ take (most_input + 1) all)
+    → Gives is_memory (λ changes. changes) given (read_import bytes) → GaveImport left given
+gave_import long None bytes given e h = tt
+gave_import long (Some all) bytes given e h =
+    let P : Result (List NewChange) InputFault → Type 0 = λ r. Gives is_memory (λ changes. changes) given r in
+    subst P (ap read_import e ∙ looked_at_decides read_import long all) h
 
 pub gave_schedule : ((front more : List ℕ) → most_input < length front → read_schedule (front ++ more) ≡ read_schedule front) → (left : Option (List ℕ)) (bytes : List ℕ) (given : Result Schedule InputFault) → IfSome left (λ all. bytes ≡ take (most_input + 1) all)
     → Gives is_memory (λ s. s) given (read_schedule bytes) → GaveSchedule left given

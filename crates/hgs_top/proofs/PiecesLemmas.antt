@@ -31,7 +31,7 @@ module _ (taken : Taken) (words : List (List ℕ)) (job : Job) (left : Option (L
   by-end Exists comes = absurd (subst IsWriting comes.0 writing)
   by-end (NotMade fault) comes = absurd (subst IsWriting comes.0 writing)
   by-end NoInput comes = unchanged comes.1
-  by-end (NoRecord fault) comes = unchanged comes.2
+  by-end (NoRecord fault) comes = unchanged comes.1
   by-end (Refused refusal) comes = unchanged comes.3
   by-end (Answered command answer) comes =
       let history = taken.answered job left log new start r command answer stands (taken.valid words job left command asked told comes.0) (needs command comes.0) comes in

@@ -4,7 +4,7 @@ use Rattle.hgs_input.specs.declared.fault.InputFault.{InputFault}
 use Rattle.hgs_input.specs.declared.fault.InputFault.TheVariants as inputs
 use Rattle.hgs_top.specs.Orders.{IsReadBy, record_fault_status}
 use Rattle.hgs_top.specs.Run.{IsOneOf}
-use Rattle.hgs_top.specs.Words.{Job, do_commit, do_init, do_mark, do_move, do_recover, do_unmark}
+use Rattle.hgs_top.specs.Words.{Job, do_commit, do_import, do_init, do_mark, do_move, do_recover, do_unmark}
 
 pub refused_otherwise : (fault : InputFault) → record_fault_status fault ≢ 0
 refused_otherwise (inputs.BadInput place) e = omega (arith, e)
@@ -21,6 +21,7 @@ zero_said status said (inr (inr (inr none))) z = absurd none
 pub read_said : (job : Job) (status said : ℕ) (left : Option (List ℕ)) → IsOneOf (19 ∷ 30 ∷ said ∷ []) status → IsReadBy job said left → IsReadBy job status left
 read_said do_init status said left one h = tt
 read_said do_commit status said left one h = λ z. h (zero_said status said one z)
+read_said do_import status said left one h = λ z. h (zero_said status said one z)
 read_said do_recover status said left one h = tt
 read_said (do_move rev phase force) status said left one h = tt
 read_said (do_mark name rev) status said left one h = tt

@@ -11,7 +11,7 @@ use Rattle.hgs_model.specs.declared.command.Command.{Command}
 use Rattle.hgs_stands.specs.Stands.{Stands}
 use Rattle.hgs_writer.specs.Alone.{HasWhatItNeeds, IsAnswered, IsStopOf}
 use Rattle.hgs_top.specs.Orders.{IsCommandOf}
-use Rattle.hgs_top.specs.Words.{Job, do_init, do_commit, do_recover, do_move, do_mark, do_unmark, request_of_words, to_do}
+use Rattle.hgs_top.specs.Words.{Job, do_init, do_commit, do_import, do_recover, do_move, do_mark, do_unmark, request_of_words, to_do}
 
 -- The operations are pieces of a legal log; behind them the tree stands for what the answer says; and wherever they are stopped it
 -- stands for the repository before or is open for it, or, where what was done leads on, it stands for the next one.
@@ -30,6 +30,7 @@ GoesOnAs log new start r command outcome = (done : List Op) × (new ≡ Some (lo
 abbrev pub IsWriting : Job → Type 0
 IsWriting do_init = ⊥
 IsWriting do_commit = ⊤
+IsWriting do_import = ⊤
 IsWriting do_recover = ⊥
 IsWriting (do_move rev phase force) = ⊤
 IsWriting (do_mark name rev) = ⊤
@@ -38,6 +39,7 @@ IsWriting (do_unmark name) = ⊤
 -- the input is told where the command stands there
 abbrev pub IsTold : Job → Option (List ℕ) → Type 0
 IsTold do_commit left = IsSome left
+IsTold do_import left = IsSome left
 IsTold job left = ⊤
 
 -- From files that stand for a repository, and have what the command of these words and this input needs of them that no test tells,
@@ -46,6 +48,6 @@ abbrev pub MakesPieces : Job → Option (List ℕ) → List Op → Option (List 
 MakesPieces job left log new start = (r : Repo) → Stands (after_all log start) r → ((command : Command) → IsCommandOf job left command → HasWhatItNeeds (after_all log start) r command)
     → (done : List Op) × (new ≡ Some (log ++ done)) × Pieces (after_all log start) r done
 
--- where the log is told, and of a commit the input too
+-- where the log is told, and of a commit or an import the input too
 abbrev pub MakesHistory : List (List ℕ) → Option (List ℕ) → Option (List Op) → Option (List Op) → Tree → Type 0
 MakesHistory words left old new start = IfSome old (λ log. (job : Job) → request_of_words words ≡ Ok (to_do job) → IsWriting job → IsTold job left → MakesPieces job left log new start)

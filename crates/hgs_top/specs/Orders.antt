@@ -17,6 +17,7 @@ use Rattle.hgs_files.specs.Tree.{Tree, after_all}
 use Rattle.hgs_index.specs.MarkName.{is_mark_name}
 use Rattle.hgs_index.specs.Limit.{limit_number}
 use Rattle.hgs_index.specs.declared.node.Node.{Node}
+use Rattle.hgs_input.specs.Import.{read_import}
 use Rattle.hgs_input.specs.Read.{is_memory, read_record}
 use Rattle.hgs_input.specs.declared.fault.InputFault.{InputFault}
 use Rattle.hgs_input.specs.declared.fault.InputFault.TheVariants.{BadInput, Limit, Memory}
@@ -52,12 +53,13 @@ use Rattle.hgs_findings.specs.Findings.{Finding, IsReport}
 use Rattle.hgs_verify.specs.Refusal.{IsWhy, is_refusal}
 use Rattle.hgs_top.specs.Run.{EndsLine, IsReportable, OfTree, memory_line}
 use Rattle.hgs_top.specs.Verified.{report_status, summary_text}
-use Rattle.hgs_top.specs.Words.{Job, do_init, do_commit, do_recover, do_move, do_mark, do_unmark, Request, to_answer, to_do, to_play, to_session, to_verify, to_generate}
+use Rattle.hgs_top.specs.Words.{Job, do_init, do_commit, do_import, do_recover, do_move, do_mark, do_unmark, Request, to_answer, to_do, to_play, to_session, to_verify, to_generate}
 
 -- a bookmark's name is one that a bookmark can have
 abbrev pub IsFit : Order → Type 0
 IsFit orders.Init = ⊤
 IsFit orders.Commit = ⊤
+IsFit orders.Import = ⊤
 IsFit orders.Recover = ⊤
 IsFit (orders.Move rev phase force) = ⊤
 IsFit (orders.Mark name rev) = is_mark_name name.now ≡ true
@@ -136,14 +138,39 @@ lock_text = codes "hg-store"
 abbrev pub Gave : Option (List ℕ) → Result NewChange InputFault → Type 0
 Gave left given = IfSome left (λ bytes. Gives is_memory (λ change. change) given (read_record bytes))
 
--- The command that is carried out; that of a commit is on the input.
+-- the changesets of which the input has the records, or its first fault
+abbrev pub GaveImport : Option (List ℕ) → Result (List NewChange) InputFault → Type 0
+GaveImport left given = IfSome left (λ bytes. Gives is_memory (λ changes. changes) given (read_import bytes))
+
+-- The command that is carried out; that of a commit or an import is on the input.
 abbrev pub IsCommandOf : Job → Option (List ℕ) → Command → Type 0
 IsCommandOf do_init left command = ⊥
 IsCommandOf do_recover left command = ⊥
 IsCommandOf do_commit left command = (change : NewChange) × (command ≡ commands.Commit change) × Gave left (Ok change)
+IsCommandOf do_import left command = (changes : List NewChange) × (command ≡ commands.Import changes) × GaveImport left (Ok changes)
 IsCommandOf (do_move rev phase force) left command = command ≡ commands.Move rev phase force
 IsCommandOf (do_mark name rev) left command = command ≡ commands.Mark name rev
 IsCommandOf (do_unmark name) left command = command ≡ commands.Unmark name
+
+-- a commit and an import read the input
+abbrev pub ReadsInput : Job → Type 0
+ReadsInput do_init = ⊥
+ReadsInput do_commit = ⊤
+ReadsInput do_import = ⊤
+ReadsInput do_recover = ⊥
+ReadsInput (do_move rev phase force) = ⊥
+ReadsInput (do_mark name rev) = ⊥
+ReadsInput (do_unmark name) = ⊥
+
+-- the input that they read has this fault
+abbrev pub GaveFault : Job → Option (List ℕ) → InputFault → Type 0
+GaveFault do_init left fault = ⊥
+GaveFault do_commit left fault = Gave left (Err fault)
+GaveFault do_import left fault = GaveImport left (Err fault)
+GaveFault do_recover left fault = ⊥
+GaveFault (do_move rev phase force) left fault = ⊥
+GaveFault (do_mark name rev) left fault = ⊥
+GaveFault (do_unmark name) left fault = ⊥
 
 -- Where `requires` is of the profile, a writer answers; else nothing is done.
 abbrev pub IsAllowed : Command → Option (List Op) → Option (List Op) → Tree → Result Answer ReadAnswer → Type 0
@@ -151,13 +178,13 @@ IsAllowed command old new start (Ok answer) = OfTree old start (λ t. required_i
 IsAllowed command old new start (Err refusal) = OfTree old start (λ t. Gives is_of_outside (λ x. x) (Err refusal) (required_in t)) × (new ≡ old)
 
 -- What a command came to of these files, and what it did to them. A repository is made only where none stands, and where it is not
--- made, not all was done. An input that failed or is no record, and then what `requires` says, are looked at before a file is changed. What a writer does, and what recovering does, is what the contracts of these calls say.
+-- made, not all was done. An input that failed or has no record, and then what `requires` says, are looked at before a file is changed. What a writer does, and what recovering does, is what the contracts of these calls say.
 abbrev pub ComesTo : Job → Option (List ℕ) → Option (List Op) → Option (List Op) → Tree → Ended → Type 0
 ComesTo job left old new start Made = (job ≡ do_init) × OfTree old start (λ t. t requires_path ≡ None) × GoesOn old new (λ ops. IsDone init_operations ops [])
 ComesTo job left old new start Exists = (job ≡ do_init) × OfTree old start (λ t. IsSome (t requires_path)) × (new ≡ old)
 ComesTo job left old new start (NotMade fault) = (job ≡ do_init) × ((new ≡ old) ⊎ (OfTree old start (λ t. t requires_path ≡ None) × GoesOn old new (LeavesInit (Err fault))))
-ComesTo job left old new start NoInput = (job ≡ do_commit) × (new ≡ old)
-ComesTo job left old new start (NoRecord fault) = (job ≡ do_commit) × Gave left (Err fault) × (new ≡ old)
+ComesTo job left old new start NoInput = ReadsInput job × (new ≡ old)
+ComesTo job left old new start (NoRecord fault) = GaveFault job left fault × (new ≡ old)
 ComesTo job left old new start (Refused refusal) = (command : Command) × IsCommandOf job left command × OfTree old start (λ t. Gives is_of_outside (λ x. x) (Err refusal) (required_in t)) × (new ≡ old)
 ComesTo job left old new start (Answered command answer) = IsCommandOf job left command × OfTree old start (λ t. required_in t ≡ Ok tt) × GoesOn old new (IsWritten lock_text command (tree_now old start) answer)
 ComesTo job left old new start (Recovered r) =
@@ -274,9 +301,10 @@ Obeys AreRefused (Ok (to_verify jobs)) left old new start status written_old wri
 Obeys AreRefused (Ok (to_generate seed count)) left old new start status written_old written_new = Generates AreRefused seed count old new start status written_old written_new
 Obeys AreRefused (Err place) left old new start status written_old written_new = new ≡ old
 
--- only a commit reads the input
+-- only a commit and an import read the input
 abbrev pub LeavesInput : Job → Option (List ℕ) → Option (List ℕ) → ℕ → ℕ → Type 0
 LeavesInput do_commit old new faults_old faults_new = ⊤
+LeavesInput do_import old new faults_old faults_new = ⊤
 LeavesInput job old new faults_old faults_new = (new ≡ old) × (faults_new ≡ faults_old)
 
 abbrev pub KeepsInput : Result Request ℕ → Option (List ℕ) → Option (List ℕ) → ℕ → ℕ → Type 0
@@ -292,9 +320,10 @@ KeepsInput (Err place) old new faults_old faults_new = (new ≡ old) × (faults_
 abbrev pub IsAtEnd : Option (List ℕ) → Type 0
 IsAtEnd left = IfSome left (λ bytes. bytes ≡ [])
 
--- a commit is done only where its input was read to its end
+-- a commit or an import is done only where its input was read to its end
 abbrev pub IsReadBy : Job → ℕ → Option (List ℕ) → Type 0
 IsReadBy do_commit status left = status ≡ 0 → IsAtEnd left
+IsReadBy do_import status left = status ≡ 0 → IsAtEnd left
 IsReadBy job status left = ⊤
 
 -- so is all that reads an input

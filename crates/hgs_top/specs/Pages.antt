@@ -23,6 +23,7 @@ page_lines Help =
     codes "  branches [--steps K]       branch, number and node of each head of each branch" ∷
     codes "  init                       makes an empty repository" ∷
     codes "  commit                     commits the record on standard input; bin/record prints one" ∷
+    codes "  import                     commits the records on standard input, all at once" ∷
     codes "  phase [--force] REV PHASE  sets a phase" ∷
     codes "  bookmark NAME REV          sets a bookmark" ∷
     codes "  bookmark --delete NAME     deletes one" ∷

@@ -93,6 +93,7 @@ pub data Question : Type 0 where
 pub data Job : Type 0 where
   do_init : Job
   do_commit : Job
+  do_import : Job
   do_recover : Job
   do_move : List ℕ → Phase → Bool → Job
   do_mark : List ℕ → List ℕ → Job
@@ -121,6 +122,7 @@ question_of (BranchesOf steps) = ask_branches steps
 abbrev pub job_of : Order → Job
 job_of orders.Init = do_init
 job_of orders.Commit = do_commit
+job_of orders.Import = do_import
 job_of orders.Recover = do_recover
 job_of (orders.Move rev phase force) = do_move rev.now phase force
 job_of (orders.Mark name rev) = do_mark name.now rev.now
@@ -156,6 +158,7 @@ alone_named name =
     else if same name (codes "parents") then Some (to_answer ask_parents)
     else if same name (codes "init") then Some (to_do do_init)
     else if same name (codes "commit") then Some (to_do do_commit)
+    else if same name (codes "import") then Some (to_do do_import)
     else if same name (codes "recover") then Some (to_do do_recover)
     else if same name (codes "play") then Some to_play
     else if same name (codes "session") then Some to_session

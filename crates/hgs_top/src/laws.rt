@@ -32,7 +32,7 @@ ghost use Rattle.hgs_top.specs.Histories.{GoesOnAs, IsTold, MakesHistory};
 ghost use Rattle.hgs_top.specs.Orders.{ComesTo, IsCommandOf, Obeys};
 ghost use Rattle.hgs_top.specs.declared.ended.Ended.TheVariants.{Answered};
 
-use hgs_input::laws::read_records_are_records;
+use hgs_input::laws::{read_imports_are_imports, read_records_are_records};
 use hgs_load::laws::{files_are_read_whole, separate_indexes_are_asked};
 use hgs_revlog::laws::{either_form, inline_index};
 use hgs_writer::laws::calls_leave_what_they_answer;
@@ -87,6 +87,7 @@ pub fn commands_are_valid()
     ensures { (words : List (List ℕ)) (job : Job) (left : Option (List ℕ)) (command : Command) → request_of_words words ≡ Ok (to_do job) → IsTold job left → IsCommandOf job left command → IsValid command }
 {
     read_records_are_records();
+    read_imports_are_imports();
 }
 
 /// Over files that stand for a repository, and have what a commit needs of them that no test tells, the operations of a command

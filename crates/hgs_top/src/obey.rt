@@ -9,12 +9,12 @@ ghost use Rattle.hgs_files.specs.declared.op.Op.{Op};
 ghost use Rattle.hgs_index.specs.MarkName.{is_mark_name};
 ghost use Rattle.hgs_machine.specs.Carry.{tree_now};
 ghost use Rattle.hgs_machine.specs.Refusals.{WereRefused};
-ghost use Rattle.hgs_model.specs.Valid.{CanBeAsked};
+ghost use Rattle.hgs_model.specs.Valid.{IsValid};
 ghost use Rattle.hgs_model.specs.declared.command.Command.{Command as ModelCommand};
 ghost use Rattle.hgs_top.specs.Orders.{AllowedHasCause, ComesTo, HasCause, IsAllowed, IsAtEnd, IsCommandOf, IsFit, IsReadBy, LeavesEach, LeavesInput, LeftHasCause, ended_status, lock_text};
 ghost use Rattle.hgs_writer.specs.Refusals.{refusals_of};
 ghost use Rattle.hgs_writer.specs.Written.{IsWritten};
-ghost use Rattle.hgs_top.specs.Words.{Job, do_commit, do_mark, do_move, do_unmark, job_of};
+ghost use Rattle.hgs_top.specs.Words.{Job, do_commit, do_import, do_mark, do_move, do_unmark, job_of};
 
 use crate::ended::Ended;
 use crate::init::init;
@@ -25,7 +25,11 @@ use hgs_bytes::bytes::Bytes;
 use hgs_files::files::Files;
 use hgs_files::streams::{IoFault, Source};
 use hgs_input::fault::InputFault;
-use hgs_input::laws::{long_inputs_are_decided, read_records_are_records};
+use hgs_input::import::read_import;
+use hgs_input::laws::{
+    imports_are_decided_by_fronts, long_inputs_are_decided, read_imports_are_imports,
+    read_records_are_records,
+};
 use hgs_input::record::read_commit;
 use hgs_load::answer::ReadAnswer;
 use hgs_loading::whole::test_requires;
@@ -40,7 +44,7 @@ pub(crate) const WHO: &[u8; 8] = b"hg-store";
 
 // The commit whose record stands on the input.
 fn commit_from<S: Source>(alloc: Global, input: &mut S) -> Result<Command, Ended>
-    ensures valid { IfOk result (λ command. CanBeAsked command) }
+    ensures valid { IfOk result (λ command. IsValid command) }
     ensures command { IfOk result (λ command. IsCommandOf do_commit (S.left input.old) command) }
     ensures refused { IfErr result (λ ended. (log : Option (List Op)) (start : Tree) → ComesTo do_commit (S.left input.old) log log start ended) }
     ensures whole { IfOk result (λ command. IsAtEnd (S.left input.new)) }
@@ -61,9 +65,32 @@ fn commit_from<S: Source>(alloc: Global, input: &mut S) -> Result<Command, Ended
     }
 }
 
+// The import whose records stand on the input.
+fn import_from<S: Source>(alloc: Global, input: &mut S) -> Result<Command, Ended>
+    ensures valid { IfOk result (λ command. IsValid command) }
+    ensures command { IfOk result (λ command. IsCommandOf do_import (S.left input.old) command) }
+    ensures refused { IfErr result (λ ended. (log : Option (List Op)) (start : Tree) → ComesTo do_import (S.left input.old) log log start ended) }
+    ensures whole { IfOk result (λ command. IsAtEnd (S.left input.new)) }
+    ensures other { IfErr result (λ ended. ended_status ended ≢ 0) }
+    ensures left { IfErr result (λ ended. (log : Option (List Op)) (start : Tree) → LeftHasCause (λ n. ⊥) log log start ended) }
+    ensures cause { IfErr result (λ ended. (faults_old faults_new denied_old denied_new : ℕ) → HasCause faults_old faults_new denied_old denied_new (S.faults input.old) (S.faults input.new) ended) }
+{
+    let bytes = match read_input(alloc, input) {
+        Ok(bytes) => bytes,
+        Err(IoFault::Failed) => return Err(Ended::NoInput),
+        Err(IoFault::Memory) => return Err(Ended::NoRecord(InputFault::Memory)),
+    };
+    read_imports_are_imports();
+    imports_are_decided_by_fronts();
+    match read_import(alloc, &bytes) {
+        Ok(changes) => Ok(Command::Import(changes)),
+        Err(fault) => Err(Ended::NoRecord(fault)),
+    }
+}
+
 fn move_of(alloc: Global, rev: &[u8], phase: Phase, force: bool) -> Result<Command, AllocError>
     ensures command { IfOk result (λ command. (left : Option (List ℕ)) → IsCommandOf (do_move rev.now phase force) left command) }
-    ensures valid { IfOk result (λ command. CanBeAsked command) }
+    ensures valid { IfOk result (λ command. IsValid command) }
 {
     Ok(Command::Move {
         rev: Bytes::from_slice(alloc, rev)?,
@@ -75,7 +102,7 @@ fn move_of(alloc: Global, rev: &[u8], phase: Phase, force: bool) -> Result<Comma
 fn mark_of(alloc: Global, name: &[u8], rev: &[u8]) -> Result<Command, AllocError>
     requires { is_mark_name name.now ≡ true }
     ensures command { IfOk result (λ command. (left : Option (List ℕ)) → IsCommandOf (do_mark name.now rev.now) left command) }
-    ensures valid { IfOk result (λ command. CanBeAsked command) }
+    ensures valid { IfOk result (λ command. IsValid command) }
 {
     Ok(Command::Mark {
         name: Bytes::from_slice(alloc, name)?,
@@ -85,7 +112,7 @@ fn mark_of(alloc: Global, name: &[u8], rev: &[u8]) -> Result<Command, AllocError
 
 fn unmark_of(alloc: Global, name: &[u8]) -> Result<Command, AllocError>
     ensures command { IfOk result (λ command. (left : Option (List ℕ)) → IsCommandOf (do_unmark name.now) left command) }
-    ensures valid { IfOk result (λ command. CanBeAsked command) }
+    ensures valid { IfOk result (λ command. IsValid command) }
 {
     Ok(Command::Unmark {
         name: Bytes::from_slice(alloc, name)?,
@@ -94,7 +121,7 @@ fn unmark_of(alloc: Global, name: &[u8]) -> Result<Command, AllocError>
 
 // What a writer answers.
 fn written<F: Files>(alloc: Global, files: &mut F, command: &Command) -> Answer
-    requires valid { CanBeAsked command.now }
+    requires valid { IsValid command.now }
     requires allows { (log : List Op) → F.allows (F.start files.old) log }
     ensures log { GoesOn (F.log files.old) (F.log files.new) (IsWritten lock_text command.now (tree_now (F.log files.old) (F.start files.old)) result) }
     ensures fault { result.outcome ≡ Fault → Rose (F.faults files.old) (F.faults files.new) }
@@ -114,7 +141,7 @@ fn answer_to<F: Files>(
     files: &mut F,
     command: &Command,
 ) -> Result<Answer, ReadAnswer>
-    requires valid { CanBeAsked command.now }
+    requires valid { IsValid command.now }
     requires allows { (log : List Op) → F.allows (F.start files.old) log }
     ensures comes { IsAllowed command.now (F.log files.old) (F.log files.new) (F.start files.old) result }
     ensures calls { IfOk result (λ answer. WereRefused (refusals_of (is_some (F.log files.old)) answer) (F.faults files.old) (F.faults files.new) (F.denied files.old) (F.denied files.new)) }
@@ -130,7 +157,7 @@ fn answer_to<F: Files>(
 
 // Carries out a command over a repository of the profile.
 fn obey<F: Files>(alloc: Global, files: &mut F, command: Command) -> Ended
-    requires valid { CanBeAsked command }
+    requires valid { IsValid command }
     requires allows { (log : List Op) → F.allows (F.start files.old) log }
     ensures comes { (job : Job) (left : Option (List ℕ)) → IsCommandOf job left command → ComesTo job left (F.log files.old) (F.log files.new) (F.start files.old) result }
     ensures left { LeftHasCause (λ n. WereRefused n (F.faults files.old) (F.faults files.new) (F.denied files.old) (F.denied files.new)) (F.log files.old) (F.log files.new) (F.start files.old) result }
@@ -145,7 +172,7 @@ fn obey<F: Files>(alloc: Global, files: &mut F, command: Command) -> Ended
 
 // Carries out a command of words alone, if there was memory for it.
 fn obey_named<F: Files>(alloc: Global, files: &mut F, command: Result<Command, AllocError>) -> Ended
-    requires valid { IfOk command (λ command. CanBeAsked command) }
+    requires valid { IfOk command (λ command. IsValid command) }
     requires allows { (log : List Op) → F.allows (F.start files.old) log }
     ensures comes { (job : Job) → ((left : Option (List ℕ)) → (c : ModelCommand) × IsCommandOf job left c) → IfOk command (λ command. (left : Option (List ℕ)) → IsCommandOf job left command) → (left : Option (List ℕ)) → ComesTo job left (F.log files.old) (F.log files.new) (F.start files.old) result }
     ensures left { LeftHasCause (λ n. WereRefused n (F.faults files.old) (F.faults files.new) (F.denied files.old) (F.denied files.new)) (F.log files.old) (F.log files.new) (F.start files.old) result }
@@ -173,6 +200,21 @@ fn commit<F: Files, S: Source>(alloc: Global, files: &mut F, input: &mut S) -> E
     }
 }
 
+// Commits the records that stand on the input, all at once.
+fn import<F: Files, S: Source>(alloc: Global, files: &mut F, input: &mut S) -> Ended
+    requires { (log : List Op) → F.allows (F.start files.old) log }
+    ensures comes { ComesTo do_import (S.left input.old) (F.log files.old) (F.log files.new) (F.start files.old) result }
+    ensures whole { ended_status result ≡ 0 → IsAtEnd (S.left input.new) }
+    ensures left { LeftHasCause (λ n. WereRefused n (F.faults files.old) (F.faults files.new) (F.denied files.old) (F.denied files.new)) (F.log files.old) (F.log files.new) (F.start files.old) result }
+    ensures cause { HasCause (F.faults files.old) (F.faults files.new) (F.denied files.old) (F.denied files.new) (S.faults input.old) (S.faults input.new) result }
+    ensures same_start { F.start files.new ≡ F.start files.old }
+{
+    match import_from(alloc, input) {
+        Ok(command) => obey(alloc, files, command),
+        Err(ended) => ended,
+    }
+}
+
 /// Does what the command asks for, and answers what it came to.
 pub fn do_order<F: Files, S: Source>(
     alloc: Global,
@@ -192,6 +234,7 @@ pub fn do_order<F: Files, S: Source>(
     match order {
         Order::Init => init(alloc, files),
         Order::Commit => commit(alloc, files, input),
+        Order::Import => import(alloc, files, input),
         Order::Recover => Ended::Recovered(recover(alloc, files)),
         Order::Move { rev, phase, force } => {
             obey_named(alloc, files, move_of(alloc, rev, phase, force))

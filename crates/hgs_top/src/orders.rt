@@ -8,6 +8,8 @@ pub enum Order<'a> {
     Init,
     /// Commits the record that stands on the input.
     Commit,
+    /// Commits the records that stand on the input, all at once.
+    Import,
     /// Undoes a transaction that was left unfinished.
     Recover,
     Move {

@@ -264,6 +264,9 @@ fn alone_named(name: &String) -> Option<Asked<'static>>
     if equal(name, b"commit") {
         return Some(Asked::Order(Order::Commit));
     }
+    if equal(name, b"import") {
+        return Some(Asked::Order(Order::Import));
+    }
     if equal(name, b"recover") {
         return Some(Asked::Order(Order::Recover));
     }

@@ -12,7 +12,6 @@ use Rattle.hgs_machine.specs.Fed.{is_acknowledged, is_published}
 use Rattle.hgs_machine.specs.Locks.{AreLocked, IsTurnedAway}
 use Rattle.hgs_machine.specs.Planned.{IsPlanned}
 use Rattle.hgs_model.specs.Repo.{Repo, empty_repo}
-use Rattle.hgs_model.specs.Theorems.ValidLemmas.{asked-valid}
 use Rattle.hgs_model.specs.Valid.{IsValid}
 use Rattle.hgs_model.specs.declared.command.Command.{Command}
 use Rattle.hgs_ops.specs.Operations.{strays}
@@ -229,7 +228,7 @@ begins_keep l command old new text valid needs keeps h = by old.writer keeps ref
     by (Some w) k e h = idle old new (codes "busy") text keeps h
 
 pub happens_keep : Laws → (readers : ℕ) (event : Event) (old new : Scene) (text : List ℕ) → CanCome readers event → Meets event old → Keeps old → Happens event old new text → Keeps new
-happens_keep l readers (Begin command) old new text can needs keeps h = begins_keep l command old new text (asked-valid command can) needs keeps h
+happens_keep l readers (Begin command) old new text can needs keeps h = begins_keep l command old new text (can) needs keeps h
 happens_keep l readers (Write None) old new text can needs keeps h = acts_keep l WholeDeed (codes "wrote") old new text tt keeps h
 happens_keep l readers (Write (Some count)) old new text can needs keeps h = acts_keep l (PartDeed count) (codes "wrote") old new text can keeps h
 happens_keep l readers (Fail count) old new text can needs keeps h = acts_keep l (FailDeed count) (codes "failed") old new text tt keeps h

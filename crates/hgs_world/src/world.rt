@@ -4,7 +4,7 @@ ghost use Rattle.hgs_files.specs.Tree.{Tree};
 ghost use Rattle.hgs_machine.specs.Asked.{asked};
 ghost use Rattle.hgs_machine.specs.Planned.{IsPlanned};
 ghost use Rattle.hgs_mem.specs.Steady.{steady_log, steady_start};
-ghost use Rattle.hgs_model.specs.Valid.{CanBeAsked};
+ghost use Rattle.hgs_model.specs.Valid.{IsValid};
 ghost use Rattle.hgs_schedule.specs.declared.event.Event.TheVariants.{Begin, Load, Log, Open, Read};
 ghost use Rattle.hgs_schedule.specs.Schedule.{CanCome};
 ghost use Rattle.hgs_reader.specs.Shown.{marks_text};
@@ -151,7 +151,7 @@ impl World {
     }
 
     fn begin(&mut self, command: Command) -> Result<Vec<u8>, NoMemory>
-        requires { CanBeAsked command }
+        requires { IsValid command }
         ensures does { IfOk result (λ text. Happens (Begin command) (scene_of self.old) (scene_of self.new) text.items) }
         ensures count { length self.new.readers.items ≡ length self.old.readers.items }
     {

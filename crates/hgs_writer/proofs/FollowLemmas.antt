@@ -128,8 +128,8 @@ module _ (laws : Laws) where
       by : (f : CommitFault) (a : Result Next Refusal) → step r (Commit n) ≡ a → AnswersWith (ClashBy l n t (parents_answer (named_all l n.parents)) told.0) t r n told.0 (Err f) a → ComesToNothing f t r n
       by (Unread why) (Err e) is h = inl h
       by (Unread why) (Ok next) is h = inl h
-      by (Refused f) (Err e) is h = subst (IsKeptBy t r f) (sym is) h
-      by (Refused f) (Ok next) is h = subst (IsKeptBy t r f) (sym is) (told.0, h)
+      by (Refused f) (Err e) is h = subst (IsKeptBy t r n f) (sym is) h
+      by (Refused f) (Ok next) is h = subst (IsKeptBy t r n f) (sym is) (record { loaded = l; is_loaded = loaded; clash = told.0; told = told.1; hinders = h })
 
   -- the tree into which it is laid stands for the next repository
   laid-stands : (t : Tree) (r : Repo) (n : NewChange) (next : Repo) (answer : Answer) → Stands t r → IsNewChange n → step r (Commit n) ≡ Ok (next, answer) → IsReady t r (Commit n) next → Stands (after_all (laid t r n next) t) next
@@ -201,11 +201,11 @@ module _ (laws : Laws) where
   refused-import t r [] e why = absurd why
   refused-import t r (n ∷ changes) e (inl why) = by (step r (Commit n)) refl why
     where
-      by : (a : Result Next Refusal) → step r (Commit n) ≡ a → IsKeptBy t r (refused_for e) a → step r (Import (n ∷ changes)) ≡ Err e
+      by : (a : Result Next Refusal) → step r (Commit n) ≡ a → IsKeptBy t r n (refused_for e) a → step r (Import (n ∷ changes)) ≡ Err e
       by (Err f) is h = laws.refused r n changes f is ∙ (let g = told f h in λ i. Err (g i))
         where
           told : (f : Refusal) → refused_for e ≡ refused_for f → f ≡ e
           told f h = cc
-      by (Ok next) is h = absurd h.1
+      by (Ok next) is h = absurd h.hinders
   refused-import t r (n ∷ []) e (inr why) = absurd why.2
   refused-import t r (n ∷ m ∷ changes) e (inr why) = laws.more r why.0.0 n m changes why.0.1 why.1 ∙ refused-import (after_all (laid t r n why.0.0) t) why.0.0 (m ∷ changes) e why.2

@@ -90,13 +90,13 @@ hindered-outcome IsTold u r n clash plans.Memory (Ok next) is = absurd is
 -- ---- records
 
 -- a record that is accepted has met what keeps it from being written
-kept-lacks : (u : Tree) (r : Repo) (fault : PlanFault) (stepped : Result Next Refusal) → ((e : Refusal) → fault ≡ plans.Refused e → ⊥) → ((HasRoom : Type 0) (clash : Option (List ℕ)) → Hinders HasRoom clash fault → HasRoom → ⊥) → IsKeptBy u r fault stepped → LacksRoom u r stepped
-kept-lacks u r fault (Err e) other hinders kept = absurd (other e kept)
-kept-lacks u r fault (Ok next) other hinders kept = hinders (IsFree u r next.0) kept.0 kept.1
+kept-lacks : (u : Tree) (r : Repo) (n : NewChange) (fault : PlanFault) (stepped : Result Next Refusal) → ((e : Refusal) → fault ≡ plans.Refused e → ⊥) → ((HasRoom : Type 0) (clash : Option (List ℕ)) → Hinders HasRoom clash fault → HasRoom → ⊥) → IsKeptBy u r n fault stepped → LacksRoom u r stepped
+kept-lacks u r n fault (Err e) other hinders kept = absurd (other e kept)
+kept-lacks u r n fault (Ok next) other hinders kept = hinders (IsFree u r next.0) kept.clash kept.hinders
 
-kept-accepted : (u : Tree) (r : Repo) (fault : PlanFault) (stepped : Result Next Refusal) → ((e : Refusal) → fault ≡ plans.Refused e → ⊥) → IsKeptBy u r fault stepped → IsOk stepped
-kept-accepted u r fault (Err e) other kept = absurd (other e kept)
-kept-accepted u r fault (Ok next) other kept = refl
+kept-accepted : (u : Tree) (r : Repo) (n : NewChange) (fault : PlanFault) (stepped : Result Next Refusal) → ((e : Refusal) → fault ≡ plans.Refused e → ⊥) → IsKeptBy u r n fault stepped → IsOk stepped
+kept-accepted u r n fault (Err e) other kept = absurd (other e kept)
+kept-accepted u r n fault (Ok next) other kept = refl
 
 some-map : (P Q : Tree → Repo → NewChange → Type 0) → ((u : Tree) (r : Repo) (n : NewChange) → P u r n → Q u r n) → (u : Tree) (r : Repo) (changes : List NewChange) → SomeRecord P u r changes → SomeRecord Q u r changes
 some-map P Q each u r [] some = absurd some
@@ -104,7 +104,7 @@ some-map P Q each u r (n ∷ changes) (inl is) = inl (each u r n is)
 some-map P Q each u r (n ∷ changes) (inr (next, e, some)) = inr (next, e, some-map P Q each (after_all (laid u r n next.0) u) next.0 changes some)
 
 some-lacks : (u : Tree) (r : Repo) (changes : List NewChange) (fault : PlanFault) → ((e : Refusal) → fault ≡ plans.Refused e → ⊥) → ((HasRoom : Type 0) (clash : Option (List ℕ)) → Hinders HasRoom clash fault → HasRoom → ⊥) → SomeRecord (ComesToNothing (commits.Refused fault)) u r changes → SomeLacksRoom u r changes
-some-lacks u r changes fault other hinders some = some-map (ComesToNothing (commits.Refused fault)) (λ v now n. LacksRoom v now (step now (Commit n))) (λ v now n kept. kept-lacks v now fault (step now (Commit n)) other hinders kept) u r changes some
+some-lacks u r changes fault other hinders some = some-map (ComesToNothing (commits.Refused fault)) (λ v now n. LacksRoom v now (step now (Commit n))) (λ v now n kept. kept-lacks v now n fault (step now (Commit n)) other hinders kept) u r changes some
 
 -- the records of which all is read within the limits are read
 none-unread : {A : Type 0} (u : Tree) (r : Repo) (changes : List NewChange) (e : ReadAnswer) → AreReadWithin u r changes → SomeRecord (ComesToNothing (commits.Unread e)) u r changes → A
@@ -161,7 +161,7 @@ module _ (laws : Below) (reads_of : (t : Tree) (r : Repo) → Stands t r → Loa
       subst (λ stepped. IsOutcomeOf u r (Import changes) stepped (outcome_of_plan (plans.Refused e))) (sym refused) (refusal-outcome u r (Import changes) e)
   import-outcome u r l changes (plans.Limit w) fit s is comes = some-lacks u r changes (plans.Limit w) (λ e k. cc) (λ HasRoom clash hinders. hinders) (import-fault laws u r l changes s is fit (commits.Refused (plans.Limit w)) refl comes)
   import-outcome u r l changes (plans.NameClash p) fit s is comes =
-      some-map (ComesToNothing (commits.Refused (plans.NameClash p))) (λ v now n. IsOk (step now (Commit n))) (λ v now n kept. kept-accepted v now (plans.NameClash p) (step now (Commit n)) (λ e k. cc) kept) u r changes (import-fault laws u r l changes s is fit (commits.Refused (plans.NameClash p)) refl comes)
+      some-map (ComesToNothing (commits.Refused (plans.NameClash p))) (λ v now n. IsOk (step now (Commit n))) (λ v now n kept. kept-accepted v now n (plans.NameClash p) (step now (Commit n)) (λ e k. cc) kept) u r changes (import-fault laws u r l changes s is fit (commits.Refused (plans.NameClash p)) refl comes)
   import-outcome u r l changes (plans.InTheWay p) fit s is comes = some-lacks u r changes (plans.InTheWay p) (λ e k. cc) (λ HasRoom clash hinders. hinders) (import-fault laws u r l changes s is fit (commits.Refused (plans.InTheWay p)) refl comes)
   import-outcome u r l changes (plans.Collision p rev) fit s is comes = some-lacks u r changes (plans.Collision p rev) (λ e k. cc) (λ HasRoom clash hinders. hinders) (import-fault laws u r l changes s is fit (commits.Refused (plans.Collision p rev)) refl comes)
 

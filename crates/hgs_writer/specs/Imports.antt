@@ -1,7 +1,7 @@
 -- When what the records of an import come to is the repository's answer.
 use Rattle.std.specs.Prelude.{◌≡◌, ◌⊎◌, ℕ, List, [], ◌∷◌, Option, Result, Ok, Err, ⊤}
 use Rattle.std.specs.Bool.{MatchBool}
-use Rattle.hgs_commit.specs.Commit.{is_free}
+use Rattle.hgs_commit.specs.Commit.{ClashBy, is_free}
 use Rattle.hgs_commit.specs.declared.fault.CommitFault.{CommitFault}
 use Rattle.hgs_commit.specs.declared.fault.CommitFault.TheVariants.{Unread, Refused}
 use Rattle.hgs_files.specs.Tree.{Tree, after_all}
@@ -14,9 +14,11 @@ use Rattle.hgs_model.specs.declared.command.NewChange.{NewChange}
 use Rattle.hgs_model.specs.declared.command.Refusal.{Refusal}
 use Rattle.hgs_ops.specs.Laid.{laid}
 use Rattle.hgs_ops.specs.Unhindered.{IsReady}
-use Rattle.hgs_steps.specs.Planned.{IsStepOf}
+use Rattle.hgs_steps.specs.Parents.{named_all, parents_answer}
+use Rattle.hgs_steps.specs.Planned.{IsLoadedOf, IsStepOf}
 use Rattle.hgs_steps.specs.declared.fault.PlanFault.{PlanFault}
 use Rattle.hgs_steps.specs.declared.fault.PlanFault.TheVariants.{Refused as refused_for}
+use Rattle.hgs_steps.specs.declared.loaded.Loaded.{Loaded}
 use Rattle.hgs_steps.specs.declared.step.Step.{Step}
 use Rattle.hgs_writer.specs.Commits.{CanBeRead, Hinders, IsLimit}
 use Rattle.hgs_writer.specs.Free.{IsFree}
@@ -43,10 +45,18 @@ abbrev pub SomeRecord : (Tree → Repo → NewChange → Type 0) → Tree → Re
 SomeRecord Holds t r [] = ⊥
 SomeRecord Holds t r (n ∷ changes) = Holds t r n ⊎ ((next : Next) × (step r (Commit n) ≡ Ok next) × SomeRecord Holds (after_all (laid t r n next.0) t) next.0 changes)
 
+-- The commit is hindered by what was told of names that clash, by what is loaded of the tree, or for want of room.
+pub record IsHindered (t : Tree) (r : Repo) (n : NewChange) (next : Repo) (fault : PlanFault) : Type 0 where
+  pub loaded : Loaded
+  pub is_loaded : IsLoadedOf t loaded
+  pub clash : Option (List ℕ)
+  pub told : ClashBy loaded n t (parents_answer (named_all loaded n.parents)) clash
+  pub hinders : Hinders (IsFree t r next) clash fault
+
 -- The refusal is the repository's; or it accepts, and this keeps the commit from being written.
-abbrev pub IsKeptBy : Tree → Repo → PlanFault → Result Next Refusal → Type 0
-IsKeptBy t r fault (Err e) = fault ≡ refused_for e
-IsKeptBy t r fault (Ok next) = (clash : Option (List ℕ)) × Hinders (IsFree t r next.0) clash fault
+abbrev pub IsKeptBy : Tree → Repo → NewChange → PlanFault → Result Next Refusal → Type 0
+IsKeptBy t r n fault (Err e) = fault ≡ refused_for e
+IsKeptBy t r n fault (Ok next) = IsHindered t r n next.0 fault
 
 -- It is unread only for a limit of what a commit reads, or where what is loaded before passes one.
 abbrev pub IsUnread : Tree → Repo → ReadAnswer → Type 0
@@ -55,7 +65,7 @@ IsUnread t r why = (IsLimit why × (CanBeRead t r → ⊥)) ⊎ ((loaded_in t �
 -- why a record comes to nothing
 abbrev pub ComesToNothing : CommitFault → Tree → Repo → NewChange → Type 0
 ComesToNothing (Unread why) t r n = IsUnread t r why
-ComesToNothing (Refused fault) t r n = IsKeptBy t r fault (step r (Commit n))
+ComesToNothing (Refused fault) t r n = IsKeptBy t r n fault (step r (Commit n))
 
 -- An import is answered by its step, for which the tree is ready; or it comes to nothing for one of its records, or for a fault of the
 -- files or want of memory.

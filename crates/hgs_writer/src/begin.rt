@@ -9,7 +9,7 @@ ghost use Rattle.hgs_files.specs.Tree.{after_all};
 ghost use Rattle.hgs_machine.specs.Carry.{tree_now};
 ghost use Rattle.hgs_machine.specs.Planned.{IsPlanned};
 ghost use Rattle.hgs_machine.specs.Refusals.{WereRefused, how_many_made, lock_paths};
-ghost use Rattle.hgs_model.specs.Valid.{CanBeAsked};
+ghost use Rattle.hgs_model.specs.Valid.{IsValid};
 ghost use Rattle.hgs_writer.specs.Begun.{Begins, IfReady, IfRefused};
 ghost use Rattle.hgs_writer.specs.Refusals.{refusals_of, refusals_of_outcome};
 ghost use Rattle.hgs_writer.specs.Written.{MayWrite};
@@ -34,7 +34,7 @@ pub enum Begun {
 /// Takes the locks, with these bytes in them, reads what the command needs, and plans its transaction. Where it is refused,
 /// the locks that were made are removed again.
 pub fn begin<F: Files>(alloc: Global, files: &mut F, command: &Command, who: &[u8]) -> Begun
-    requires valid { CanBeAsked command.now }
+    requires valid { IsValid command.now }
     requires least { 1 ≤ length who.now }
     requires most { length who.now ≤ 255 }
     requires allows { MayWrite who.now command.now (F.log files.old) (F.allows (F.start files.old)) (F.start files.old) }

@@ -5,7 +5,7 @@ ghost use Rattle.hgs_files.specs.Tree.{Tree, after_all, bytes_at};
 ghost use Rattle.hgs_machine.specs.Planned.{IsPlanned};
 ghost use Rattle.hgs_machine.specs.Sound.{AreSound};
 ghost use Rattle.hgs_index.specs.MarkName.{is_mark_name};
-ghost use Rattle.hgs_model.specs.Valid.{CanBeAsked, IsNewChange};
+ghost use Rattle.hgs_model.specs.Valid.{IsNewChange, IsValid};
 ghost use Rattle.hgs_load.specs.View.{changelog_index};
 ghost use Rattle.hgs_revlog.specs.Loaded.{AreEntries};
 ghost use Rattle.hgs_steps.specs.Steps.{CanBeAssembled, mark_of, move_of, planned as planned_of, unmark_of};
@@ -125,7 +125,7 @@ fn step_of<R: Reads>(
 ) -> Result<Step, CommitFault>
     requires changelog { AreEntries loaded.changelog.entries }
     requires manifest { AreEntries loaded.manifest.entries }
-    requires valid { CanBeAsked command.now }
+    requires valid { IsValid command.now }
     ensures comes { AtRest R.alone (R.seen files.new) (R.start files.new) (λ t. ComesTo t loaded command.now result) }
     ensures ready { IfOk result (λ step. CanBeAssembled step.parts) }
     ensures sound { IfOk result (λ step. (t : Tree) → (loaded.changelog.inline ≡ false → length (bytes_at t changelog_index) ≡ 64 * length loaded.changelog.entries) → AreSound t step.parts) }
@@ -152,7 +152,7 @@ pub fn plan<R: Reads>(
     files: &mut R,
     command: &Command,
 ) -> Result<Planned, CommitFault>
-    requires { CanBeAsked command.now }
+    requires { IsValid command.now }
     ensures found { R.alone ≡ true → IfSome (R.seen files.new) (λ log. Plans command.now (after_all log (R.start files.new)) result) }
     ensures planned { R.alone ≡ true → IfOk result (λ planned. IfSome (R.seen files.new) (λ log. IsPlanned (after_all log (R.start files.new)) planned.plan)) }
     ensures same_start { R.start files.new ≡ R.start files.old }

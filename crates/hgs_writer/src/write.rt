@@ -12,7 +12,7 @@ ghost use Rattle.hgs_files.specs.Files.{GoesOn};
 ghost use Rattle.hgs_index.specs.declared.node.Node.{Node};
 ghost use Rattle.hgs_writer.specs.Refusals.{paths_behind, refusals_of, refusals_of_outcome, refusals_with};
 ghost use Rattle.hgs_writer.specs.Written.{IsCarriedOut, IsWritten, IsWrittenFor, MayWrite};
-ghost use Rattle.hgs_model.specs.Valid.{CanBeAsked};
+ghost use Rattle.hgs_model.specs.Valid.{IsValid};
 
 use crate::answers::of_ended;
 use crate::begin::{Begun, begin};
@@ -56,7 +56,7 @@ pub struct Written {
 /// does the plan's operations. Where it is refused before that, the locks that were made are removed again. The files need take no more
 /// than what such a call may leave.
 pub fn write_told<F: Files>(alloc: Global, files: &mut F, command: &Command, who: &[u8]) -> Written
-    requires valid { CanBeAsked command.now }
+    requires valid { IsValid command.now }
     requires least { 1 ≤ length who.now }
     requires most { length who.now ≤ 255 }
     requires allows { MayWrite who.now command.now (F.log files.old) (F.allows (F.start files.old)) (F.start files.old) }
@@ -86,7 +86,7 @@ pub fn write_told<F: Files>(alloc: Global, files: &mut F, command: &Command, who
 
 /// The same, without the changeset.
 pub fn write<F: Files>(alloc: Global, files: &mut F, command: &Command, who: &[u8]) -> Answer
-    requires valid { CanBeAsked command.now }
+    requires valid { IsValid command.now }
     requires least { 1 ≤ length who.now }
     requires most { length who.now ≤ 255 }
     requires allows { MayWrite who.now command.now (F.log files.old) (F.allows (F.start files.old)) (F.start files.old) }

@@ -30,8 +30,8 @@ header-more (a ∷ b ∷ c ∷ d ∷ x) more h = refl
 pub form-more : (x more : List ℕ) → 64 ≤ length x → is_inline (x ++ more) ≡ is_inline x
 form-more x more h =
     let long : 64 ≤ length (x ++ more) = omega (arith, h, length-append x more) in
-    ap (λ b. b && says_inline (header_at (x ++ more))) (at-least 64 (length (x ++ more)) long ∙ sym (at-least 64 (length x) h))
-    ∙ ap (λ r. nat_le 64 (length x) && says_inline r) (header-more x more h)
+    ap (λ b. b && says_inline (header_at (x ++ more))) (at-least 4 (length (x ++ more)) (omega (arith, long)) ∙ sym (at-least 4 (length x) (omega (arith, h))))
+    ∙ ap (λ r. nat_le 4 (length x) && says_inline r) (header-more x more h)
 
 inline-form : (index data_bytes more : List ℕ) (r : Revision) (revisions : List Revision) → Holds true index data_bytes (r ∷ revisions) → is_inline (index ++ more) ≡ true
 inline-form index data_bytes more r revisions h = by h.stored h.these h.fits (h.index_is ∙ ap (λ k. index_bytes k (items h.stored)) (header-is true h.header h.form) ∙ index-inline h.header.generaldelta (items h.stored))

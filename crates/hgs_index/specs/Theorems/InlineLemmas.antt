@@ -194,7 +194,7 @@ is-inlined g i is fits =
     let first = Some (inline_header g) in
     let bytes = inlined first (i ∷ is) in
     let len : 64 ≤ length bytes = omega (arith, length-append (entry_bytes i.entry first ++ i.chunk) (inlined None is), length-append (entry_bytes i.entry first) i.chunk, length-entry_bytes i.entry first fits.node) in
-    ap (λ b. b && says_inline (header_at bytes)) (at-least 64 (length bytes) len) ∙ says g
+    ap (λ b. b && says_inline (header_at bytes)) (at-least 4 (length bytes) (omega (arith, len))) ∙ says g
   where
     says : (g : Bool) → says_inline (header_at (inlined (Some (inline_header g)) (i ∷ is))) ≡ true
     says true = refl
@@ -393,7 +393,7 @@ second-true false b h = cc
 odd : (a b : ℕ) (xs : List ℕ) → is_inline (a ∷ b ∷ xs) ≡ true → 1 ≤ b
 odd a b xs h =
     low (says-so (not (from_be_bytes w16 (part 2 2 (a ∷ b ∷ xs)) == 1)) (has_bad_header (from_be_bytes w16 (a ∷ b ∷ []))) (header_of (from_be_bytes w16 (a ∷ b ∷ [])))
-    (second-true (nat_le 64 (length (a ∷ b ∷ xs))) (says_inline (header_at (a ∷ b ∷ xs))) h))
+    (second-true (nat_le 4 (length (a ∷ b ∷ xs))) (says_inline (header_at (a ∷ b ∷ xs))) h))
   where
     is-one : (n : ℕ) → (n == 1) ≡ true → n ≡ 1
     is-one n e = grind arith
@@ -454,8 +454,8 @@ held-plain index data_bytes more r revisions h =
 
     by : (g : Bool) (stored : List Stored) → map (λ s. s.revision) stored ≡ r ∷ revisions → is_inline (index_bytes (plain_header g) (items stored) ++ more) ≡ false
     by g [] these = cc
-    by true (s ∷ stored) these = nothing (nat_le 64 (length (index_bytes (plain_header true) (items (s ∷ stored)) ++ more)))
-    by false (s ∷ stored) these = nothing (nat_le 64 (length (index_bytes (plain_header false) (items (s ∷ stored)) ++ more)))
+    by true (s ∷ stored) these = nothing (nat_le 4 (length (index_bytes (plain_header true) (items (s ∷ stored)) ++ more)))
+    by false (s ∷ stored) these = nothing (nat_le 4 (length (index_bytes (plain_header false) (items (s ∷ stored)) ++ more)))
 
 -- what a separate index begins with is separate
 header-front : (m : ℕ) (index : List ℕ) → header_at (take (suc (suc (suc (suc m)))) index) ≡ header_at index
@@ -466,7 +466,7 @@ header-front m (a ∷ b ∷ c ∷ []) = refl
 header-front m (a ∷ b ∷ c ∷ d ∷ index) = refl
 
 pub fronts-separate : (n : ℕ) (index : List ℕ) → is_inline index ≡ false → is_inline (take n index) ≡ false
-fronts-separate n index plain = by (nat_le 64 (length (take n index))) refl
+fronts-separate n index plain = by (nat_le 4 (length (take n index))) refl
   where
     most : (a b : ℕ) → nat_le a b ≡ true → a ≤ b
     most a b h = grind arith
@@ -475,13 +475,13 @@ fronts-separate n index plain = by (nat_le 64 (length (take n index))) refl
     second-false true b h k = k
     second-false false b h k = cc
 
-    by : (b : Bool) → nat_le 64 (length (take n index)) ≡ b → (nat_le 64 (length (take n index)) && says_inline (header_at (take n index))) ≡ false
+    by : (b : Bool) → nat_le 4 (length (take n index)) ≡ b → (nat_le 4 (length (take n index)) && says_inline (header_at (take n index))) ≡ false
     by false t = ap (λ b. b && says_inline (header_at (take n index))) t
     by true t =
-        let whole = most 64 (length (take n index)) t in
+        let whole = most 4 (length (take n index)) t in
         let len = length-take n index in
         let long : n ≡ suc (suc (suc (suc (n - 4)))) = omega (arith, len, whole) in
         let same-header : header_at (take n index) ≡ header_at index = ap (λ m. header_at (take m index)) long ∙ header-front (n - 4) index in
         ap (λ b. b && says_inline (header_at (take n index))) t
         ∙ ap says_inline same-header
-        ∙ second-false (nat_le 64 (length index)) (says_inline (header_at index)) (at-least 64 (length index) (omega (arith, len, whole))) plain
+        ∙ second-false (nat_le 4 (length index)) (says_inline (header_at index)) (at-least 4 (length index) (omega (arith, len, whole))) plain

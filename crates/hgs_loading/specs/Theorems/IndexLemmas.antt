@@ -4,17 +4,10 @@ use Rattle.std.specs.Prelude.{nat_le}
 use Rattle.std.proofs.lemmas.Bool.Decides.{nat_tests}
 use Rattle.std.proofs.lemmas.List.{length-take, take-append-drop, take_all}
 use Rattle.hgs_files.specs.Tree.{Tree, bytes_at}
-use Rattle.hgs_index.specs.Entry.{header_at}
-use Rattle.hgs_index.specs.Inline.{is_inline, says_inline}
+use Rattle.hgs_index.specs.Inline.{is_inline}
 use Rattle.hgs_index.specs.Theorems.EitherLemmas.{form-more}
 use Rattle.hgs_index.specs.Theorems.InlineLemmas.{fronts-separate}
 use Rattle.hgs_loading.specs.Logs.{either_index_in, index_in, most_index}
-
-never : {A : Type 0} → true ≡ false → A
-never e = absurd (no e)
-  where
-    no : true ≡ false → ⊥
-    no h = cc
 
 -- of a separate one as much as one of entries may have
 pub separate-index : (index : List ℕ) (t : Tree) → is_inline (bytes_at t index) ≡ false → either_index_in index t ≡ index_in index t
@@ -28,24 +21,19 @@ separate-index index t e = ap (λ b. cond b (bytes_at t index) (index_in index t
 pub inline-index : (index : List ℕ) (t : Tree) → is_inline (bytes_at t index) ≡ true → either_index_in index t ≡ bytes_at t index
 inline-index index t e = by (nat_le most_index (length (index_in index t))) refl
   where
-    left : (a b : Bool) → (a && b) ≡ true → a ≡ true
-    left true b h = refl
-    left false b h = never (sym h)
+    at_least : (a b : ℕ) → nat_le a b ≡ true → a ≤ b
+    at_least a b h = grind (arith, nat_tests, h)
 
-    most : (n : ℕ) → nat_le 64 n ≡ true → 64 ≤ n
-    most n h = grind (arith, nat_tests, h)
-
-    long : 64 ≤ length (index_in index t)
-    long = let whole = most (length (bytes_at t index)) (left (nat_le 64 (length (bytes_at t index))) (says_inline (header_at (bytes_at t index))) e) in omega (arith, whole, length-take most_index (bytes_at t index))
-
-    says : is_inline (index_in index t) ≡ true
-    says = sym (form-more (index_in index t) (drop most_index (bytes_at t index)) long) ∙ ap is_inline (take-append-drop most_index (bytes_at t index)) ∙ e
+    says : most_index ≤ length (index_in index t) → is_inline (index_in index t) ≡ true
+    says full =
+        let long : 64 ≤ length (index_in index t) = omega (arith, full) in
+        sym (form-more (index_in index t) (drop most_index (bytes_at t index)) long) ∙ ap is_inline (take-append-drop most_index (bytes_at t index)) ∙ e
 
     less : (a b : ℕ) → nat_le a b ≡ false → b < a
     less a b h = grind (arith, nat_tests, h)
 
     by : (b : Bool) → nat_le most_index (length (index_in index t)) ≡ b → either_index_in index t ≡ bytes_at t index
-    by true is = λ i. cond (is i && says i) (bytes_at t index) (index_in index t)
+    by true is = λ i. cond (is i && says (at_least most_index (length (index_in index t)) is) i) (bytes_at t index) (index_in index t)
     by false is =
-        (λ i. cond (is i && says i) (bytes_at t index) (index_in index t))
+        (λ i. cond (is i && is_inline (index_in index t)) (bytes_at t index) (index_in index t))
         ∙ take_all most_index (bytes_at t index) (let few = less most_index (length (index_in index t)) is in omega (arith, few, length-take most_index (bytes_at t index)))

@@ -4,6 +4,7 @@ use Rattle.hgs_bytes.specs.Text.{split}
 use Rattle.hgs_bytes.specs.Theorems.TextLemmas.{split_over, split_parts}
 use Rattle.hgs_input.specs.declared.fault.InputFault.{InputFault}
 use Rattle.hgs_input.specs.Front.{left, Alike}
+use Rattle.hgs_input.specs.Import.{import_from}
 use Rattle.hgs_input.specs.Read.{Rest, Reading, ◌>>=◌, bad_at, place, line_or_cut, next_line, required_at, required, record_from}
 
 pub alike_read : {A : Type 0} (w : ℕ) (tail rest : List ℕ) (x : A) → Alike w tail (Ok (x, left w rest)) (Ok (x, left (w + length tail) (rest ++ tail)))
@@ -60,3 +61,6 @@ form_alike form w tail bytes = behind_line_alike w tail bytes (λ at words rest.
 -- a record is read of a front as of the whole
 abbrev pub RecordsAlike : Type 0
 RecordsAlike = (w : ℕ) (tail bytes : List ℕ) → Alike w tail (record_from (left w bytes)) (record_from (left (w + length tail) (bytes ++ tail)))
+
+abbrev pub ImportsAlike : Type 0
+ImportsAlike = (w : ℕ) (tail bytes : List ℕ) → Alike w tail (import_from (left w bytes)) (import_from (left (w + length tail) (bytes ++ tail)))

@@ -8,7 +8,8 @@ use Rattle.hgs_bytes.specs.Theorems.TextLemmas.{split_shorter}
 use Rattle.hgs_model.specs.declared.command.NewChange.{NewChange}
 use Rattle.hgs_model.specs.Valid.{IsNewChange}
 use Rattle.hgs_input.specs.declared.fault.InputFault.{InputFault}
-use Rattle.hgs_input.specs.Front.{IsRecordBefore, left}
+use Rattle.hgs_input.specs.Front.{IsImportBefore, IsRecordBefore, left}
+use Rattle.hgs_input.specs.Import.{IsImportText, import_from}
 use Rattle.hgs_input.specs.Record.{Wording, record_text}
 use Rattle.hgs_input.specs.Read.{Rest, ◌>>=◌, bad_at, line_or_cut, next_line, required_at, and_then, where_true, record_from, is_memory}
 
@@ -94,6 +95,19 @@ pub record_fewer : RecordsStand → (r : Rest) (p : NewChange × Rest) → recor
 record_fewer stand r p e =
     let h = stand r p.1 p.0 e in
     let size = ap length h.text ∙ length-append (record_text h.says p.0) p.1.bytes in
+    omega (arith, size)
+
+-- so are those of an import
+abbrev pub ImportsStand : Type 0
+ImportsStand = (r rest : Rest) (changes : List NewChange) → import_from r ≡ Ok (changes, rest) → IsImportBefore r changes rest
+
+abbrev pub ImportsRead : Type 0
+ImportsRead = (text : List ℕ) (changes : List NewChange) (whole : ℕ) (behind : List ℕ) → IsImportText text changes → import_from (left whole (text ++ behind)) ≡ Ok (changes, left whole behind)
+
+pub import_fewer : ImportsStand → (r : Rest) (p : List NewChange × Rest) → import_from r ≡ Ok p → length p.1.bytes ≤ length r.bytes
+import_fewer stand r p e =
+    let h = stand r p.1 p.0 e in
+    let size = ap length h.is ∙ length-append h.text p.1.bytes in
     omega (arith, size)
 
 -- ---- the fault that the definition gives, where want of memory is free

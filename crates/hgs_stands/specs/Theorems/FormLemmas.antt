@@ -1,11 +1,12 @@
 -- A revlog in the form that its index says, by the separate one that it is taken apart into.
-use Rattle.std.proofs.Common.{◌≡◌, ℕ, ◌*◌, ◌<◌, ◌≤◌, List, [], ◌∷◌, ◌++◌, Bool, true, false, cond, ◌&&◌, ◌||◌, length, map, refl, sym, ◌∙◌, ap, subst, append-nil, arith, length-append}
-use Rattle.std.specs.Prelude.{◌/◌, nat_le}
+use Rattle.std.proofs.Common.{◌≡◌, ℕ, zero, suc, ◌+◌, ◌*◌, ◌<◌, List, [], ◌∷◌, ◌++◌, Bool, true, false, cond, ◌&&◌, ◌||◌, not, length, take, drop, map, refl, sym, ◌∙◌, ap, subst, append-nil, arith, length-append}
+use Rattle.std.specs.Prelude.{◌/◌, nat_lt}
+use Rattle.std.proofs.lemmas.List.{length-take}
 use Rattle.std.proofs.lemmas.Bool.Decides.{nat_tests}
 use Rattle.hgs_files.specs.Tree.{Tree, bytes_at}
 use Rattle.hgs_index.specs.Either.{BeginsEither, HoldsEither, chunk_bytes, chunks_either}
-use Rattle.hgs_index.specs.Entry.{header_at}
-use Rattle.hgs_index.specs.Inline.{chunks_apart, entries_in, index_apart, is_inline, says_inline, without_inline}
+use Rattle.hgs_index.specs.Entry.{is_negative, number_at}
+use Rattle.hgs_index.specs.Inline.{chunks_apart, entries_in, index_apart, is_inline, without_inline}
 use Rattle.hgs_index.specs.Revision.{Revision}
 use Rattle.hgs_index.specs.Revlog.{Begins, BeginsWithRevisions, Holds, HoldsRevisions, Stored, index_bytes, items}
 use Rattle.hgs_index.specs.Theorems.EitherLemmas.{begins-apart}
@@ -74,21 +75,35 @@ changelog-plain t e = (neither (is_inline (bytes_at t changelog_index)) (is_inli
 pub manifest-plain : (t : Tree) → has_inline_log t ≡ false → is_inline (bytes_at t manifest_index) ≡ false
 manifest-plain t e = (neither (is_inline (bytes_at t changelog_index)) (is_inline (bytes_at t manifest_index)) e).1
 
-short : (n : ℕ) → n < 64 → nat_le 64 n ≡ false
-short n lt = by (nat_le 64 n) refl
+-- less than an entry is taken apart into less than an entry
+length-without : (bytes : List ℕ) → length (without_inline bytes) ≡ length bytes
+length-without [] = refl
+length-without (a ∷ []) = refl
+length-without (a ∷ b ∷ bytes) = refl
+
+cut-short : (n : ℕ) (bytes : List ℕ) → length bytes < 64 → length (entries_in n bytes) < 64
+cut-short zero bytes lt = omega arith
+cut-short (suc n) bytes lt =
+    let is : nat_lt (length bytes) 64 ≡ true = grind (arith, nat_tests, lt) in
+    let cut : entries_in (suc n) bytes ≡ take 63 bytes =
+    ap (λ b. cond (b || (not (is_negative (number_at 8 bytes)) && nat_lt (length bytes) (64 + number_at 8 bytes))) (take 63 bytes) (take 64 bytes ++ entries_in n (drop (64 + number_at 8 bytes) bytes))) is in
+    let size = ap length cut ∙ length-take 63 bytes in
+    omega (arith, size)
+
+none-apart : (bytes : List ℕ) → length bytes < 64 → length (index_apart bytes) / 64 ≡ 0
+none-apart bytes lt = by (is_inline bytes)
   where
-    by : (b : Bool) → nat_le 64 n ≡ b → b ≡ false
-    by true e = absurd (let le : 64 ≤ n = grind (arith, nat_tests, e) in omega (arith, lt, le))
-    by false e = refl
+    by : (b : Bool) → length (cond b (without_inline (entries_in (length bytes) bytes)) bytes) / 64 ≡ 0
+    by true = let size = length-without (entries_in (length bytes) bytes) in let short = cut-short (length bytes) bytes lt in omega (arith, size, short)
+    by false = omega (arith, lt)
 
--- less than an entry behind a separate index neither makes it inline nor counts
-pub plain-longer : (index data_bytes more : List ℕ) (revisions : List Revision) → HoldsRevisions index data_bytes revisions → length more < 64 → is_inline (index ++ more) ≡ false
-plain-longer index data_bytes more [] h lt = ap (λ i. is_inline (i ++ more)) (none-held index data_bytes h) ∙ ap (λ b. b && says_inline (header_at more)) (short (length more) lt)
-plain-longer index data_bytes more (r ∷ revisions) h lt = held-plain index data_bytes more r revisions h
-
+-- less than an entry behind a separate index does not count
 pub part-counted : (index data_bytes more : List ℕ) (revisions : List Revision) → is_inline index ≡ false → HoldsEither index data_bytes revisions → length more < 64 → length (index_apart (index ++ more)) / 64 ≡ length (index_apart index) / 64
-part-counted index data_bytes more revisions plain h lt =
-    let held = plain-held index data_bytes revisions plain h in
-    let size = length-held index data_bytes revisions held in
+part-counted index data_bytes more [] plain h lt =
+    let none : index ≡ [] = none-held index data_bytes (plain-held index data_bytes [] plain h) in
+    ap (λ i. length (index_apart (i ++ more)) / 64) none ∙ none-apart more lt ∙ ap (λ i. length (index_apart i) / 64) (sym none)
+part-counted index data_bytes more (r ∷ revisions) plain h lt =
+    let held = plain-held index data_bytes (r ∷ revisions) plain h in
+    let size = length-held index data_bytes (r ∷ revisions) held in
     let count : length (index ++ more) / 64 ≡ length index / 64 = omega (arith, lt, size, length-append index more) in
-    ap (λ i. length i / 64) (plain-apart (index ++ more) (plain-longer index data_bytes more revisions held lt)) ∙ count ∙ ap (λ i. length i / 64) (sym (plain-apart index plain))
+    ap (λ i. length i / 64) (plain-apart (index ++ more) (held-plain index data_bytes more r revisions held)) ∙ count ∙ ap (λ i. length i / 64) (sym (plain-apart index plain))

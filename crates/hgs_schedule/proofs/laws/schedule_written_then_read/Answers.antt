@@ -7,4 +7,4 @@ pub returns : goal.returns
 returns c says s can written size =
     let said = c.words_written_then_read.ensures in
     let words : Words = record { numbers = said.numbers; digits = said.digits; names = said.names } in
-    c.schedules_are_read.ensures (schedule_text says s) s (text_is words says s can written size)
+    c.schedules_are_read.ensures (schedule_text says s) s (text_is words c.imports_stand_in_front.ensures.written says s can written size)

@@ -12,12 +12,12 @@ returns-in_err-event c =
 pub loop-events-smaller : goal.loop-events-smaller
 loop-events-smaller c =
     let read = c.in_ok-event.ensures ∙ ap (λ o. Ok (o, c.event.new.input)) c.in-Some.is in
-    event_fewer c.records_stand_in_front.ensures.is c.args.readers c.loop-events.input (Some c.in-Some.event, c.event.new.input) read
+    event_fewer c.records_stand_in_front.ensures.is c.imports_stand_in_front.ensures.is c.args.readers c.loop-events.input (Some c.in-Some.event, c.event.new.input) read
 
 pub loop-events-preserved : goal.loop-events-preserved
 loop-events-preserved c =
     let read = c.in_ok-event.ensures ∙ ap (λ o. Ok (o, c.event.new.input)) c.in-Some.is in
-    let fewer = event_fewer c.records_stand_in_front.ensures.is c.args.readers c.loop-events.input (Some c.in-Some.event, c.event.new.input) read in
+    let fewer = event_fewer c.records_stand_in_front.ensures.is c.imports_stand_in_front.ensures.is c.args.readers c.loop-events.input (Some c.in-Some.event, c.event.new.input) read in
     let room = c.loop-events.invariant.room in
     let count = ap length c.in_ok-push.ensures.ok ∙ length_push c.loop-events.events c.in-Some.event in
     record {

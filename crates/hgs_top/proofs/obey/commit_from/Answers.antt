@@ -22,7 +22,6 @@ returns-clause-refused g c =
     let left = g.S.Source.left c.args.input.now in
     let P : List ℕ → Type 0 = λ bytes. IfSome left (λ all. bytes ≡ take (most_input + 1) all) in
     λ log start. (
-      refl,
       gave c.long_inputs_are_decided.ensures left c.deref.result.now (Err c.in-Err.fault) (subst P (sym c.deref.ensures.value) c.in-Ok.ensures.read) c.in-Err.ensures,
       refl,
     )

@@ -1,5 +1,5 @@
-use Rattle.std.proofs.Common.{subst}
-use Rattle.hgs_model.specs.Valid.{CanBeAsked}
+use Rattle.std.proofs.Common.{subst, sym}
+use Rattle.hgs_model.specs.Valid.{AreNewChanges, IsValid}
 use Rattle.hgs_writer.proofs.PlanLemmas.{always-at-rest, at-rest, commit-comes, import-comes, mark-comes, move-comes, unmark-comes, weaker}
 use Rattle.hgs_commit.specs.Commit.{Steps}
 use Rattle.hgs_writer.specs.Planning.{ComesTo}
@@ -36,7 +36,7 @@ returns-in-Unmark-clause-comes g c =
     (λ t. unmark-comes t c.args.loaded c.args.command.now c.in-Unmark.name c.as_slice-in-Unmark.result.now c.unmarked.result c.in-Unmark.is c.as_slice-in-Unmark.ensures c.unmarked.ensures.comes)
 
 pub import-requires-clause-valid : goal.import-requires-clause-valid
-import-requires-clause-valid g c = absurd (subst CanBeAsked c.in-Import.is c.requires.valid)
+import-requires-clause-valid g c = subst AreNewChanges (sym c.as_slice.ensures) (subst IsValid c.in-Import.is c.requires.valid)
 
 pub returns-in-Import-clause-sound : goal.returns-in-Import-clause-sound
 returns-in-Import-clause-sound g c = weaker c.args.loaded c.import.result c.import.ensures.sound
