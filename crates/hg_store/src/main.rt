@@ -6,11 +6,15 @@
 
 mod command_line;
 mod hints;
+mod nearest;
 mod progress;
+mod usages;
 
 use crate::command_line::{Words, read_words};
 use crate::hints::hint;
+use crate::nearest::nearest;
 use crate::progress::OsProgress;
+use crate::usages::usage;
 use hgs_files::streams::Sink;
 use hgs_os::files::OsFiles;
 use hgs_os::streams::{OsSink, OsSource};
@@ -37,13 +41,37 @@ fn refuse_text<K: Sink>(rt: &HostRuntime, before: &[String], out: &mut K) -> u8 
 }
 
 // Names the word that does not fit on standard error, or says that one is missing.
-fn say_word(rt: &HostRuntime, words: &[String]) {
-    if let Err(place) = asked_by(words) {
-        let _ = match words.get(place) {
-            Some(word) => eprintln!(rt; "hg_store: the word {word} does not fit here"),
-            None => eprintln!(rt; "hg_store: a word is missing"),
-        };
+fn say_misfit(rt: &HostRuntime, words: &[String], place: usize) {
+    let _ = match words.get(place) {
+        None => eprintln!(rt; "hg_store: a word is missing"),
+        Some(word) if place == 0 => match nearest(rt.alloc(), word) {
+            Ok(Some(command)) => {
+                eprintln!(rt; "hg_store: there is no command {word}; did you mean {command}?")
+            }
+            _ => eprintln!(rt; "hg_store: there is no command {word}"),
+        },
+        Some(word) => eprintln!(rt; "hg_store: the word {word} does not fit here"),
+    };
+}
+
+// How the command is given of which the words are the name and `--help`.
+fn usage_asked(words: &[String]) -> Option<&'static str> {
+    match words {
+        [command, word, ..] if word.as_str() == "--help" => usage(command),
+        _ => None,
     }
+}
+
+// Says on standard error how a command is given, where that is asked; else what is wrong with the words.
+fn say_words(rt: &HostRuntime, words: &[String]) {
+    if let Some(text) = usage_asked(words) {
+        let _ = eprint!(rt; "{text}");
+        return;
+    }
+    if let Err(place) = asked_by(words) {
+        say_misfit(rt, words, place);
+    }
+    say_hint(rt, 28);
 }
 
 // Says on standard error what a status means, where it is a refusal. What becomes of that line does not matter.
@@ -69,7 +97,7 @@ fn make_store(rt: &HostRuntime, words: &[String]) {
     }
 }
 
-// Does what the words ask for, with these threads where there are some to be had, and gives the status.
+// Does what the words ask for, with these threads where there are some to be had, says what its status means, and gives that.
 fn answer<T: Threads + Wait + Sync, K: Sink>(
     rt: &HostRuntime,
     threads: &T,
@@ -91,11 +119,17 @@ fn answer<T: Threads + Wait + Sync, K: Sink>(
                 &mut progress,
             );
             if ran.status == 28 {
-                say_word(rt, &words);
+                say_words(rt, &words);
+            } else {
+                say_hint(rt, ran.status);
             }
             Ok(ran.status)
         }
-        Words::UpTo(before) => Ok(refuse_text(rt, &before, out)),
+        Words::UpTo(before) => {
+            let status = refuse_text(rt, &before, out);
+            say_hint(rt, status);
+            Ok(status)
+        }
     }
 }
 
@@ -107,10 +141,7 @@ fn main(rt: HostRuntime) -> ExitCode {
     }
     let mut out = OsSink::new(rt.stdout());
     match answer(&rt, &rt, &mut out) {
-        Ok(status) => {
-            say_hint(&rt, status);
-            ExitCode::from(status)
-        }
+        Ok(status) => ExitCode::from(status),
         Err(_) => {
             let _ = out.write(b"abort: out of memory\n");
             say_hint(&rt, 30);
