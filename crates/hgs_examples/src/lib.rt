@@ -1,6 +1,8 @@
-//! Examples of bytes, names and revlogs, with values from outside. There is nothing here but tests.
+//! Examples of bytes, names and texts of files, of records, schedules and answers, and of what is found of a revlog. There is nothing here but tests.
 #![tactic(auto)]
 
+#[cfg(test)]
+mod answers;
 #[cfg(test)]
 mod bytes;
 #[cfg(test)]
@@ -16,15 +18,33 @@ mod given;
 #[cfg(test)]
 mod headers;
 #[cfg(test)]
+mod input;
+#[cfg(test)]
+mod journal;
+#[cfg(test)]
+mod judge;
+#[cfg(test)]
 mod manifests;
+#[cfg(test)]
+mod marks;
+#[cfg(test)]
+mod model;
 #[cfg(test)]
 mod nodes;
 #[cfg(test)]
 mod paths;
 #[cfg(test)]
+mod phases;
+#[cfg(test)]
+mod plan;
+#[cfg(test)]
 mod revisions;
 #[cfg(test)]
 mod revlog;
+#[cfg(test)]
+mod schedules;
+#[cfg(test)]
+mod scripts;
 #[cfg(test)]
 mod store_names;
 #[cfg(test)]

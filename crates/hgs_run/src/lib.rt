@@ -6,3 +6,5 @@ pub mod ran;
 pub mod run;
 pub mod script;
 pub mod session;
+
+pub use hgs_top::words::asks_session;

@@ -1,9 +1,9 @@
 //! How many calls on the files a question makes, and what is told where one fails.
 use crate::given::given;
 use crate::stores::{FIRST, FIRST_CHUNK, put, store};
-use crate::yards::run_over;
+use crate::yards::{Came, run_words};
 use hgs_mem::mem::MemFiles;
-use hgs_mem::streams::{MemSink, MemSource};
+use hgs_mem::streams::MemSink;
 use std::alloc::Global;
 use std::sync::Wait;
 use std::test::Fail;
@@ -38,17 +38,9 @@ pub(crate) fn asked<R: Alloc<A = Global> + Threads + Sync + Wait>(
     rt: &R,
     files: MemFiles,
     words: &[&str],
-    mut sink: MemSink,
+    sink: MemSink,
 ) -> Result<(u8, Vec<u8>), Fail> {
-    let alloc = rt.alloc();
-    let mut owned = Vec::new(alloc);
-    for word in words {
-        let word = String::from_str(alloc, word)?;
-        owned.push(word)?;
-    }
-    let mut source = MemSource::new(alloc, b"unread")?;
-    let (status, _) = run_over(rt, alloc, &owned, files, &mut source, &mut sink)?;
-    let text = Vec::from_slice(alloc, sink.bytes())?;
+    let Came { status, text, .. } = run_words(rt, files, words, b"unread", sink)?;
     Ok((status, text))
 }
 
@@ -74,17 +66,9 @@ fn calls_of<R: Alloc<A = Global> + Threads + Sync + Wait>(
     files: MemFiles,
     words: &[&str],
 ) -> Result<u64, Fail> {
-    let alloc = rt.alloc();
     let before = files.calls();
-    let mut owned = Vec::new(alloc);
-    for word in words {
-        let word = String::from_str(alloc, word)?;
-        owned.push(word)?;
-    }
-    let mut source = MemSource::new(alloc, b"")?;
-    let mut sink = MemSink::new(alloc);
-    let (_, left) = run_over(rt, alloc, &owned, files, &mut source, &mut sink)?;
-    Ok(left.calls().saturating_sub(before))
+    let came = run_words(rt, files, words, b"", MemSink::new(rt.alloc()))?;
+    Ok(came.files.calls().saturating_sub(before))
 }
 
 /// How many calls on the files these words make: five for a load; then those for a text of the changelog, for the index and

@@ -2,10 +2,10 @@
 //! are the lines before or those after, and those after where the commit was answered. The nodes are Mercurial's.
 use crate::given::given;
 use crate::stores::store_path;
-use crate::yards::run_over;
+use crate::yards::{Came, run_words};
 use hgs_files::files::Reads;
 use hgs_mem::mem::MemFiles;
-use hgs_mem::streams::{MemSink, MemSource};
+use hgs_mem::streams::MemSink;
 use std::alloc::Global;
 use std::sync::Wait;
 use std::test::Fail;
@@ -40,33 +40,14 @@ const BACKUPS: &[u8] = b"2\n\x00phaseroots\x00\x000\nplain\x00dirstate\x00\x000\
 /// More calls than a commit makes.
 const CALLS: u64 = 100;
 
-/// What a word comes to over these files, with this input: the status, the text, and the files.
-#[derive(Drop)]
-pub(crate) struct Came {
-    pub(crate) status: u8,
-    pub(crate) text: Vec<u8>,
-    pub(crate) files: MemFiles,
-}
-
+/// What a word comes to over these files, with this input.
 pub(crate) fn run_word<R: Alloc<A = Global> + Threads + Sync + Wait>(
     rt: &R,
     files: MemFiles,
     word: &str,
     given: &[u8],
 ) -> Result<Came, Fail> {
-    let alloc = rt.alloc();
-    let mut words = Vec::new(alloc);
-    let word = String::from_str(alloc, word)?;
-    words.push(word)?;
-    let mut input = MemSource::new(alloc, given)?;
-    let mut sink = MemSink::new(alloc);
-    let (status, files) = run_over(rt, alloc, &words, files, &mut input, &mut sink)?;
-    let text = Vec::from_slice(alloc, sink.bytes())?;
-    Ok(Came {
-        status,
-        text,
-        files,
-    })
+    run_words(rt, files, &[word], given, MemSink::new(rt.alloc()))
 }
 
 /// A repository with the first changeset.

@@ -1,11 +1,11 @@
 //! How many bytes a session is given: loaded again after one more commit, and asked again for what it keeps.
 use crate::given::given;
 use crate::stores::store_path;
-use crate::yards::run_over;
+use crate::yards::{Came, run_words};
 use hgs_files::files::{FileFault, Reads};
 use hgs_files::path::StorePath;
 use hgs_mem::mem::MemFiles;
-use hgs_mem::streams::{MemSink, MemSource};
+use hgs_mem::streams::MemSink;
 use hgs_reader::session::Session;
 use hgs_recent::session::RecentSession;
 use std::alloc::{Alloc, Global};
@@ -57,21 +57,13 @@ impl<F: Reads> Reads for Counted<F> {
 }
 
 /// What these words leave of the files, where they end well.
-fn run_words<R: Alloc<A = Global> + Threads + Sync + Wait>(
+fn left_by<R: Alloc<A = Global> + Threads + Sync + Wait>(
     rt: &R,
     files: MemFiles,
     words: &[&str],
     given: &[u8],
 ) -> Result<MemFiles, Fail> {
-    let alloc = rt.alloc();
-    let mut owned = Vec::new(alloc);
-    for word in words {
-        let word = String::from_str(alloc, word)?;
-        owned.push(word)?;
-    }
-    let mut input = MemSource::new(alloc, given)?;
-    let mut sink = MemSink::new(alloc);
-    let (status, files) = run_over(rt, alloc, &owned, files, &mut input, &mut sink)?;
+    let Came { status, files, .. } = run_words(rt, files, words, given, MemSink::new(rt.alloc()))?;
     if status == 0 {
         Ok(files)
     } else {
@@ -86,11 +78,11 @@ const NEXT: &[u8] = b"commit\nparent tip\nuser test\ndate 60 0\ndesc 1\nb\nfile 
 fn a_refresh_is_given_what_is_new(rt: HostRuntime) -> Result<(), Fail> {
     let alloc = rt.alloc();
     let none = MemFiles::new(alloc)?;
-    let files = run_words(&rt, none, &["gen", "7", "1000"], b"")?;
+    let files = left_by(&rt, none, &["gen", "7", "1000"], b"")?;
     let mut files = Counted { files, bytes: 0 };
     let mut session = given(Session::open(alloc, &mut files))?;
     assert_eq!(rt; session.len(), 1000);
-    let files = run_words(&rt, files.files, &["commit"], NEXT)?;
+    let files = left_by(&rt, files.files, &["commit"], NEXT)?;
     let mut files = Counted { files, bytes: 0 };
     given(session.refresh(&mut files))?;
     assert_eq!(rt; session.len(), 1001);
@@ -122,8 +114,8 @@ fn given_for_files(
 fn a_kept_manifest_is_not_given_again(rt: HostRuntime) -> Result<(), Fail> {
     let alloc = rt.alloc();
     let none = MemFiles::new(alloc)?;
-    let made = run_words(&rt, none, &["init"], b"")?;
-    let files = run_words(&rt, made, &["commit"], ONLY)?;
+    let made = left_by(&rt, none, &["init"], b"")?;
+    let files = left_by(&rt, made, &["commit"], ONLY)?;
     let mut files = Counted { files, bytes: 0 };
     let mut session = given(RecentSession::open(alloc, &mut files))?;
     let first = given_for_files(alloc, &mut session, &mut files, 0)?;
@@ -151,7 +143,7 @@ fn ask_for(
 fn the_text_used_longest_ago_is_given_up(rt: HostRuntime) -> Result<(), Fail> {
     let alloc = rt.alloc();
     let none = MemFiles::new(alloc)?;
-    let files = run_words(&rt, none, &["gen", "7", "20"], b"")?;
+    let files = left_by(&rt, none, &["gen", "7", "20"], b"")?;
     let mut files = Counted { files, bytes: 0 };
     let mut session = given(RecentSession::open(alloc, &mut files))?;
     let first = given_for_files(alloc, &mut session, &mut files, 0)?;

@@ -5,8 +5,8 @@ use hgs_hub::hub::Hub;
 use hgs_mem::mem::MemFiles;
 use hgs_mem::streams::{MemSink, MemSource};
 use hgs_run::alone::run_alone;
+use hgs_run::asks_session;
 use hgs_run::ran::Ran;
-use hgs_top::words::asks_session;
 use hgs_verify::progress::Unseen;
 use std::alloc::Global;
 use std::sync::Wait;
@@ -44,4 +44,36 @@ pub(crate) fn run_over<R: Threads + Wait + Sync>(
         Left::Whole(yard) => Ok((status, yard.alone().0)),
         Left::Parts(_, _) => Err(Fail::new("the ends are apart")),
     }
+}
+
+/// What a run came to: its status, what it wrote, and the files.
+#[derive(Drop)]
+pub(crate) struct Came {
+    pub(crate) status: u8,
+    pub(crate) text: Vec<u8>,
+    pub(crate) files: MemFiles,
+}
+
+/// What these words come to over these files, with this input.
+pub(crate) fn run_words<R: Alloc<A = Global> + Threads + Wait + Sync>(
+    rt: &R,
+    files: MemFiles,
+    words: &[&str],
+    input: &[u8],
+    mut sink: MemSink,
+) -> Result<Came, Fail> {
+    let alloc = rt.alloc();
+    let mut owned = Vec::new(alloc);
+    for word in words {
+        let word = String::from_str(alloc, word)?;
+        owned.push(word)?;
+    }
+    let mut source = MemSource::new(alloc, input)?;
+    let (status, files) = run_over(rt, alloc, &owned, files, &mut source, &mut sink)?;
+    let text = Vec::from_slice(alloc, sink.bytes())?;
+    Ok(Came {
+        status,
+        text,
+        files,
+    })
 }

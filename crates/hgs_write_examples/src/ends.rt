@@ -5,6 +5,7 @@ ghost use Rattle.hgs_files.specs.Tree.{Tree};
 ghost use Rattle.hgs_hub.specs.Reader.{ties_by};
 ghost use Rattle.hgs_hub.specs.Writer.{ties_at};
 
+use crate::files::store_path;
 use crate::given::given;
 use hgs_files::ends::{Follows, Leads};
 use hgs_files::files::{Created, FileFault, Files, Reads};
@@ -30,23 +31,6 @@ impl Protocol for Free {
     ghost legal_front = { λ start log more h. tt };
 
     ghost legal_piece = { λ start log left op piece p h. tt };
-}
-
-/// The path of this name.
-pub(crate) fn store_path(alloc: Global, name: &[u8]) -> Result<StorePath, Fail> {
-    given(StorePath::new(alloc, name))
-}
-
-/// Gives a file these bytes alone.
-pub(crate) fn put(
-    alloc: Global,
-    files: &mut MemFiles,
-    name: &[u8],
-    bytes: &[u8],
-) -> Result<(), Fail> {
-    let path = store_path(alloc, name)?;
-    given(files.put(&path, bytes))?;
-    Ok(())
 }
 
 /// A writing end and a reading end of one start.

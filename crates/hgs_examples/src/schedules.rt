@@ -6,53 +6,44 @@ use hgs_schedule::schedule::read_schedule;
 use std::test::Fail;
 
 /// What an event is, its number, its first name and its second.
-type Row = (&'static str, u64, &'static [u8], &'static [u8]);
+type Row<'a> = (&'a str, u64, &'a [u8], &'a [u8]);
 
-fn is_command(command: &Command, (kind, number, first, second): Row) -> bool {
+fn row_of_command(command: &Command) -> Row<'_> {
     match command {
         Command::Commit(change) => {
-            kind == "commit"
-                && change.files.len() as u64 == number
-                && change.description.as_slice() == first
+            let count = change.files.len() as u64;
+            ("commit", count, change.description.as_slice(), b"")
         }
-        Command::Import(changes) => kind == "import" && changes.len() as u64 == number,
+        Command::Import(changes) => ("import", changes.len() as u64, b"", b""),
         Command::Move { rev, phase, force } => {
-            let kind_is = if *force { "force" } else { "phase" };
-            kind == kind_is && phase.number() as u64 == number && rev.as_slice() == first
+            let kind = if *force { "force" } else { "phase" };
+            (kind, phase.number() as u64, rev.as_slice(), b"")
         }
-        Command::Mark { name, rev } => {
-            kind == "mark" && rev.as_slice() == first && name.as_slice() == second
-        }
-        Command::Unmark { name } => kind == "unmark" && name.as_slice() == first,
+        Command::Mark { name, rev } => ("mark", 0, rev.as_slice(), name.as_slice()),
+        Command::Unmark { name } => ("unmark", 0, name.as_slice(), b""),
     }
 }
 
-fn is_event(event: &Event, row: Row) -> bool {
-    let (kind, number, first, second) = row;
+fn row_of(event: &Event) -> Row<'_> {
     match event {
-        Event::Begin(command) => is_command(command, row),
-        Event::Write(None) => kind == "write",
-        Event::Write(Some(count)) => kind == "write bytes" && *count == number,
-        Event::Fail(count) => kind == "fail" && *count == number,
-        Event::UntilPublish => kind == "publish",
-        Event::UntilClean => kind == "clean",
-        Event::Finish => kind == "finish",
-        Event::Open(reader) => kind == "open" && *reader as u64 == number,
-        Event::Read(reader) => kind == "read" && *reader as u64 == number,
-        Event::Load(reader) => kind == "load" && *reader as u64 == number,
-        Event::Log(reader) => kind == "log" && *reader as u64 == number,
+        Event::Begin(command) => row_of_command(command),
+        Event::Write(None) => ("write", 0, b"", b""),
+        Event::Write(Some(count)) => ("write bytes", *count, b"", b""),
+        Event::Fail(count) => ("fail", *count, b"", b""),
+        Event::UntilPublish => ("publish", 0, b"", b""),
+        Event::UntilClean => ("clean", 0, b"", b""),
+        Event::Finish => ("finish", 0, b"", b""),
+        Event::Open(reader) => ("open", *reader as u64, b"", b""),
+        Event::Read(reader) => ("read", *reader as u64, b"", b""),
+        Event::Load(reader) => ("load", *reader as u64, b"", b""),
+        Event::Log(reader) => ("log", *reader as u64, b"", b""),
         Event::Cat { reader, rev, path } => {
-            kind == "cat"
-                && *reader as u64 == number
-                && rev.as_slice() == first
-                && path.as_slice() == second
+            ("cat", *reader as u64, rev.as_slice(), path.as_slice())
         }
-        Event::Phase { reader, rev } => {
-            kind == "phase of" && *reader as u64 == number && rev.as_slice() == first
-        }
-        Event::Bookmarks(reader) => kind == "bookmarks" && *reader as u64 == number,
-        Event::Stop(count) => kind == "stop" && *count == number,
-        Event::Recover => kind == "recover",
+        Event::Phase { reader, rev } => ("phase of", *reader as u64, rev.as_slice(), b""),
+        Event::Bookmarks(reader) => ("bookmarks", *reader as u64, b"", b""),
+        Event::Stop(count) => ("stop", *count, b"", b""),
+        Event::Recover => ("recover", 0, b"", b""),
     }
 }
 
@@ -60,7 +51,7 @@ fn is_event(event: &Event, row: Row) -> bool {
 const WITHIN_AN_ENTRY: &[u8; 219] =
     b"play 1\nbegin commit\ncommit\nuser test\ndate 0 0\ndesc 1\na\nfile - 2 a\na\n\nend\nfinish\nbegin commit\ncommit\nparent tip\nuser test\ndate 60 0\ndesc 1\nb\nfile - 0 b\n\nend\nuntil publish\nload 0\nwrite 63\nload 0\nwrite 1\nload 0\nfinish\nend\n";
 
-const WITHIN_AN_ENTRY_ROWS: [Row; 10] = [
+const WITHIN_AN_ENTRY_ROWS: [Row<'_>; 10] = [
     ("commit", 1, b"a", b""),
     ("finish", 0, b"", b""),
     ("commit", 1, b"b", b""),
@@ -77,7 +68,7 @@ const WITHIN_AN_ENTRY_ROWS: [Row; 10] = [
 const EACH: &[u8] =
     b"play 64\nbegin phase tip public\nbegin phase  secret force\nbegin bookmark . a b\nbegin bookmark  c\nbegin unbookmark a b\nwrite\nwrite 18446744073709551616\nfail 0\nfail 18446744073709551615\nuntil publish\nuntil clean\nfinish\nopen 63\nread 0\nload 9\nlog 10\ncat 1 tip a b\ncat 2  \nphase 3 tip\nphase 4 \nbookmarks 5\nstop 99999999999999999999999999999999\nrecover\nend\n";
 
-const EACH_ROWS: [Row; 23] = [
+const EACH_ROWS: [Row<'_>; 23] = [
     ("phase", 0, b"tip", b""),
     ("force", 2, b"", b""),
     ("mark", 0, b".", b"a b"),
@@ -107,7 +98,7 @@ const EACH_ROWS: [Row; 23] = [
 const IMPORTS: &[u8] =
     b"play 1\nbegin import\ncommit\nuser u\ndate 0 0\ndesc 0\n\nend\ncommit\nuser v\ndate 0 0\ndesc 0\n\nend\nend import\nfinish\nend\n";
 
-const IMPORTS_ROWS: [Row; 2] = [("import", 2, b"", b""), ("finish", 0, b"", b"")];
+const IMPORTS_ROWS: [Row<'_>; 2] = [("import", 2, b"", b""), ("finish", 0, b"", b"")];
 
 #[test]
 fn schedules(rt: HostRuntime) -> Result<(), Fail> {
@@ -124,7 +115,8 @@ fn schedules(rt: HostRuntime) -> Result<(), Fail> {
         let read = given(read_schedule(rt.alloc(), text))?;
         assert!(rt; read.readers == readers && read.events.len() == rows.len());
         for (event, row) in read.events.as_slice().iter().zip(rows) {
-            assert!(rt; is_event(event, *row));
+            let found = row_of(event);
+            assert_eq!(rt; found, *row);
         }
     }
     Ok(())

@@ -4,7 +4,8 @@ ghost use Rattle.std.specs.Thread.{IsSync};
 ghost use Rattle.hgs_files.specs.declared.op.Op.{Op};
 ghost use Rattle.hgs_files.specs.Tree.{Tree};
 
-use crate::ends::{Free, store_path};
+use crate::ends::Free;
+use crate::files::store_path;
 use crate::given::given;
 use hgs_files::files::{Files, Reads};
 use hgs_files::path::StorePath;

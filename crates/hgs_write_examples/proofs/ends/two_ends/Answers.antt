@@ -1,6 +1,6 @@
 use Rattle.std.proofs.Common.{rules, ◌≡◌, ◌-◌, ◌<◌, length, vec_len, slice_index_or, ap, ◌∙◌}
 use Rattle.hgs_hub.specs.Reader.{ties_by}
-use Rattle.hgs_hub_examples.proofs.ends.two_ends.Goals as goal
+use Rattle.hgs_write_examples.proofs.ends.two_ends.Goals as goal
 
 pub invariant_of-result : goal.invariant_of-result
 invariant_of-result g c =

@@ -3,7 +3,8 @@
 ghost use Rattle.std.specs.Prelude.{IfOk};
 ghost use Rattle.hgs_model.specs.Valid.{IsValid};
 
-use crate::ends::{Free, Pair, put, two_ends};
+use crate::ends::{Free, Pair, two_ends};
+use crate::files::put;
 use crate::given::given;
 use hgs_answers::outcome::{Outcome, Published};
 use hgs_hub::reader::HubReader;

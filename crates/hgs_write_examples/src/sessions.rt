@@ -3,7 +3,8 @@
 ghost use Rattle.std.specs.Prelude.{IfOk};
 ghost use Rattle.hgs_script.specs.Script.{CanBeRun};
 
-use crate::ends::{Free, put};
+use crate::ends::Free;
+use crate::files::put;
 use hgs_hub::hub::Hub;
 use hgs_mem::mem::MemFiles;
 use hgs_script::laws::read_scripts_can_be_run;

@@ -1,5 +1,0 @@
-//! Examples of files in memory. There is nothing here but tests.
-#![tactic(auto)]
-
-#[cfg(test)]
-mod mem;
