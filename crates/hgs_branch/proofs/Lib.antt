@@ -1,7 +1,9 @@
-pub mod ClimbLemmas
+pub mod BitLemmas
 pub mod ExtrasLemmas
+pub mod HandLemmas
+pub mod HistoryLemmas
 pub mod KeptLemmas
+pub mod ListLemmas
 pub mod OrderLemmas
 pub mod PrintLemmas
 pub mod TrackLemmas
-pub mod WalkLemmas

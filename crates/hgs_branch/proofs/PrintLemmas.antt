@@ -1,7 +1,7 @@
 -- Heads by branch, and their lines.
-use Rattle.std.proofs.Common.{◌≡◌, ◌<◌, ◌≤◌, ℕ, zero, suc, ◌+◌, ◌-◌, Bool, true, false, ◌&&◌, List, [], ◌∷◌, ◌++◌, append_assoc, append-nil, length, Some, refl, sym, ◌∙◌, ap, inl, inr, arith}
+use Rattle.std.proofs.Common.{◌≡◌, ◌<◌, ◌≤◌, ℕ, zero, suc, ◌+◌, ◌-◌, Bool, true, false, cond, ◌&&◌, List, [], ◌∷◌, ◌++◌, append_assoc, append-nil, length, Some, refl, sym, ◌∙◌, ap, inl, inr, arith}
 use Rattle.std.specs.Prelude.{◌==◌, ◌↔◌, flat_map, if◌then◌else◌, not, slice_get, slice_index_or, insert}
-use Rattle.std.specs.List.{list_any, range_with_len}
+use Rattle.std.specs.List.{filter, list_any, range_with_len}
 use Rattle.hex.specs.Hex.{encode_with}
 use Rattle.hgs_bytes.specs.Bytes.{same, is_below}
 use Rattle.hgs_bytes.specs.Theorems.ByteLemmas.{same-eq, same-refl}
@@ -12,38 +12,32 @@ use Rattle.hgs_index.specs.Hex.{hex}
 use Rattle.hgs_index.specs.declared.entry.Entry.{Entry}
 use Rattle.hgs_revlog.specs.Log.{nodes_of}
 use Rattle.hgs_branch.specs.Heads.{branch_at, by_branch, goes_on, is_head, with_head, IsHead}
-use Rattle.hgs_branch.specs.Kept.{names_in}
+use Rattle.hgs_branch.specs.Kept.{names_in, TracksCourse}
+use Rattle.hgs_branch.specs.Reached.{IsLeftWithin}
 use Rattle.hgs_branch.specs.Text.{branches_text, head_line, head_lines, node_text}
-use Rattle.hgs_branch.specs.Tracked.{is_open, numbers_in, parents_in, Tracks}
-use Rattle.hgs_branch.specs.declared.walk.Known.{Known}
-use Rattle.hgs_branch.specs.declared.walk.Reach.{Reach}
-use Rattle.hgs_branch.proofs.KeptLemmas.{and_true}
-use Rattle.hgs_branch.proofs.TrackLemmas.{length_map}
-use Rattle.hgs_branch.proofs.WalkLemmas.{both, both_of, either, either_left, either_right, false_is, get_map, get_there, not_number, number_same, same_number, some_is, true_or_false}
-
--- ---- a place among heads
-
-pub place_found : (names : List (List ℕ)) (rev : ℕ) (heads : List ℕ) (i : ℕ) → ((j : ℕ) → j < i → is_below (branch_at names rev) (branch_at names (slice_index_or heads j 0)) ≡ false) → i ≤ length heads →
-    (i < length heads → is_below (branch_at names rev) (branch_at names (slice_index_or heads i 0)) ≡ true) → insert heads i rev ≡ with_head names rev heads
-place_found names rev [] zero before low here = refl
-place_found names rev [] (suc i) before low here = absurd (omega (arith, low))
-place_found names rev (h ∷ heads) zero before low here = let e = here (omega arith) in sym (ap (λ b. if b then rev ∷ h ∷ heads else h ∷ with_head names rev heads) e)
-place_found names rev (h ∷ heads) (suc i) before low here =
-    let e = before 0 (omega arith) in
-    ap (λ l. h ∷ l) (place_found names rev heads i (λ j lt. before (suc j) (omega (arith, lt))) (omega (arith, low)) (λ lt. here (omega (arith, lt))))
-    ∙ sym (ap (λ b. if b then rev ∷ h ∷ heads else h ∷ with_head names rev heads) e)
+use Rattle.hgs_branch.specs.Tracked.{numbers_in, parents_in}
+use Rattle.hgs_branch.specs.declared.course.Course.{Course}
+use Rattle.hgs_branch.specs.declared.reach.Known.{Known}
+use Rattle.hgs_branch.proofs.ListLemmas.{both, both_of, either, either_left, either_right, false_is, get_map, get_there, length_map, not_number, number_same, same_number, some_is, true_or_false}
+use Rattle.hgs_branch.proofs.TrackLemmas.{marks_are_exact}
 
 -- ---- one changeset after another
 
-pub by_branch_next : (test : ℕ → Bool) (names : List (List ℕ)) (heads next : List ℕ) (rev n : ℕ) → rev < n → next ≡ (if test rev then with_head names rev heads else heads) → by_branch test names next (range_with_len (rev + 1) (n - (rev + 1))) ≡ by_branch test names heads (range_with_len rev (n - rev))
-by_branch_next test names heads next rev n lt is =
-    ap (λ h. by_branch test names h (range_with_len (rev + 1) (n - (rev + 1)))) is ∙ sym (ap (λ k. by_branch test names heads (range_with_len rev k)) more)
+-- so many first ones were looked at
+pub filter_next : (test : ℕ → Bool) (heads next : List ℕ) (rev n : ℕ) → rev < n → next ≡ heads ++ (if test rev then rev ∷ [] else []) → next ++ filter test (range_with_len (rev + 1) (n - (rev + 1))) ≡ heads ++ filter test (range_with_len rev (n - rev))
+filter_next test heads next rev n lt is =
+    ap (λ h. h ++ filter test (range_with_len (rev + 1) (n - (rev + 1)))) is ∙ append_assoc heads (if test rev then rev ∷ [] else []) (filter test (range_with_len (rev + 1) (n - (rev + 1)))) ∙ ap (λ l. heads ++ l) (by (test rev))
+    ∙ sym (ap (λ k. heads ++ filter test (range_with_len rev k)) more)
   where
     more : n - rev ≡ suc (n - (rev + 1))
     more = omega (arith, lt)
 
-pub by_branch_done : (test : ℕ → Bool) (names : List (List ℕ)) (heads : List ℕ) (rev n : ℕ) → n ≤ rev → by_branch test names heads (range_with_len rev (n - rev)) ≡ heads
-by_branch_done test names heads rev n le = ap (λ k. by_branch test names heads (range_with_len rev k)) none
+    by : (b : Bool) → (if b then rev ∷ [] else []) ++ filter test (range_with_len (rev + 1) (n - (rev + 1))) ≡ cond b (rev ∷ filter test (range_with_len (rev + 1) (n - (rev + 1)))) (filter test (range_with_len (rev + 1) (n - (rev + 1))))
+    by true = refl
+    by false = refl
+
+pub filter_done : (test : ℕ → Bool) (heads : List ℕ) (rev n : ℕ) → n ≤ rev → heads ++ filter test (range_with_len rev (n - rev)) ≡ heads
+filter_done test heads rev n le = ap (λ k. heads ++ filter test (range_with_len rev k)) none ∙ append-nil heads
   where
     none : n - rev ≡ 0
     none = omega (arith, le)
@@ -120,31 +114,29 @@ test_is parents names rev b long low = (
 name_at : (names : List (List ℕ)) (number : ℕ) → number < length names → slice_get names number ≡ Some (slice_index_or names number [])
 name_at names number lt = at_place names number lt
 
-numbers_are_names : (known : List Known) (names : List (List ℕ)) (reaches : List Reach) (heads : List Bool) → Tracks known names reaches heads [] → (c d : ℕ) → c < length known → d < length known →
-    (slice_get (numbers_in known) c ≡ slice_get (numbers_in known) d ↔ slice_get (names_in names known) c ≡ slice_get (names_in names known) d)
-numbers_are_names known names reaches heads t c d lc ld = (
-  λ e. name_c ∙ ap (λ n. Some (slice_index_or names n [])) (some_is c_known.branch d_known.branch (sym number_c ∙ e ∙ number_d)) ∙ sym name_d,
-  λ e. number_c ∙ ap (λ x. Some x) (t.distinct c_known.branch d_known.branch (slice_index_or names d_known.branch [])
-      (name_at names c_known.branch (t.numbers c c_known.branch number_c) ∙ sym name_c ∙ e ∙ name_d) (name_at names d_known.branch (t.numbers d d_known.branch number_d))) ∙ sym number_d,
+numbers_are_names : (course : Course) → TracksCourse course → (c d : ℕ) → c < length course.known.items → d < length course.known.items →
+    (slice_get (numbers_in course.known.items) c ≡ slice_get (numbers_in course.known.items) d ↔ slice_get (names_in course.names.items course.known.items) c ≡ slice_get (names_in course.names.items course.known.items) d)
+numbers_are_names course t c d lc ld = (
+  λ e. name_at_place c lc ∙ ap (λ n. Some (slice_index_or names n [])) (some_is (number c lc) (number d ld) (sym (number_at_place c lc) ∙ e ∙ number_at_place d ld)) ∙ sym (name_at_place d ld),
+  λ e. number_at_place c lc ∙ same_place (number c lc) (number d ld) (slice_index_or names (number d ld) []) (name_at names (number c lc) (t.numbers c (number c lc) (number_at_place c lc)) ∙ sym (name_at_place c lc) ∙ e ∙ name_at_place d ld)
+      (name_at names (number d ld) (t.numbers d (number d ld) (number_at_place d ld))) ∙ sym (number_at_place d ld),
 )
   where
-    c_known : Known
-    c_known = (get_there known c lc).0
+    names : List (List ℕ)
+    names = course.names.items
 
-    d_known : Known
-    d_known = (get_there known d ld).0
+    number : (i : ℕ) → i < length course.known.items → ℕ
+    number i lt = (get_there course.known.items i lt).0.branch
 
-    number_c : slice_get (numbers_in known) c ≡ Some c_known.branch
-    number_c = get_map (λ (x : Known). x.branch) known c c_known (get_there known c lc).1
+    number_at_place : (i : ℕ) (lt : i < length course.known.items) → slice_get (numbers_in course.known.items) i ≡ Some (number i lt)
+    number_at_place i lt = get_map (λ (x : Known). x.branch) course.known.items i (get_there course.known.items i lt).0 (get_there course.known.items i lt).1
 
-    number_d : slice_get (numbers_in known) d ≡ Some d_known.branch
-    number_d = get_map (λ (x : Known). x.branch) known d d_known (get_there known d ld).1
+    name_at_place : (i : ℕ) (lt : i < length course.known.items) → slice_get (names_in names course.known.items) i ≡ Some (slice_index_or names (number i lt) [])
+    name_at_place i lt = get_map (λ (x : Known). slice_index_or names x.branch []) course.known.items i (get_there course.known.items i lt).0 (get_there course.known.items i lt).1
 
-    name_c : slice_get (names_in names known) c ≡ Some (slice_index_or names c_known.branch [])
-    name_c = get_map (λ (x : Known). slice_index_or names x.branch []) known c c_known (get_there known c lc).1
-
-    name_d : slice_get (names_in names known) d ≡ Some (slice_index_or names d_known.branch [])
-    name_d = get_map (λ (x : Known). slice_index_or names x.branch []) known d d_known (get_there known d ld).1
+    -- a name has one number
+    same_place : (a b : ℕ) (name : List ℕ) → slice_get names a ≡ Some name → slice_get names b ≡ Some name → Some a ≡ Some b
+    same_place a b name at also = sym (t.numbered a name at) ∙ t.numbered b name also
 
 bools_same : (a b : Bool) → (a ≡ true → b ≡ true) → (b ≡ true → a ≡ true) → a ≡ b
 bools_same true b h k = sym (h refl)
@@ -152,10 +144,18 @@ bools_same false true h k = k refl
 bools_same false false h k = refl
 
 -- the marks are those of the heads
-pub marks_are_heads : (known : List Known) (names : List (List ℕ)) (reaches : List Reach) (heads : List Bool) → Tracks known names reaches heads [] → ParentsBefore 0 (parents_in known) → (c : ℕ) → c < length known → slice_index_or heads c false ≡ is_head (parents_in known) (names_in names known) c
-marks_are_heads known names reaches heads t b c low =
-    sym (and_true (slice_index_or heads c false)) ∙ bools_same (is_open heads [] c) (is_head (parents_in known) (names_in names known) c) (λ op. test.1 (by_names ((t.exact b c).0 op))) (λ h. (t.exact b c).1 (by_numbers (test.0 h)))
+pub marks_are_heads : (course : Course) → TracksCourse course → IsLeftWithin course.reaches.items 0 0 → ParentsBefore 0 (parents_in course.known.items) → (c : ℕ) → c < length course.known.items → slice_index_or course.heads.items c false ≡ is_head (parents_in course.known.items) (names_in course.names.items course.known.items) c
+marks_are_heads course t none b c low = bools_same (slice_index_or course.heads.items c false) (is_head (parents_in known) (names_in names known) c) (λ op. test.1 (by_names (exact.0 op))) (λ h. exact.1 (by_numbers (test.0 h)))
   where
+    known : List Known
+    known = course.known.items
+
+    names : List (List ℕ)
+    names = course.names.items
+
+    exact : slice_index_or course.heads.items c false ≡ true ↔ IsHead (parents_in known) (numbers_in known) c
+    exact = marks_are_exact known course.heads.items course.reaches.items c t.reached none b low
+
     long_names : length (names_in names known) ≡ length known
     long_names = length_map (λ (x : Known). slice_index_or names x.branch []) known
 
@@ -171,23 +171,25 @@ marks_are_heads known names reaches heads t b c low =
     by_names : IsHead (parents_in known) (numbers_in known) c → IsHead (parents_in known) (names_in names known) c
     by_names h = record {
       there = let a = long_names in omega (arith, a, low);
-      last = λ other o e above. let o_low : other < length known = (let a = long_names in omega (arith, a, o)) in h.last other (let a = long_numbers in omega (arith, a, o_low)) ((numbers_are_names known names reaches heads t other c o_low low).1 e) above;
+      last = λ other o e above. let o_low : other < length known = (let a = long_names in omega (arith, a, o)) in h.last other (let a = long_numbers in omega (arith, a, o_low)) ((numbers_are_names course t other c o_low low).1 e) above;
     }
 
     by_numbers : IsHead (parents_in known) (names_in names known) c → IsHead (parents_in known) (numbers_in known) c
     by_numbers h = record {
       there = let a = long_numbers in omega (arith, a, low);
-      last = λ other o e above. let o_low : other < length known = (let a = long_numbers in omega (arith, a, o)) in h.last other (let a = long_names in omega (arith, a, o_low)) ((numbers_are_names known names reaches heads t other c o_low low).0 e) above;
+      last = λ other o e above. let o_low : other < length known = (let a = long_numbers in omega (arith, a, o)) in h.last other (let a = long_names in omega (arith, a, o_low)) ((numbers_are_names course t other c o_low low).0 e) above;
     }
 
-pub lines_are_text : (known : List Known) (names : List (List ℕ)) (reaches : List Reach) (heads : List Bool) (nodes : List (List ℕ)) → Tracks known names reaches heads [] → ParentsBefore 0 (parents_in known) →
-    head_lines (λ rev. slice_index_or heads rev false) (names_in names known) nodes ≡ branches_text (parents_in known) (names_in names known) nodes
-lines_are_text known names reaches heads nodes t b =
-    ap (flat_map (head_line (names_in names known) nodes)) (by_branch_same (λ rev. slice_index_or heads rev false) (is_head (parents_in known) (names_in names known)) (names_in names known) [] 0 (length (names_in names known))
-    (λ c lt. marks_are_heads known names reaches heads t b c (low c lt)))
+pub lines_are_text : (course : Course) (nodes : List (List ℕ)) → TracksCourse course → IsLeftWithin course.reaches.items 0 0 → ParentsBefore 0 (parents_in course.known.items) →
+    head_lines (λ rev. slice_index_or course.heads.items rev false) (names_in course.names.items course.known.items) nodes ≡ branches_text (parents_in course.known.items) (names_in course.names.items course.known.items) nodes
+lines_are_text course nodes t none b =
+    ap (flat_map (head_line names nodes)) (by_branch_same (λ rev. slice_index_or course.heads.items rev false) (is_head (parents_in course.known.items) names) names [] 0 (length names) (λ c lt. marks_are_heads course t none b c (low c lt)))
   where
-    low : (c : ℕ) → c < 0 + length (names_in names known) → c < length known
-    low c lt = let a = length_map (λ (x : Known). slice_index_or names x.branch []) known in omega (arith, a, lt)
+    names : List (List ℕ)
+    names = names_in course.names.items course.known.items
+
+    low : (c : ℕ) → c < 0 + length names → c < length course.known.items
+    low c lt = let a = length_map (λ (x : Known). slice_index_or course.names.items x.branch []) course.known.items in omega (arith, a, lt)
 
 pub index_past : (xs : List (List ℕ)) (i : ℕ) → length xs ≤ i → slice_index_or xs i [] ≡ []
 index_past [] i le = refl

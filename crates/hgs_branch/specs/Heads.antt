@@ -21,6 +21,10 @@ goes_on parents names rev other = same (branch_at names other) (branch_at names 
 abbrev pub is_head : List Parents → List (List ℕ) → ℕ → Bool
 is_head parents names rev = not (list_any (goes_on parents names rev) (range_with_len 0 (length names)))
 
+-- whether the branch of one changeset comes before that of another
+abbrev pub comes_before : List (List ℕ) → ℕ → ℕ → Bool
+comes_before names a b = is_below (branch_at names a) (branch_at names b)
+
 -- a list of changesets by branch with one more, which stands behind those of its own branch
 abbrev pub with_head : List (List ℕ) → ℕ → List ℕ → List ℕ
 with_head names rev [] = rev ∷ []

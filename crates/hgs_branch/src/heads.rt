@@ -6,10 +6,12 @@ ghost use Rattle.hgs_branch.specs.Taken.{with_changes};
 ghost use Rattle.hgs_branch.specs.Text.{branches_text};
 
 use crate::changeset::OnBranch;
-use crate::course::{Course, add_all, forget, unmark};
+use crate::course::{Course, add_all, forget};
 use crate::print::lines_of;
+use crate::reach::spread;
 use hgs_revlog::revlog::Revlog;
 use std::alloc::{AllocError, Global};
+use std::collections::BTreeMap;
 use std::marker::Model;
 
 /// The heads of the branches of some changesets, the first ones of a history. Contracts see the parents of these and their branches.
@@ -20,16 +22,17 @@ pub struct BranchHeads {
 }
 
 impl Model for BranchHeads {
-    ghost use Rattle.std.specs.Prelude.{◌<◌, ◌^◌, [], length};
+    ghost use Rattle.std.specs.Prelude.{◌<◌, ◌^◌, length};
     ghost use Rattle.hgs_branch.specs.Kept.{names_in, TracksCourse};
     ghost use Rattle.hgs_branch.specs.Taken.{Taken};
+    ghost use Rattle.hgs_branch.specs.Reached.{IsLeftWithin};
     ghost use Rattle.hgs_branch.specs.Tracked.{parents_in};
 
     ghost Value = { Taken };
 
     ghost view = { λ h. record { parents = parents_in h.course.known.items; names = names_in h.course.names.items h.course.known.items } };
 
-    ghost invariant = { λ h. TracksCourse h.course [] × (length h.course.known.items < 2 ^ 32) };
+    ghost invariant = { λ h. TracksCourse h.course × IsLeftWithin h.course.reaches.items 0 0 × (length h.course.known.items < 2 ^ 32) };
 }
 
 impl BranchHeads {
@@ -42,8 +45,9 @@ impl BranchHeads {
             course: Course {
                 known: Vec::new(alloc),
                 names: Vec::new(alloc),
-                reaches: Vec::new(alloc),
+                numbers: BTreeMap::new(alloc),
                 heads: Vec::new(alloc),
+                reaches: Vec::new(alloc),
             },
         }
     }
@@ -64,10 +68,16 @@ impl BranchHeads {
     {
         let count = self.course.known.len();
         let branches = self.course.names.len();
-        let mut met = Vec::new(self.alloc);
-        match add_all(self.alloc, &mut self.course, &mut met, changes) {
+        match add_all(self.alloc, &mut self.course, changes) {
             Ok(()) => {
-                unmark(&mut self.course.heads, &met);
+                let course = &mut self.course;
+                spread(
+                    self.alloc,
+                    &course.known,
+                    &mut course.heads,
+                    &mut course.reaches,
+                    count,
+                );
                 Ok(())
             }
             Err(_) => {

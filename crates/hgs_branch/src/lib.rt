@@ -7,4 +7,4 @@ pub mod extras;
 pub mod heads;
 pub mod laws;
 mod print;
-mod walk;
+mod reach;

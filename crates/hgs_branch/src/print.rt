@@ -1,17 +1,20 @@
 //! The text of branch heads.
-ghost use Rattle.std.specs.Prelude.{◌≡◌, ◌<◌, ◌≤◌, ◌^◌, ◌++◌, [], false, insert, length, slice_index_or, if◌then◌else◌, IfOk, OnOk};
-ghost use Rattle.std.specs.List.{range_with_len};
+ghost use Rattle.std.specs.Prelude.{◌≡◌, ◌<◌, ◌^◌, ◌++◌, [], ◌∷◌, false, length, slice_index_or, if◌then◌else◌, IfOk, OnOk};
+ghost use Rattle.std.specs.Cmp.Lexicographic.{slice_cmp};
+ghost use Rattle.std.specs.List.{filter, range_with_len};
+ghost use Rattle.std.specs.List.Sorted.{IsStableBy};
+ghost use Rattle.std.specs.Ordering.{nat_cmp};
 ghost use Rattle.hgs_revlog.specs.Log.{nodes_of};
-ghost use Rattle.hgs_branch.specs.Heads.{branch_at, by_branch, with_head, StandByBranch};
+ghost use Rattle.hgs_branch.specs.Heads.{branch_at, by_branch, comes_before, StandByBranch};
 ghost use Rattle.hgs_branch.specs.Kept.{names_in};
 ghost use Rattle.hgs_branch.specs.Text.{head_line, head_lines, node_text};
 
 use crate::course::Course;
-use hgs_bytes::parts::below;
 use hgs_index::texts::hex_of;
 use hgs_revlog::revlog::Revlog;
 use itoa::Buffer;
 use std::alloc::{AllocError, Global};
+use std::cmp::Ordering;
 
 fn branch_of(course: &Course, rev: u32) -> &[u8]
     ensures { result.now ≡ branch_at (names_in course.now.names.items course.now.known.items) rev }
@@ -25,24 +28,18 @@ fn branch_of(course: &Course, rev: u32) -> &[u8]
     }
 }
 
-// The place among the heads, which stand by branch, behind those whose branch does not come after that of the new one.
-fn place_for(course: &Course, heads: &[u32], rev: u32) -> usize
-    requires { StandByBranch (names_in course.now.names.items course.now.known.items) heads.now }
-    ensures low { result ≤ length heads.now }
-    ensures place { insert heads.now result rev ≡ with_head (names_in course.now.names.items course.now.known.items) rev heads.now }
+fn by_name(course: &Course, a: u32, b: u32) -> Ordering
+    ensures { result ≡ slice_cmp nat_cmp (branch_at (names_in course.now.names.items course.now.known.items) a) (branch_at (names_in course.now.names.items course.now.known.items) b) }
 {
-    let branch = branch_of(course, rev);
-    let mut low = 0;
-    let mut high = heads.len();
-    while low < high {
-        let middle = low + (high - low) / 2;
-        if below(branch, branch_of(course, heads[middle])) {
-            high = middle;
-        } else {
-            low = middle + 1;
-        }
-    }
-    low
+    branch_of(course, a).cmp(branch_of(course, b))
+}
+
+// Sorts changesets by branch; those of one branch stay in their order.
+fn sort_by_branch(course: &Course, revs: &mut Vec<u32>) -> Result<(), AllocError>
+    ensures sorted { OnOk result (StandByBranch (names_in course.now.names.items course.now.known.items) revs.new.items) }
+    ensures stable { IsStableBy (comes_before (names_in course.now.names.items course.now.known.items)) revs.old.items revs.new.items }
+{
+    revs.sort_by(|a, b| by_name(course, *a, *b))
 }
 
 fn is_head(course: &Course, rev: u32) -> bool
@@ -54,16 +51,26 @@ fn is_head(course: &Course, rev: u32) -> bool
     }
 }
 
-// Adds a changeset at its place among the heads, if it is one.
+// Adds a changeset, if it is a head.
 fn add_head(course: &Course, heads: &mut Vec<u32>, rev: u32) -> Result<(), AllocError>
-    requires { StandByBranch (names_in course.now.names.items course.now.known.items) heads.old.items }
-    ensures { OnOk result (heads.new.items ≡ (if slice_index_or course.now.heads.items rev false then with_head (names_in course.now.names.items course.now.known.items) rev heads.old.items else heads.old.items)) }
+    ensures { OnOk result (heads.new.items ≡ heads.old.items ++ (if slice_index_or course.now.heads.items rev false then rev ∷ [] else [])) }
 {
     if is_head(course, rev) {
-        let place = place_for(course, heads, rev);
-        heads.insert(place, rev)?;
+        heads.push(rev)?;
     }
     Ok(())
+}
+
+// The heads, in the order of revisions.
+fn all_heads(alloc: Global, course: &Course) -> Result<Vec<u32>, AllocError>
+    requires { length course.now.known.items < 2 ^ 32 }
+    ensures { IfOk result (λ heads. heads.items ≡ filter (λ rev. slice_index_or course.now.heads.items rev false) (range_with_len 0 (length course.now.known.items))) }
+{
+    let mut heads = Vec::new(alloc);
+    for rev in 0..course.known.len() as u32 {
+        add_head(course, &mut heads, rev)?;
+    }
+    Ok(heads)
 }
 
 // The heads by branch, then by revision.
@@ -71,10 +78,8 @@ fn in_order(alloc: Global, course: &Course) -> Result<Vec<u32>, AllocError>
     requires { length course.now.known.items < 2 ^ 32 }
     ensures { IfOk result (λ heads. heads.items ≡ by_branch (λ rev. slice_index_or course.now.heads.items rev false) (names_in course.now.names.items course.now.known.items) [] (range_with_len 0 (length course.now.known.items))) }
 {
-    let mut heads = Vec::new(alloc);
-    for rev in 0..course.known.len() as u32 {
-        add_head(course, &mut heads, rev)?;
-    }
+    let mut heads = all_heads(alloc, course)?;
+    sort_by_branch(course, &mut heads)?;
     Ok(heads)
 }
 

@@ -1,0 +1,4 @@
+//! The heads of branches beside writers.
+#![tactic(auto)]
+
+pub mod laws;
