@@ -4,6 +4,7 @@ pub mod ClashLemmas
 pub mod FileLemmas
 pub mod FollowLemmas
 pub mod FoundLemmas
+pub mod KnownLemmas
 pub mod OrderLemmas
 pub mod PartLemmas
 pub mod PushLemmas

@@ -5,6 +5,7 @@ pub mod Walk
 pub mod Obstacles
 pub mod Texts
 pub mod Files
+pub mod Known
 pub mod Tree
 pub mod NewTree
 pub mod Trees

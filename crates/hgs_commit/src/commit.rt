@@ -23,6 +23,7 @@ ghost use Rattle.hgs_commit.specs.Pushed.{AppendsTo, IsNewText, Pushes};
 ghost use Rattle.hgs_commit.specs.OfCommit.{ArePartsOfCommit};
 ghost use Rattle.hgs_commit.specs.Fault.{HasCause};
 ghost use Rattle.hgs_commit.specs.Files.{can_follow};
+ghost use Rattle.hgs_commit.specs.Known.{KnowsAt};
 ghost use Rattle.hgs_commit.specs.Tree.{ClashIn};
 ghost use Rattle.hgs_commit.specs.Trees.{all_files_in};
 ghost use Rattle.hgs_index.specs.Manifest.{AreRows};
@@ -32,6 +33,7 @@ use crate::changeset::{new_changeset, new_manifest};
 use crate::fault::CommitFault;
 use crate::file::add_files;
 use crate::hindrance::Hindrances;
+use crate::known::Known;
 use crate::laws::files_follow;
 use crate::new_text::NewText;
 use crate::parents::manifest_parents;
@@ -258,24 +260,27 @@ fn meet_long_list(loaded: &Loaded, more: usize, met: &mut Hindrances)
 }
 
 // The tree of the commit on these files of its parents, and its manifests' parents.
-fn grown_tree<R: Reads>(
+fn grown_tree<'a, R: Reads>(
     alloc: Global,
     files: &mut R,
     loaded: &Loaded,
-    change: &NewChange,
+    change: &'a NewChange,
     first: &ParentManifest,
     second: &ParentManifest,
+    known: &mut Known<'a>,
     met: &mut Hindrances,
 ) -> Result<(Grown, (Option<u32>, Option<u32>)), ReadAnswer>
     requires changelog { AreEntries loaded.now.changelog.entries }
     requires first { IfSome first.now.rev (λ r. r < length loaded.now.manifest.entries) }
     requires second { IfSome second.now.rev (λ r. r < length loaded.now.manifest.entries) }
     requires rows { AtRest R.alone (R.seen files.old) (R.start files.old) (λ t. AreRows first.now.rows × AreRows second.now.rows) }
+    requires known { KnowsAt R.alone (R.seen files.old) (R.start files.old) known.old }
     requires few { length change.now.files ≤ 20000 }
     requires order { can_follow [] change.now.files ≡ true }
     requires ascend { ascends (new_paths change.now.files) ≡ true }
     ensures found { Finds (λ x. ((view_grown x.0, x.1), met_of met.new)) R.alone (R.seen files.new) (R.start files.new) (λ t. noting (met_of met.old) (grown_on loaded.now change.now (view_parent first.now) (view_parent second.now) t)) result }
     ensures clash { OnOk result (AtRest R.alone (R.seen files.new) (R.start files.new) (λ t. ClashIn (listing loaded.now.fncache) (all_files_in (listing loaded.now.fncache) (length loaded.now.changelog.entries) first.now.rows second.now.rows change.now.files t) met.old.clash met.new.clash)) }
+    ensures known { OnOk result (KnowsAt R.alone (R.seen files.new) (R.start files.new) known.new) }
     ensures few { IfOk result (λ x. length x.0.growth.items ≤ 40000) }
     ensures beside { IfOk result (λ x. list_all is_beside x.0.growth.items ≡ true) }
     ensures first { IfOk result (λ x. IfSome x.1.0 (λ r. r < length loaded.now.manifest.entries)) }
@@ -295,6 +300,7 @@ fn grown_tree<R: Reads>(
         &first.rows,
         change.files.as_slice(),
         &mut tree,
+        known,
         met,
     ) {
         Ok(()) => {}
@@ -433,13 +439,15 @@ fn planned_step(
 }
 
 // The step of a commit on these parents.
-fn step_on<R: Reads>(
+fn step_on<'a, R: Reads>(
     alloc: Global,
     files: &mut R,
     loaded: &Loaded,
-    change: &NewChange,
+    change: &'a NewChange,
     parents: (Option<u32>, Option<u32>),
+    known: &mut Known<'a>,
 ) -> Result<Step, CommitFault>
+    requires known { KnowsAt R.alone (R.seen files.old) (R.start files.old) known.old }
     requires changelog { AreEntries loaded.now.changelog.entries }
     requires manifest { AreEntries loaded.now.manifest.entries }
     requires valid { IsNewChange change.now }
@@ -447,6 +455,7 @@ fn step_on<R: Reads>(
     requires first { IfSome parents.0 (λ r. r < length loaded.now.changelog.entries) }
     requires second { IfSome parents.1 (λ r. r < length loaded.now.changelog.entries) }
     ensures found { AtRest R.alone (R.seen files.new) (R.start files.new) (λ t. StepsOn loaded.now change.now parents t result) }
+    ensures known { OnOk result (KnowsAt R.alone (R.seen files.new) (R.start files.new) known.new) }
     ensures ready { IfOk result (λ step. CanBeAssembled step.parts) }
     ensures parts { IfOk result (λ step. ArePartsOfCommit loaded.now.changelog step.parts) }
     ensures separate { OnOk result (loaded.now.changelog.inline ≡ false) }
@@ -468,7 +477,7 @@ fn step_on<R: Reads>(
     let mut met = Hindrances::none();
     meet_bookmarks(loaded, change, &mut met);
     let (grown, manifests) = match grown_tree(
-        alloc, files, loaded, change, &first, &second, &mut met,
+        alloc, files, loaded, change, &first, &second, known, &mut met,
     ) {
         Ok(grown) => grown,
         Err(refusal) => return Err(CommitFault::Unread(refusal)),
@@ -512,10 +521,37 @@ pub fn commit<R: Reads>(
     ensures refused { R.denied files.old ≤ R.denied files.new }
     ensures cause { HasCause (R.faults files.old) (R.faults files.new) result }
 {
+    let mut known = Known::none(alloc);
+    commit_knowing(alloc, files, &loaded, change, &mut known)
+}
+
+/// The same, where something is known of the files of the commit before: what is known is not read again.
+pub fn commit_knowing<'a, R: Reads>(
+    alloc: Global,
+    files: &mut R,
+    loaded: &Loaded,
+    change: &'a NewChange,
+    known: &mut Known<'a>,
+) -> Result<Step, CommitFault>
+    requires changelog { AreEntries loaded.now.changelog.entries }
+    requires manifest { AreEntries loaded.now.manifest.entries }
+    requires valid { IsNewChange change.now }
+    requires known { KnowsAt R.alone (R.seen files.old) (R.start files.old) known.old }
+    ensures found { AtRest R.alone (R.seen files.new) (R.start files.new) (λ t. Steps loaded.now change.now t result) }
+    ensures known { OnOk result (KnowsAt R.alone (R.seen files.new) (R.start files.new) known.new) }
+    ensures ready { IfOk result (λ step. CanBeAssembled step.parts) }
+    ensures parts { IfOk result (λ step. ArePartsOfCommit loaded.now.changelog step.parts) }
+    ensures separate { OnOk result (loaded.now.changelog.inline ≡ false) }
+    ensures same_start { R.start files.new ≡ R.start files.old }
+    ensures still { R.alone ≡ true → R.seen files.new ≡ R.seen files.old }
+    ensures later { R.faults files.old ≤ R.faults files.new }
+    ensures refused { R.denied files.old ≤ R.denied files.new }
+    ensures cause { HasCause (R.faults files.old) (R.faults files.new) result }
+{
     files_follow();
     let parents = match loaded.parents(&change.parents) {
         Ok(parents) => parents,
         Err(fault) => return Err(CommitFault::Refused(fault)),
     };
-    step_on(alloc, files, &loaded, change, parents)
+    step_on(alloc, files, loaded, change, parents, known)
 }

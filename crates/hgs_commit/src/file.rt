@@ -1,5 +1,5 @@
 //! A file of a commit: its revision in the new tree.
-ghost use Rattle.std.specs.Prelude.{◌≡◌, ◌<◌, ◌^◌, ◌++◌, [], true, length, IfOk, IfSome, OnOk, ◌≤◌, false, Ok};
+ghost use Rattle.std.specs.Prelude.{◌≡◌, ◌<◌, ◌^◌, ◌++◌, [], true, length, IfOk, IfSome, OnOk, ◌≤◌, false, Ok, Some};
 ghost use Rattle.hgs_model.specs.Step.{copy_lines};
 ghost use Rattle.hgs_load.specs.Answer.{HasFaultCause};
 ghost use Rattle.hgs_revlog.specs.Loaded.{AreEntries, parents_in};
@@ -10,10 +10,12 @@ ghost use Rattle.hgs_loading.specs.Found.{Finds, and_then};
 ghost use Rattle.hgs_model.specs.History.{first_of};
 ghost use Rattle.hgs_load.specs.Answer.{is_of_outside, NeverFaults};
 ghost use Rattle.hgs_path.specs.Fncache.{listing, IsClash};
-ghost use Rattle.hgs_commit.specs.Files.{can_follow, changed_in, file_in, file_on, formed, fresh_text, kept_file, new_path, node_in, parents_by, place_in, source_node, standing_at, view_file, view_filelog};
+ghost use Rattle.hgs_bytes.specs.Bytes.{same};
+ghost use Rattle.hgs_commit.specs.Files.{can_follow, changed_in, file_in, file_on, formed, fresh_text, kept_at, kept_file, new_path, node_in, parents_by, place_in, source_node, standing_at, view_file, view_filelog};
+ghost use Rattle.hgs_commit.specs.Known.{AreKept, IsKept, IsReadOf, KnowsAt, is_recalled, recalled_file};
 ghost use Rattle.hgs_commit.specs.NewTree.{tree_of};
 ghost use Rattle.hgs_commit.specs.Tree.{ClashIn, adding, files_in};
-ghost use Rattle.hgs_files.specs.Tree.{after_all};
+ghost use Rattle.hgs_files.specs.Tree.{Tree, after_all};
 ghost use Rattle.hgs_commit.specs.Obstacles.{ClashBehind, either_list, met_of, noted, noting, with_all};
 ghost use Rattle.hgs_commit.specs.Walk.{told_of_found};
 
@@ -21,10 +23,12 @@ use crate::filelog::Filelog;
 use crate::filelogs::{load_filelog, revise_in};
 use crate::grow::growth_in;
 use crate::hindrance::Hindrances;
+use crate::known::{Known, KnownFile};
 use crate::parents::file_parents;
 use crate::tree::{NewTree, ParentFiles};
 use crate::tree_file::TreeFile;
 use hgs_bytes::bytes::Bytes;
+use hgs_bytes::parts::equal;
 use hgs_filelog::file_text::pack;
 use hgs_files::files::Reads;
 use hgs_files::path::StorePath;
@@ -37,6 +41,7 @@ use hgs_loading::whole::size_of;
 use hgs_manifest::manifest::Manifest;
 use hgs_model::files::NewFile;
 use hgs_path::fncache::Fncache;
+use hgs_path::name::Ext;
 use std::alloc::{AllocError, Global};
 
 // Notes a file with bytes that stands where a new filelog would be.
@@ -232,23 +237,44 @@ fn kept_file(
     })
 }
 
+// What is known of a file whose revision is kept.
+fn known_file<'a>(file: &'a NewFile, filelog: Filelog, rev: u32) -> KnownFile<'a>
+    requires stands { rev < length filelog.log.entries }
+    requires entries { AreEntries filelog.log.entries }
+    ensures { (t : Tree) → IsReadOf file.now.path (view_filelog filelog) t → kept_at (view_filelog filelog) rev file.now.body t ≡ Ok (Some rev) → IsKept t result }
+{
+    let node = filelog.log.entry(rev).node;
+    let inline = filelog.log.is_inline();
+    let Filelog { paths, log: _ } = filelog;
+    KnownFile {
+        file,
+        node,
+        inline,
+        paths,
+    }
+}
+
 // A file on these revisions of its filelog.
-fn file_on<R: Reads>(
+fn file_on<'a, R: Reads>(
     alloc: Global,
     files: &mut R,
     link: u32,
-    file: &NewFile,
+    file: &'a NewFile,
     source: &Node,
     rows: ParentFiles,
     filelog: Filelog,
     parents: (Option<u32>, Option<u32>),
+    known: &mut Known<'a>,
     met: &mut Hindrances,
 ) -> Result<TreeFile, ReadAnswer>
     requires link { link < 2 ^ 31 }
     requires entries { AreEntries filelog.log.entries }
     requires first { IfSome parents.0 (λ rev. rev < length filelog.log.entries) }
     requires second { IfSome parents.1 (λ rev. rev < length filelog.log.entries) }
+    requires read { R.alone ≡ true → IfSome (R.seen files.old) (λ log. IsReadOf file.now.path (view_filelog filelog) (after_all log (R.start files.old))) }
+    requires known { KnowsAt R.alone (R.seen files.old) (R.start files.old) known.old }
     ensures found { Finds (λ f. (view_file f, met_of met.new)) R.alone (R.seen files.new) (R.start files.new) (λ t. noting (met_of met.old) (file_on (view_filelog filelog) file.now source.now.0 (first_of (option_map told_of_found rows.first) (option_map told_of_found rows.second)) parents link t)) result }
+    ensures known { OnOk result (KnowsAt R.alone (R.seen files.new) (R.start files.new) known.new) }
     ensures clash { met.new.clash ≡ met.old.clash }
     ensures path { IfOk result (λ f. f.path ≡ file.now.path) }
     ensures same_start { R.start files.new ≡ R.start files.old }
@@ -256,24 +282,31 @@ fn file_on<R: Reads>(
     ensures cause { HasFaultCause (R.faults files.old) (R.faults files.new) (R.denied files.old) (R.denied files.new) result }
 {
     match filelog.kept(alloc, files, parents, file.body.as_slice())? {
-        Some(rev) => Ok(kept_file(alloc, file, &filelog, rows, rev)?),
+        Some(rev) => {
+            let kept = kept_file(alloc, file, &filelog, rows, rev)?;
+            known.push(known_file(file, filelog, rev))?;
+            Ok(kept)
+        }
         None => changed_file(alloc, files, link, file, source, filelog, parents, met),
     }
 }
 
-// A file of the new tree, by the node of its source, and by those with its path in the trees of the two parents.
-fn file_of<R: Reads>(
+// A file of the new tree that is not known, by the node of its source, and by those with its path in the trees of the two parents.
+fn read_file<'a, R: Reads>(
     alloc: Global,
     files: &mut R,
     fncache: &Fncache,
     link: u32,
-    file: &NewFile,
+    file: &'a NewFile,
     source: &Node,
     rows: ParentFiles,
+    known: &mut Known<'a>,
     met: &mut Hindrances,
 ) -> Result<TreeFile, ReadAnswer>
     requires link { link < 2 ^ 31 }
+    requires known { KnowsAt R.alone (R.seen files.old) (R.start files.old) known.old }
     ensures found { Finds (λ f. (view_file f, met_of met.new)) R.alone (R.seen files.new) (R.start files.new) (λ t. noting (met_of met.old) (file_in (listing fncache.now) link file.now source.now.0 (option_map told_of_found rows.first) (option_map told_of_found rows.second) t)) result }
+    ensures known { OnOk result (KnowsAt R.alone (R.seen files.new) (R.start files.new) known.new) }
     ensures clash { met.new.clash ≡ met.old.clash }
     ensures path { IfOk result (λ f. f.path ≡ file.now.path) }
     ensures same_start { R.start files.new ≡ R.start files.old }
@@ -289,8 +322,95 @@ fn file_of<R: Reads>(
         Err(refusal) => return Err(refusal),
     };
     file_on(
-        alloc, files, link, file, source, rows, filelog, parents, met,
+        alloc, files, link, file, source, rows, filelog, parents, known, met,
     )
+}
+
+// Whether what is known of a path's file tells that the revision in the tree of the one parent is kept.
+fn is_recalled(fncache: &Fncache, file: &NewFile, rows: ParentFiles, known: &KnownFile<'_>) -> bool
+    ensures { result ≡ is_recalled (listing fncache.now) file.now (option_map told_of_found rows.first) (option_map told_of_found rows.second) known.now }
+{
+    match (rows.first, rows.second) {
+        (Some((node, _)), None) => {
+            node == known.node
+                && equal(known.file.body.as_slice(), file.body.as_slice())
+                && fncache.contains(file.path.as_slice(), Ext::I)
+        }
+        (Some(_), Some(_)) | (None, _) => false,
+    }
+}
+
+// What is known of a file whose revision is kept, if that is known.
+fn recalled<'a>(
+    fncache: &Fncache,
+    file: &NewFile,
+    rows: ParentFiles,
+    known: &mut Known<'a>,
+) -> Option<KnownFile<'a>>
+    ensures kept { (t : Tree) → AreKept t known.old → AreKept t known.new × IfSome result (IsKept t) }
+    ensures path { IfSome result (λ found. same found.file.now.path file.now.path ≡ true) }
+    ensures recalled { IfSome result (λ found. is_recalled (listing fncache.now) file.now (option_map told_of_found rows.first) (option_map told_of_found rows.second) found ≡ true) }
+{
+    let found = known.next(file.path.as_slice())?;
+    if is_recalled(fncache, file, rows, &found) {
+        Some(found)
+    } else {
+        None
+    }
+}
+
+// A file whose revision is kept, which has this node.
+fn recalled_file(
+    alloc: Global,
+    file: &NewFile,
+    rows: ParentFiles,
+    node: Node,
+    inline: bool,
+) -> Result<TreeFile, AllocError>
+    ensures file { IfOk result (λ f. view_file f ≡ recalled_file file.now (first_of (option_map told_of_found rows.first) (option_map told_of_found rows.second)) node.0 inline) }
+    ensures path { IfOk result (λ f. f.path ≡ file.now.path) }
+{
+    Ok(TreeFile {
+        path: file.path.copy(alloc)?,
+        node,
+        flag: file.flag,
+        changed: rows.has_other_flag(file.flag),
+        growth: None,
+        listed: false,
+        inline,
+    })
+}
+
+// A file of the new tree, by what is known of it, by the node of its source, and by those with its path in the trees of the two parents.
+fn file_of<'a, R: Reads>(
+    alloc: Global,
+    files: &mut R,
+    fncache: &Fncache,
+    link: u32,
+    file: &'a NewFile,
+    source: &Node,
+    rows: ParentFiles,
+    known: &mut Known<'a>,
+    met: &mut Hindrances,
+) -> Result<TreeFile, ReadAnswer>
+    requires link { link < 2 ^ 31 }
+    requires known { KnowsAt R.alone (R.seen files.old) (R.start files.old) known.old }
+    ensures found { Finds (λ f. (view_file f, met_of met.new)) R.alone (R.seen files.new) (R.start files.new) (λ t. noting (met_of met.old) (file_in (listing fncache.now) link file.now source.now.0 (option_map told_of_found rows.first) (option_map told_of_found rows.second) t)) result }
+    ensures known { OnOk result (KnowsAt R.alone (R.seen files.new) (R.start files.new) known.new) }
+    ensures clash { met.new.clash ≡ met.old.clash }
+    ensures path { IfOk result (λ f. f.path ≡ file.now.path) }
+    ensures same_start { R.start files.new ≡ R.start files.old }
+    ensures still { R.alone ≡ true → R.seen files.new ≡ R.seen files.old }
+    ensures cause { HasFaultCause (R.faults files.old) (R.faults files.new) (R.denied files.old) (R.denied files.new) result }
+{
+    match recalled(fncache, file, rows, known) {
+        Some(found) => {
+            let kept = recalled_file(alloc, file, rows, found.node, found.inline)?;
+            known.push(found)?;
+            Ok(kept)
+        }
+        None => read_file(alloc, files, fncache, link, file, source, rows, known, met),
+    }
 }
 
 // Another path of one of these lists that has the same store name for one of its two files.
@@ -329,24 +449,27 @@ fn with_new(
     new_paths.with_path(path)
 }
 
-/// Adds all files of a commit to the tree, each after what is read of its filelog. The sources of copies are among the rows of
+/// Adds all files of a commit to the tree, each after what is known or read of its filelog. The sources of copies are among the rows of
 /// the first parent.
-pub fn add_files<R: Reads>(
+pub fn add_files<'a, R: Reads>(
     alloc: Global,
     files: &mut R,
     fncache: &Fncache,
     link: u32,
     sources: &Manifest,
-    new_files: &[NewFile],
+    new_files: &'a [NewFile],
     tree: &mut NewTree<'_>,
+    known: &mut Known<'a>,
     met: &mut Hindrances,
 ) -> Result<(), ReadAnswer>
     requires link { link < 2 ^ 31 }
+    requires known { KnowsAt R.alone (R.seen files.old) (R.start files.old) known.old }
     requires empty { tree.old.rows ≡ [] }
     requires few { length new_files.now ≤ 20000 }
     requires order { can_follow [] new_files.now ≡ true }
     ensures found { Finds (λ _. (tree_of tree.new, met_of met.new)) R.alone (R.seen files.new) (R.start files.new) (λ t. adding (tree_of tree.old) (met_of met.old) (files_in (listing fncache.now) link sources.now new_files.now tree.old.first tree.old.second t)) result }
     ensures clash { OnOk result (R.alone ≡ true → IfSome (R.seen files.new) (λ log. ClashIn (listing fncache.now) (files_in (listing fncache.now) link sources.now new_files.now tree.old.first tree.old.second (after_all log (R.start files.new))) met.old.clash met.new.clash)) }
+    ensures known { OnOk result (KnowsAt R.alone (R.seen files.new) (R.start files.new) known.new) }
     ensures count { OnOk result (length tree.new.rows ≡ length new_files.now) }
     ensures same_start { R.start files.new ≡ R.start files.old }
     ensures still { R.alone ≡ true → R.seen files.new ≡ R.seen files.old }
@@ -358,7 +481,7 @@ pub fn add_files<R: Reads>(
         let path = file.path.as_slice();
         let rows = tree.parent_files(path)?;
         let source = source_node(file, sources);
-        let added = match file_of(alloc, files, fncache, link, file, &source, rows, met) {
+        let added = match file_of(alloc, files, fncache, link, file, &source, rows, known, met) {
             Ok(added) => added,
             Err(refusal) => return Err(refusal),
         };

@@ -13,6 +13,7 @@ pub mod grow;
 pub mod growth;
 pub mod hindrance;
 pub mod hindrance_kind;
+pub mod known;
 pub mod laws;
 pub mod new_text;
 pub mod parents;

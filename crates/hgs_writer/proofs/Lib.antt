@@ -1,5 +1,6 @@
 pub mod LengthLemmas
 pub mod LoadedLemmas
+pub mod KnownLemmas
 pub mod PlanLemmas
 pub mod SoundLemmas
 pub mod ImportSoundLemmas

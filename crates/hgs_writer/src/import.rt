@@ -2,6 +2,7 @@
 ghost use Rattle.std.specs.Prelude.{◌≡◌, ◌≤◌, true, flat_map, length, map, IfOk, OnOk};
 ghost use Rattle.hgs_commit.specs.Commit.{AtRest};
 ghost use Rattle.hgs_commit.specs.Fault.{HasCause};
+ghost use Rattle.hgs_commit.specs.Known.{AreKept, AreUntouched};
 ghost use Rattle.hgs_files.specs.Tree.{Tree, after_all};
 ghost use Rattle.hgs_machine.specs.Sound.{AreSound};
 ghost use Rattle.hgs_model.specs.Valid.{AreNewChanges, IsNewChange};
@@ -19,8 +20,9 @@ use crate::laws::stores_are_loaded;
 use crate::loaded::loaded_of;
 use core::mem::replace_with;
 use hgs_bytes::bytes::Bytes;
-use hgs_commit::commit::commit;
+use hgs_commit::commit::commit_knowing;
 use hgs_commit::fault::CommitFault;
+use hgs_commit::known::Known;
 use hgs_files::files::Reads;
 use hgs_index::node::Node;
 use hgs_journal::names::path_of;
@@ -29,10 +31,11 @@ use hgs_model::command::{NewChange, Refusal};
 use hgs_overlay::laws::{layers_cover_files, operations_tell_layers};
 use hgs_overlay::layers::Layers;
 use hgs_overlay::overlay::{Beneath, Overlay};
+use hgs_path::laws::filelogs_have_their_own_names;
 use hgs_steps::fault::PlanFault;
 use hgs_steps::loaded::{Loaded, Standing};
 use hgs_steps::step::Step;
-use hgs_transaction::parts::{Appending, Change, Parts, Replacing};
+use hgs_transaction::parts::{Appending, Change, Changes, Parts, Replacing};
 use std::alloc::{AllocError, Global};
 use std::marker::Brand;
 
@@ -146,27 +149,51 @@ fn lay_all<B: Beneath, R: Reads>(
     lay_texts(alloc, overlay, after.into_vec())
 }
 
+// Forgets what is known of the files that the parts of a commit append to.
+fn turned(known: &mut Known<'_>, parts: Parts) -> Result<Parts, AllocError>
+    ensures same { IfOk result (λ same. same ≡ parts) }
+    ensures known { OnOk result ((t : Tree) → AreKept t known.old → AreUntouched t parts.before known.new) }
+{
+    let Parts {
+        before,
+        publishing,
+        after,
+    } = parts;
+    let changes = before.into_vec();
+    known.turn(&changes)?;
+    Ok(Parts {
+        before: Changes::from_vec(changes),
+        publishing,
+        after,
+    })
+}
+
 // Plans a record, and lays what it comes to over the files.
-fn record<B: Beneath, R: Reads>(
+fn record<'a, B: Beneath, R: Reads>(
     alloc: Global,
     overlay: &mut Overlay<B, R>,
     loaded: Loaded,
-    change: &NewChange,
+    change: &'a NewChange,
+    known: &mut Known<'a>,
 ) -> Result<Last, CommitFault>
     requires changelog { AreEntries loaded.changelog.entries }
     requires manifest { AreEntries loaded.manifest.entries }
     requires valid { IsNewChange change.now }
+    requires known { AtRest R.alone (R.seen overlay.old.files) (R.start overlay.old.files) (λ t. AreKept (after_all (laid_ops overlay.old.layers) t) known.old) }
     ensures comes { AtRest R.alone (R.seen overlay.new.files) (R.start overlay.new.files) (λ t. LaysRecord (after_all (laid_ops overlay.old.layers) t) loaded change.now overlay.old.layers overlay.new.layers result) }
+    ensures known { OnOk result (AtRest R.alone (R.seen overlay.new.files) (R.start overlay.new.files) (λ t. AreKept (after_all (laid_ops overlay.new.layers) t) known.new)) }
     ensures same_start { R.start overlay.new.files ≡ R.start overlay.old.files }
     ensures still { R.alone ≡ true → R.seen overlay.new.files ≡ R.seen overlay.old.files }
     ensures later { R.faults overlay.old.files ≤ R.faults overlay.new.files }
     ensures cause { HasCause (R.faults overlay.old.files) (R.faults overlay.new.files) result }
 {
+    filelogs_have_their_own_names();
     operations_tell_layers();
-    let Step { parts, rev, node } = match commit(alloc, overlay, loaded, change) {
+    let Step { parts, rev, node } = match commit_knowing(alloc, overlay, &loaded, change, known) {
         Ok(step) => step,
         Err(fault) => return Err(fault),
     };
+    let parts = turned(known, parts)?;
     match lay_all(alloc, overlay, parts) {
         Ok(()) => Ok(Last { rev, node }),
         Err(_) => Err(CommitFault::Refused(PlanFault::Memory)),
@@ -174,13 +201,16 @@ fn record<B: Beneath, R: Reads>(
 }
 
 // Plans a record of what is loaded for it, and lays what it comes to over the files.
-fn next_record<B: Beneath, R: Reads>(
+fn next_record<'a, B: Beneath, R: Reads>(
     alloc: Global,
     overlay: &mut Overlay<B, R>,
-    change: &NewChange,
+    change: &'a NewChange,
+    known: &mut Known<'a>,
 ) -> Result<Last, CommitFault>
     requires valid { IsNewChange change.now }
+    requires known { AtRest R.alone (R.seen overlay.old.files) (R.start overlay.old.files) (λ t. AreKept (after_all (laid_ops overlay.old.layers) t) known.old) }
     ensures comes { AtRest R.alone (R.seen overlay.new.files) (R.start overlay.new.files) (λ t. LaysNext (after_all (laid_ops overlay.old.layers) t) change.now overlay.old.layers overlay.new.layers result) }
+    ensures known { OnOk result (AtRest R.alone (R.seen overlay.new.files) (R.start overlay.new.files) (λ t. AreKept (after_all (laid_ops overlay.new.layers) t) known.new)) }
     ensures same_start { R.start overlay.new.files ≡ R.start overlay.old.files }
     ensures still { R.alone ≡ true → R.seen overlay.new.files ≡ R.seen overlay.old.files }
     ensures later { R.faults overlay.old.files ≤ R.faults overlay.new.files }
@@ -192,20 +222,22 @@ fn next_record<B: Beneath, R: Reads>(
         Ok(store) => store,
         Err(refusal) => return Err(CommitFault::Unread(refusal)),
     };
-    match record(alloc, overlay, loaded_of(store), change) {
+    match record(alloc, overlay, loaded_of(store), change, known) {
         Ok(last) => Ok(last),
         Err(fault) => Err(fault),
     }
 }
 
-// Plans the records behind the first, for each of which all is loaded again.
-fn more_records<B: Beneath, R: Reads>(
+// Plans the records behind the first, for each of which the history is loaded again.
+fn more_records<'a, B: Beneath, R: Reads>(
     alloc: Global,
     overlay: &mut Overlay<B, R>,
     first: Last,
-    changes: &[NewChange],
+    changes: &'a [NewChange],
+    known: &mut Known<'a>,
 ) -> Result<Last, CommitFault>
     requires valid { AllByRecursion IsNewChange changes.now }
+    requires known { AtRest R.alone (R.seen overlay.old.files) (R.start overlay.old.files) (λ t. AreKept (after_all (laid_ops overlay.old.layers) t) known.old) }
     ensures comes { AtRest R.alone (R.seen overlay.new.files) (R.start overlay.new.files) (λ t. LaysMore (after_all (laid_ops overlay.old.layers) t) changes.now first overlay.old.layers overlay.new.layers result) }
     ensures same_start { R.start overlay.new.files ≡ R.start overlay.old.files }
     ensures still { R.alone ≡ true → R.seen overlay.new.files ≡ R.seen overlay.old.files }
@@ -215,7 +247,7 @@ fn more_records<B: Beneath, R: Reads>(
     let mut last = first;
     let mut rest = changes;
     while let Some((change, behind)) = rest.split_first() {
-        last = match next_record(alloc, overlay, change) {
+        last = match next_record(alloc, overlay, change, known) {
             Ok(last) => last,
             Err(fault) => return Err(fault),
         };
@@ -243,8 +275,9 @@ fn records<B: Beneath, R: Reads>(
     let Some((first, rest)) = changes.split_first() else {
         return Err(CommitFault::Refused(PlanFault::Refused(Refusal::NothingChanged(0))));
     };
-    match record(alloc, overlay, loaded, first) {
-        Ok(last) => more_records(alloc, overlay, last, rest),
+    let mut known = Known::none(alloc);
+    match record(alloc, overlay, loaded, first, &mut known) {
+        Ok(last) => more_records(alloc, overlay, last, rest, &mut known),
         Err(fault) => Err(fault),
     }
 }

@@ -13,6 +13,7 @@ use Rattle.hgs_commit.specs.declared.fault.CommitFault.TheVariants.{Unread, Refu
 use Rattle.hgs_commit.specs.Obstacles.{Met, met_of, noted, noting}
 use Rattle.hgs_commit.specs.Trees.{OfGrown}
 use Rattle.hgs_commit.proofs.AnswerLemmas.{alone-both, alone-one}
+use Rattle.hgs_commit.proofs.KnownLemmas.{knows-later}
 use Rattle.hgs_commit.proofs.StepLemmas.{IsGrownOn, grown-alone, start, step-found, step-orphan, step-refused, step-textless, step-unchanged, step-uncopied, step-unread}
 use Rattle.hgs_commit.proofs.WholeLemmas.{are-parents, parent-ascends}
 use Rattle.hgs_commit.proofs.commit.step_on.Goals as goal
@@ -188,3 +189,13 @@ returns-in-Ok-planned_step-clause-found g c =
     c.in-Ok-texts_of.ensures.still c.in-Ok-texts_of.ensures.same_start
     (λ t p q. step-found l change parents t a b p.0 copied x manifests m clash p.1 p.2 c.in-Ok-test_change.ensures texts new q step (subst P same c.in-Ok-planned_step.ensures.step))
     grown c.in-Ok-texts_of.ensures.found
+
+pub grown_tree-requires-clause-known : goal.grown_tree-requires-clause-known
+grown_tree-requires-clause-known g c =
+    knows-later g.R.Reads.alone (g.R.Reads.seen c.args.files.now) (g.R.Reads.seen c.both_parents.new.files) (g.R.Reads.start c.args.files.now) (g.R.Reads.start c.both_parents.new.files) c.args.known.now
+    c.in-Ok.ensures.still c.in-Ok.ensures.same_start c.requires.known
+
+pub returns-in-Ok-planned_step-clause-known : goal.returns-in-Ok-planned_step-clause-known
+returns-in-Ok-planned_step-clause-known g c =
+    knows-later g.R.Reads.alone (g.R.Reads.seen c.grown_tree.new.files) (g.R.Reads.seen c.texts_of.new.files) (g.R.Reads.start c.grown_tree.new.files) (g.R.Reads.start c.texts_of.new.files) c.grown_tree.new.known
+    c.in-Ok-texts_of.ensures.still c.in-Ok-texts_of.ensures.same_start c.in-Ok-grown_tree.ensures.known

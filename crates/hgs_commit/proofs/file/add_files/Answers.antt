@@ -36,6 +36,7 @@ loop-file-init g c =
           alone-free g.R.Reads.alone (g.R.Reads.seen c.args.files.now) (g.R.Reads.start c.args.files.now)
           (λ t. (clash : Option (List ℕ)) → ClashIn (either_list lists (listing c.empty-new_paths.result)) (files_in lists link sources files tree.first tree.second t) c.args.met.now.clash clash → ClashIn lists (files_in lists link sources files tree.first tree.second t) c.args.met.now.clash clash)
           (λ t clash h. (let P : (List ℕ → Ext → Bool) → Type 0 = λ l. ClashIn l (files_in lists link sources files tree.first tree.second t) c.args.met.now.clash clash in subst P listed h));
+      known = c.requires.known;
       order = ap (λ l. can_follow (last_path l) files) c.requires.empty ∙ c.requires.order;
       count = ap (λ l. length l + length files) c.requires.empty ∙ start;
       few = c.requires.few;
@@ -105,6 +106,7 @@ loop-file-preserved g c =
           subst P (sym split) (next-clash lists link sources file behind tree first second t is_first is_second base after x m (met_of c.file_of.new.met) tree_next path is (ap (λ s. noting m (file_in lists link file s first second t)) (sym source_is) ∙ q) entered c.loop-file.met.clash c.with_new.new.met.clash clash told k)
           ))
           i.clash c.in-Ok.ensures.found;
+      known = c.in-Ok.ensures.known;
       order = next_order c.parent_files.new.self.rows c.add.new.self.rows r c.in-Some.file.now c.loop-file.rest.now c.in-Some.behind.now split c.in-Ok.ensures.path grown (ap (λ q. can_follow (last_path q) c.loop-file.rest.now) rows ∙ i.order);
       count = next_count c.parent_files.new.self.rows c.add.new.self.rows r c.in-Some.file.now c.loop-file.rest.now c.in-Some.behind.now (length c.args.new_files.now) split grown (ap (λ q. length q + length c.loop-file.rest.now) rows ∙ i.count);
       few = i.few;

@@ -1,43 +1,37 @@
-use Rattle.std.proofs.Common.{◌≡◌, Ok, Err, sym, ◌∙◌, ap, subst}
-use Rattle.std.specs.Prelude.{⊤}
-use Rattle.std.specs.Bool.{MatchBool}
+use Rattle.std.proofs.Common.{◌≡◌, Ok}
 use Rattle.std.specs.Option.{option_map}
 use Rattle.hgs_path.specs.Fncache.{listing}
-use Rattle.hgs_load.specs.Answer.{is_of_outside}
-use Rattle.hgs_commit.specs.Files.{file_in, filelog_in, view_filelog}
+use Rattle.hgs_commit.specs.Files.{OfFile, file_in, view_file}
+use Rattle.hgs_commit.specs.Known.{AreKept}
 use Rattle.hgs_commit.specs.Obstacles.{met_of, noting}
 use Rattle.hgs_commit.specs.Walk.{told_of_found}
-use Rattle.hgs_commit.proofs.AnswerLemmas.{alone-one}
-use Rattle.hgs_commit.proofs.FoundLemmas.{in-orphan, in-unread}
+use Rattle.hgs_commit.proofs.KnownLemmas.{knows-more, recalled-found}
 use Rattle.hgs_commit.proofs.file.file_of.Goals as goal
 
-pub returns-in-Err-clause-found : goal.returns-in-Err-clause-found
-returns-in-Err-clause-found g c =
+pub returns-in_ok-push-in-Some-clause-found : goal.returns-in_ok-push-in-Some-clause-found
+returns-in_ok-push-in-Some-clause-found g c =
     let lists = listing c.args.fncache.now in
     let file = c.args.file.now in
     let source = c.args.source.now.0 in
     let first = option_map told_of_found c.args.rows.first in
     let second = option_map told_of_found c.args.rows.second in
-    let e = c.in-Err.refusal in
     let m = met_of c.args.met.now in
-    alone-one g.R.Reads.alone (g.R.Reads.seen c.load_filelog.new.files) (g.R.Reads.start c.load_filelog.new.files)
-    (λ t. MatchBool (is_of_outside e) ⊤ (filelog_in lists c.as_slice.result.now t ≡ Err e))
-    (λ t. MatchBool (is_of_outside e) ⊤ (noting m (file_in lists c.args.link file source first second t) ≡ Err e))
-    (λ t h. in-unread lists c.args.link file source first second t m e (subst (λ p. MatchBool (is_of_outside e) ⊤ (filelog_in lists p t ≡ Err e)) c.as_slice.ensures h))
-    c.in-Err.ensures.found
+    let x : OfFile = view_file c.in_ok-kept-in-Some.kept in
+    knows-more g.R.Reads.alone (g.R.Reads.seen c.args.files.now) (g.R.Reads.start c.args.files.now) c.args.known.now
+    (λ t. noting m (file_in lists c.args.link file source first second t) ≡ Ok (x, m))
+    (λ t h. recalled-found lists c.args.link file source first second t c.in-Some.found (c.in-Some.ensures.kept t h).1 c.in-Some.ensures.recalled c.in-Some.ensures.path x m c.in_ok-kept-in-Some.ensures.file)
+    c.requires.known
 
-pub returns-in-Err-parents_by-clause-found : goal.returns-in-Err-parents_by-clause-found
-returns-in-Err-parents_by-clause-found g c =
-    let lists = listing c.args.fncache.now in
-    let file = c.args.file.now in
-    let source = c.args.source.now.0 in
-    let first = option_map told_of_found c.args.rows.first in
-    let second = option_map told_of_found c.args.rows.second in
-    let f = view_filelog c.in-Ok.filelog in
-    let e = c.in-Err-parents_by.refusal in
-    let m = met_of c.args.met.now in
-    alone-one g.R.Reads.alone (g.R.Reads.seen c.load_filelog.new.files) (g.R.Reads.start c.load_filelog.new.files)
-    (λ t. filelog_in lists c.as_slice.result.now t ≡ Ok f)
-    (λ t. MatchBool (is_of_outside e) ⊤ (noting m (file_in lists c.args.link file source first second t) ≡ Err e))
-    (λ t is. in-orphan lists c.args.link file source first second t f (ap (λ p. filelog_in lists p t) (sym c.as_slice.ensures) ∙ is) m e c.in-Err-parents_by.ensures.parents)
-    c.in-Ok.ensures.found
+pub returns-in_ok-push-in-Some-clause-known : goal.returns-in_ok-push-in-Some-clause-known
+returns-in_ok-push-in-Some-clause-known g c =
+    knows-more g.R.Reads.alone (g.R.Reads.seen c.args.files.now) (g.R.Reads.start c.args.files.now) c.args.known.now
+    (λ t. AreKept t c.push.new.self)
+    (λ t h. let kept = c.in-Some.ensures.kept t h in c.in_ok-push-in-Some.ensures t kept.0 kept.1)
+    c.requires.known
+
+pub read_file-requires-clause-known : goal.read_file-requires-clause-known
+read_file-requires-clause-known g c =
+    knows-more g.R.Reads.alone (g.R.Reads.seen c.args.files.now) (g.R.Reads.start c.args.files.now) c.args.known.now
+    (λ t. AreKept t c.recalled.new.known)
+    (λ t h. (c.recalled.ensures.kept t h).0)
+    c.requires.known

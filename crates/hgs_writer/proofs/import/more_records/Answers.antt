@@ -16,6 +16,7 @@ loop-change-init g c =
     record {
       valid = c.requires.valid;
       goes = always-at-rest g.R.Reads.alone (g.R.Reads.seen c.args.overlay.now.files) (g.R.Reads.start c.args.overlay.now.files) (λ t. Goes t c.args.changes.now c.args.first c.args.changes.now c.args.first old old) (λ t. goes-begin t c.args.changes.now c.args.first old);
+      known = c.requires.known;
       same_start = refl;
       still = λ alone. refl;
       later = omega arith;
@@ -39,6 +40,7 @@ loop-change-preserved g c =
           one.still one.same_start
           (λ t goes next. goes-on t c.args.changes.now c.loop-change.rest.now c.in-Some.behind.now c.in-Some.change.now c.args.first c.loop-change.last c.in-Ok.last old now new split goes next)
           i.goes one.comes;
+      known = one.known;
       same_start = one.same_start ∙ i.same_start;
       still = λ alone. one.still alone ∙ i.still alone;
       later = omega arith;

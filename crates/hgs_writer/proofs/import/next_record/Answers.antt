@@ -7,6 +7,7 @@ use Rattle.hgs_load.specs.Answer.{is_of_outside}
 use Rattle.hgs_loading.specs.Store.{loaded_in, view_store}
 use Rattle.hgs_overlay.specs.Layers.{laid_ops}
 use Rattle.hgs_writer.specs.Layered.{LaysNext, LaysRecord}
+use Rattle.hgs_writer.proofs.KnownLemmas.{known-still}
 use Rattle.hgs_writer.proofs.OverLemmas.{both-at-rest, found-over}
 use Rattle.hgs_writer.proofs.PlanLemmas.{at-rest}
 use Rattle.hgs_writer.proofs.RecordsLaid.{next-laid, next-unread}
@@ -54,3 +55,10 @@ returns-in-Err-record-clause-comes g c =
     (found-over g.R.Reads.alone (g.R.Reads.seen was.files) (g.R.Reads.seen now.files) (laid_ops was.layers) (laid_ops now.layers) (g.R.Reads.start now.files) (λ t. loaded_in t ≡ Ok read)
     (λ alone. now.same_seen alone ∙ sym (was.same_seen alone)) c.in-Ok.ensures.still c.in-Ok.ensures.found)
     c.in-Err-record.ensures.comes
+
+pub record-requires-clause-known : goal.record-requires-clause-known
+record-requires-clause-known g c =
+    let was = c.args.overlay.now in
+    let now = c.history.new.files in
+    known-still g.R.Reads.alone (g.R.Reads.seen was.files) (g.R.Reads.seen now.files) was.layers now.layers (g.R.Reads.start was.files) (g.R.Reads.start now.files) c.args.known.now
+    (λ alone. now.same_seen alone ∙ sym (was.same_seen alone)) c.in-Ok.ensures.still c.in-Ok.ensures.same_start c.requires.known

@@ -1,4 +1,5 @@
 use Rattle.std.proofs.Common.{◌≡◌, ◌∷◌, [], Ok, Err, refl, sym, ◌∙◌, ap, subst}
+use Rattle.hgs_commit.specs.Known.{AreKept}
 use Rattle.hgs_files.specs.Tree.{Tree, after_all}
 use Rattle.hgs_overlay.specs.Layers.{laid_ops}
 use Rattle.hgs_writer.specs.Layered.{LaysAll, LaysMore, LaysRecord}
@@ -7,8 +8,8 @@ use Rattle.hgs_writer.proofs.PlanLemmas.{always-at-rest, at-rest}
 use Rattle.hgs_writer.proofs.RecordsLaid.{all-laid, first-refused}
 use Rattle.hgs_writer.proofs.import.records.Goals as goal
 
-pub returns-in-Err-clause-comes : goal.returns-in-Err-clause-comes
-returns-in-Err-clause-comes g c =
+pub returns-clause-comes : goal.returns-clause-comes
+returns-clause-comes g c =
     let split : c.args.changes.now ≡ c.in-Some.first.now ∷ c.in-Some.rest.now = c.in-Some.ensures.cases.0 in
     let was = c.args.overlay.now in
     let now = c.record.new.overlay in
@@ -28,3 +29,8 @@ returns-in-Ok-clause-comes g c =
     c.more_records.ensures.still c.more_records.ensures.same_start
     (λ t h k. all-laid t c.args.loaded c.args.changes.now c.in-Some.rest.now c.in-Some.first.now c.in-Ok.last was.layers now.layers last.layers c.more_records.result split h k)
     c.in-Ok.ensures.comes c.more_records.ensures.comes
+
+pub record-requires-clause-known : goal.record-requires-clause-known
+record-requires-clause-known g c =
+    let was = c.args.overlay.now in
+    always-at-rest g.R.Reads.alone (g.R.Reads.seen was.files) (g.R.Reads.start was.files) (λ t. AreKept (after_all (laid_ops was.layers) t) c.none-known.result) (λ t. c.none-known.ensures (after_all (laid_ops was.layers) t))
