@@ -26,6 +26,9 @@ import tempfile
 sys.dont_write_bytecode = True
 from checks import HERE, Checks, built_program, bytes_of, lay
 
+sys.path.insert(0, os.path.join(HERE, "..", "tools"))
+import usages  # noqa: E402
+
 LONG = "d/" * 60 + "long"
 MOST_SECONDS = 20
 QUESTIONS = [
@@ -211,6 +214,9 @@ def main():
             world.add(one)
         print("files:", ", ".join(f"{name} {count}" for name, count in sorted(world.files.items())))
         print("answers:", ", ".join(f"{what} {count}" for what, count in sorted(world.met.items())))
+        for name, status in map(str.split, sorted(world.met)):
+            said = set().union(*(command.statuses for command in usages.commands_of_manual() if command.name == name))
+            world.check(f"{name}: the manual has no status {status}", int(status) in said)
         print(f"{world.passed} passed, {world.failed} failed")
         sys.exit(world.failed > 0)
 
