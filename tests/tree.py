@@ -14,8 +14,8 @@ import sys
 
 # `rt` sums a crate's files once for each path of crates.txt that leads down to it
 MOST_PATHS = 106_000
-# an edit costs a check, a quarter of a minute and more, and the first of a crate the crate's proof
-MOST_EDITS, MOST_OF_A_CRATE, MOST_WITH_EDITS = 165, 6, 40
+# one edit of a crate costs what its check from nothing does; of several each costs a check, and all of them one of the crate and another at the end
+MOST_EDITS, MOST_OF_A_CRATE, MOST_WITH_EDITS = 90, 5, 38
 
 top = os.path.dirname(os.path.dirname(os.path.abspath(__file__)))
 os.chdir(top)
