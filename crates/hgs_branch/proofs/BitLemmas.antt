@@ -1,16 +1,24 @@
 -- Bits of words, and what is known of a changeset by them.
-use Rattle.std.proofs.Common.{◌≡◌, ◌≢◌, ◌⊎◌, ℕ, zero, suc, max, ◌+◌, ◌*◌, ◌/◌, ◌%◌, ◌^◌, ◌<◌, ◌≤◌, Bool, true, false, not, ◌&&◌, ◌||◌, eqb, List, [], ◌∷◌, length, replicate, get_or, set, Some, None, refl, sym, ◌∙◌, ap, inl, inr, arith, length-set, get_or-set_same, get_or-set_other, eq-eqb, ne_eqb, w64}
+use Rattle.std.proofs.Common.{◌≡◌, ◌≢◌, ◌⊎◌, ℕ, zero, suc, max, min, ◌+◌, ◌*◌, ◌/◌, ◌%◌, ◌^◌, ◌<◌, ◌≤◌, Bool, true, false, not, ◌&&◌, ◌||◌, eqb, List, [], ◌∷◌, length, replicate, get_or, set, Some, None, refl, sym, ◌∙◌, ap, inl, inr, arith, length-set, get_or-set_same, get_or-set_other, eq-eqb, ne_eqb, w64, pow-suc}
 use Rattle.std.proofs.lemmas.List.{length-replicate, get_or-replicate, get_or_past}
 use Rattle.std.proofs.lemmas.Bool.{cases_eq, cases_lt}
 use Rattle.std.proofs.lemmas.Nat.{one_shl, pow_pos}
-use Rattle.std.proofs.lemmas.Nat.Bits.{bit_at-lt, bit_at-zero, bit_at_or, bit_at_set_same, bit_at_set_other, and_pow}
+use Rattle.std.proofs.lemmas.Nat.Bits.{bit_at-lt, bit_at-zero, bit_at_above, bit_at_and, bit_at_ones, bit_at_ones_above, bit_at_or, bit_at_set_same, bit_at_set_other, and_pow, ones_shr}
 use Rattle.std.specs.Int.{bit_at}
-use Rattle.std.specs.Prelude.{◌==◌, bit_and, bit_or, nat_lt, slice_get, slice_set}
+use Rattle.std.specs.Prelude.{◌==◌, ◌-◌, bit_and, bit_or, nat_lt, slice_get, slice_set}
 use Rattle.hgs_branch.specs.Reached.{bit_of, has_at, left_at, left_of, wide_at, words_of, Receives}
 use Rattle.hgs_branch.specs.declared.reach.Reach.{Reach}
-use Rattle.hgs_branch.proofs.ListLemmas.{false_is, get_set_other, get_set_same, get_low, is_lt, length_set, lt_is, none_is, not_true}
+use Rattle.hgs_branch.proofs.ListLemmas.{both_of, either_right, false_is, get_set_other, get_set_same, get_low, is_lt, length_set, lt_is, none_is, not_true}
 
 -- ---- one bit
+
+and_false : (a : Bool) → (a && false) ≡ false
+and_false true = refl
+and_false false = refl
+
+or_false : (a : Bool) → a ≡ (a || false)
+or_false true = refl
+or_false false = refl
 
 -- the test `word & bit != 0`
 pub bit_set : (word k : ℕ) → k < 64 → not (eqb (bit_and word (1 * 2 ^ k % 2 ^ 64)) 0) ≡ eqb (bit_at word k) 1
@@ -39,7 +47,7 @@ zero_word n i = elim (cases_lt i n) [
   | inr high ↦ get_or_past (replicate {A = ℕ} n 0) i 0 (let m = length-replicate {A = ℕ} n 0 in omega (arith, m, high))
 ]
 
-zero_bit : (n k : ℕ) → bit_of (replicate n 0) k ≡ false
+pub zero_bit : (n k : ℕ) → bit_of (replicate n 0) k ≡ false
 zero_bit n k = ap (λ x. eqb (bit_at x (k % 64)) 1) (zero_word n (k / 64)) ∙ ap (λ x. eqb x 1) (bit_at-zero (k % 64))
 
 -- another bit of a word, or a bit of another word
@@ -54,20 +62,108 @@ other_stays words n k v within other same =
       | inr apart ↦ ap (λ x. eqb (bit_at x (k % 64)) 1) (get_or-set_other words (n / 64) (k / 64) v 0 apart)
     ]
 
--- of words without a bit the one that is set
-pub own_bit : (words : List ℕ) (count n word k : ℕ) → words ≡ replicate count 0 → n / 64 < count → word ≡ get_or words (n / 64) 0 → bit_of (set words (n / 64) (bit_or word (1 * 2 ^ (n % 64) % 2 ^ 64))) k ≡ (k == n)
-own_bit words count n word k are lt read =
+-- the one that is set
+pub set_bit : (words : List ℕ) (n word k : ℕ) → n / 64 < length words → word ≡ get_or words (n / 64) 0 → bit_of (set words (n / 64) (bit_or word (1 * 2 ^ (n % 64) % 2 ^ 64))) k ≡ (bit_of words k || (nat_lt n (64 * length words) && k == n))
+set_bit words n word k within read =
     let low : n % 64 < 64 = omega arith in
-    let within : n / 64 < length words = (let m = ap length are ∙ length-replicate count 0 in omega (arith, m, lt)) in
-    elim (cases_eq k n) as (λ _. bit_of (set words (n / 64) (bit_or word (1 * 2 ^ (n % 64) % 2 ^ 64))) k ≡ (k == n)) [
+    let there = is_lt n (64 * length words) (omega (arith, within)) in
+    elim (cases_eq k n) as (λ _. bit_of (set words (n / 64) (bit_or word (1 * 2 ^ (n % 64) % 2 ^ 64))) k ≡ (bit_of words k || (nat_lt n (64 * length words) && k == n))) [
       | inl e ↦
           ap (λ x. bit_of (set words (n / 64) (bit_or word (1 * 2 ^ (n % 64) % 2 ^ 64))) x) e
           ∙ ap (λ x. eqb (bit_at x (n % 64)) 1) (get_or-set_same words (n / 64) (bit_or word (1 * 2 ^ (n % 64) % 2 ^ 64)) 0 within)
-          ∙ eq-eqb _ 1 (bit_at_set_same w64 word (n % 64) low) ∙ sym (eq-eqb k n e)
+          ∙ eq-eqb _ 1 (bit_at_set_same w64 word (n % 64) low)
+          ∙ sym (either_right (bit_of words k) (nat_lt n (64 * length words) && k == n) (both_of (nat_lt n (64 * length words)) (k == n) there (eq-eqb k n e)))
       | inr other ↦
           other_stays words n k (bit_or word (1 * 2 ^ (n % 64) % 2 ^ 64)) within other (λ i inside apart. bit_at_set_other w64 word (n % 64) low i apart ∙ ap (λ x. bit_at x i) read)
-          ∙ ap (λ l. bit_of l k) are ∙ zero_bit count k ∙ sym (ne_eqb k n other)
+          ∙ or_false (bit_of words k) ∙ ap (λ x. bit_of words k || x) (sym (ap (λ x. nat_lt n (64 * length words) && x) (ne_eqb k n other) ∙ and_false (nat_lt n (64 * length words))))
     ]
+
+-- there is no word for it
+pub set_none : (words : List ℕ) (n k : ℕ) → length words ≤ n / 64 → bit_of words k ≡ (bit_of words k || (nat_lt n (64 * length words) && k == n))
+set_none words n k past = or_false (bit_of words k) ∙ ap (λ x. bit_of words k || (x && k == n)) (sym (not_true (nat_lt n (64 * length words)) (λ e. let lt = lt_is n (64 * length words) e in omega (arith, lt, past))))
+
+-- ---- the lowest bits, and the highest
+
+min_one : (b : ℕ) → b < 2 → min b 1 ≡ b
+min_one b lt = omega (arith, lt)
+
+low_mask : (count : ℕ) → count ≤ 64 → 18446744073709551615 / 2 ^ (64 - count) ≡ 2 ^ count - 1
+low_mask count most = ones_shr 64 (64 - count) (omega arith) ∙ ap (λ k. 2 ^ k - 1) (back count most)
+  where
+    back : (n : ℕ) → n ≤ 64 → 64 - (64 - n) ≡ n
+    back n le = omega (arith, le)
+
+pub low_bit : (word count k : ℕ) → count ≤ 64 → k < count → bit_at (bit_and word (18446744073709551615 / 2 ^ (64 - count))) k ≡ bit_at word k
+low_bit word count k most lt =
+    ap (λ x. bit_at (bit_and word x) k) (low_mask count most) ∙ bit_at_and word (2 ^ count - 1) k ∙ ap (min (bit_at word k)) (bit_at_ones count k lt) ∙ min_one (bit_at word k) (bit_at-lt word k)
+
+pub low_above : (word count k : ℕ) → count ≤ 64 → count ≤ k → bit_at (bit_and word (18446744073709551615 / 2 ^ (64 - count))) k ≡ 0
+low_above word count k most le =
+    ap (λ x. bit_at (bit_and word x) k) (low_mask count most) ∙ bit_at_and word (2 ^ count - 1) k ∙ ap (min (bit_at word k)) (bit_at_ones_above count k le) ∙ (omega arith)
+
+pub high_above : (word top k : ℕ) → word < 2 * 2 ^ top → top < k → bit_at word k ≡ 0
+high_above word top k lt le = bit_at_above word (suc top) k (omega (arith, lt, pow-suc 2 top)) (omega (arith, le))
+
+-- no bit stands from one number on below another
+abbrev pub HasNone : List ℕ → ℕ → ℕ → Type 0
+HasNone words from below = (c : ℕ) → from ≤ c → c < below → bit_of words c ≡ false
+
+-- the lowest bits of a word, before those below which no bit stands
+pub record Part (words : List ℕ) (end place part : ℕ) : Type 0 where
+  pub some : 0 < end
+  pub place_is : place ≡ (end - 1) / 64
+  pub below : (k : ℕ) → k < end - 64 * place → bit_at part k ≡ bit_at (get_or words place 0) k
+  pub above : (k : ℕ) → end - 64 * place ≤ k → bit_at part k ≡ 0
+
+pub part_none : (words : List ℕ) (end place below : ℕ) → Part words end place 0 → HasNone words end below → HasNone words (64 * place) below
+part_none words end place below p none c le lt = elim (cases_lt c end) [
+  | inr past ↦ none c past lt
+  | inl low ↦ ap (λ x. eqb x 1) (ap (λ i. bit_at (get_or words i 0) (c % 64)) (at low) ∙ sym (p.below (c % 64) (fits low)) ∙ bit_at-zero (c % 64))
+]
+  where
+    at : c < end → c / 64 ≡ place
+    at low = let i = p.place_is in let s = p.some in omega (arith, i, s, low, le)
+
+    fits : c < end → c % 64 < end - 64 * place
+    fits low = let i = p.place_is in let s = p.some in omega (arith, i, s, low, le)
+
+pub record Top (words : List ℕ) (end place low top : ℕ) : Type 0 where
+  pub part : Part words end place low
+  pub set : bit_at low top ≡ 1
+  pub top_above : (k : ℕ) → top < k → bit_at low k ≡ 0
+  pub bound : top < 64
+
+pub top_low : (words : List ℕ) (end place part top : ℕ) → Top words end place part top → top < end - 64 * place
+top_low words end place part top t = elim (cases_lt top (end - 64 * place)) [
+  | inl low ↦ low
+  | inr past ↦ absurd (let z = sym t.set ∙ t.part.above top past in omega (arith, z))
+]
+
+pub top_set : (words : List ℕ) (end place part top : ℕ) → Top words end place part top → bit_of words (64 * place + top) ≡ true
+top_set words end place part top t =
+    ap (λ i. eqb (bit_at (get_or words i 0) ((64 * place + top) % 64)) 1) (row t.bound) ∙ ap (λ i. eqb (bit_at (get_or words place 0) i) 1) (column t.bound)
+    ∙ eq-eqb _ 1 (sym (t.part.below top (top_low words end place part top t)) ∙ t.set)
+  where
+    row : top < 64 → (64 * place + top) / 64 ≡ place
+    row b = omega (arith, b)
+
+    column : top < 64 → (64 * place + top) % 64 ≡ top
+    column b = omega (arith, b)
+
+pub top_last : (words : List ℕ) (end place below part top : ℕ) → Top words end place part top → HasNone words end below → (c : ℕ) → 64 * place + top < c → c < below → bit_of words c ≡ false
+top_last words end place below part top t none c gt lt = elim (cases_lt c end) [
+  | inr past ↦ none c past lt
+  | inl low ↦ ap (λ x. eqb x 1) (ap (λ i. bit_at (get_or words i 0) (c % 64)) (at low) ∙ sym (t.part.below (c % 64) (fits low)) ∙ t.top_above (c % 64) (higher low))
+]
+  where
+    at : c < end → c / 64 ≡ place
+    at low = let i = t.part.place_is in let s = t.part.some in omega (arith, i, s, low, gt)
+
+    fits : c < end → c % 64 < end - 64 * place
+    fits low = let i = t.part.place_is in let s = t.part.some in omega (arith, i, s, low, gt)
+
+    higher : c < end → top < c % 64
+    higher low = let i = t.part.place_is in let s = t.part.some in omega (arith, i, s, low, gt)
 
 -- ---- the bits of others
 
@@ -108,14 +204,6 @@ or_bit (suc zero) zero h k = refl
 or_bit (suc zero) (suc zero) h k = refl
 or_bit a (suc (suc b)) h k = absurd (omega (arith, k))
 or_bit (suc (suc a)) b h k = absurd (omega (arith, h))
-
-or_false : (a : Bool) → a ≡ (a || false)
-or_false true = refl
-or_false false = refl
-
-and_false : (a : Bool) → (a && false) ≡ false
-and_false true = refl
-and_false false = refl
 
 -- all that both have
 pub joined_bits : (n : ℕ) (old others new : List ℕ) → n ≤ length old → (length old ≤ n) ⊎ (length others ≤ n) → Joined n old others new → (k : ℕ) → bit_of new k ≡ (bit_of old k || (nat_lt k (64 * length old) && bit_of others k))

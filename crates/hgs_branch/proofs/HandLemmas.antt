@@ -1,9 +1,10 @@
 -- What changesets hand on to their parents.
 use Rattle.std.proofs.Common.{◌≡◌, ◌≢◌, ◌⊎◌, ◌<◌, ◌≤◌, ℕ, zero, suc, ◌+◌, ◌*◌, Bool, true, false, ◌&&◌, ◌||◌, List, [], ◌∷◌, length, Option, Some, None, refl, sym, ◌∙◌, ap, subst, inl, inr, arith}
 use Rattle.std.specs.Prelude.{◌==◌, nat_lt, slice_get, slice_index_or, slice_set, if◌then◌else◌}
+use Rattle.std.proofs.lemmas.Bool.{cases_lt}
 use Rattle.hgs_index.specs.Ancestor.{IsAncestor, itself, of_parent, IsParent}
 use Rattle.hgs_index.specs.Revision.{Parents}
-use Rattle.hgs_branch.specs.Reached.{bit_of, has_at, left_at, left_of, wide_at, words_of, Descends, Falls, Hands, IsFallen, IsHanded, IsLeftWithin, Reached, Receives}
+use Rattle.hgs_branch.specs.Reached.{bit_of, has_at, left_at, left_of, wide_at, words_of, AreMarked, Descends, Falls, Hands, IsFallen, IsHanded, IsLeftWithin, Reached, Receives}
 use Rattle.hgs_branch.specs.Tracked.{numbers_in, parents_in}
 use Rattle.hgs_branch.specs.declared.reach.Known.{Known}
 use Rattle.hgs_branch.specs.declared.reach.Reach.{Reach}
@@ -21,7 +22,7 @@ more_was true b h = false_is (sym h)
 more_was false b h = h
 
 -- nothing is handed on
-pub hands_nothing : (known : List Known) (heads : List Bool) (reaches : List Reach) (words : List ℕ) (rev : ℕ) (parent : Option ℕ) → ((c : ℕ) → parent ≡ Some c → c < rev → ⊥) → Hands known heads heads reaches reaches words rev parent rev
+pub hands_nothing : (known : List Known) (heads : List Bool) (reaches : List Reach) (words : List ℕ) (rev : ℕ) (parent : Option ℕ) → ((c : ℕ) → parent ≡ Some c → c < rev → ⊥) → Hands known heads heads reaches reaches words rev parent None
 hands_nothing known heads reaches words rev parent none = record {
   heads_count = refl;
   count = refl;
@@ -83,9 +84,9 @@ falls_when known heads dropped words place number false at is are = record {
   falls = λ other at2 bit. false_is (is ∙ ap (bit_of words) (some_is number other (sym at ∙ at2)) ∙ bit);
 }
 
-pub hands_to : (known : List Known) (heads dropped : List Bool) (reaches new : List Reach) (words : List ℕ) (rev place : ℕ) (parent : Option ℕ) (more : Bool) (low : ℕ) → parent ≡ Some place → place < rev → Falls known heads dropped words place → Receives reaches new place words more →
-    low ≡ (if more then place else rev) → Hands known heads dropped reaches new words rev parent low
-hands_to known heads dropped reaches new words rev place parent more low is lt f r low_is = record {
+pub hands_to : (known : List Known) (heads dropped : List Bool) (reaches new : List Reach) (words : List ℕ) (rev place : ℕ) (parent : Option ℕ) (more : Bool) (next : Option ℕ) → parent ≡ Some place → place < rev → Falls known heads dropped words place → Receives reaches new place words more →
+    next ≡ (if more then Some place else None) → Hands known heads dropped reaches new words rev parent next
+hands_to known heads dropped reaches new words rev place parent more next is lt f r next_is = record {
   heads_count = f.count;
   count = r.count;
   behind = λ c le. r.others c (apart c le);
@@ -113,7 +114,7 @@ hands_to known heads dropped reaches new words rev place parent more low is lt f
   left_from = λ c h. elim (true_or_false (c == place)) [
     | inl e ↦ (let same = number_same c place e in elim (either (left_at reaches place) more (sym r.left ∙ ap (left_at new) (sym same) ∙ h)) [
       | inl k ↦ inl (ap (left_at reaches) same ∙ k)
-      | inr k ↦ inr (low_here c same k, lower c same)
+      | inr k ↦ inr (next_is ∙ ap (λ b. if b then Some place else None) k ∙ ap (λ x. Some x) (sym same), lower c same)
     ])
     | inr e ↦ inl (ap left_of (sym (r.others c (not_number c place e))) ∙ h)
   ];
@@ -142,13 +143,10 @@ hands_to known heads dropped reaches new words rev place parent more low is lt f
     ap_inside : (c number : ℕ) → place ≡ c → number < 64 * wide_at reaches c → number < 64 * wide_at reaches place
     ap_inside c number e h = subst (λ x. number < 64 * wide_at reaches x) (sym e) h
 
-    low_here : (c : ℕ) → c ≡ place → more ≡ true → low ≤ c
-    low_here c e m = let k = low_is ∙ ap (λ b. if b then place else rev) m in omega (arith, e, k)
-
 -- ---- both parents
 
 -- what a changeset had was taken out, handed on to both parents, and put back
-pub record Passes (known : List Known) (heads dropped last : List Bool) (reaches out next more new : List Reach) (words : List ℕ) (rev : ℕ) (changeset : Known) (reach back : Reach) (first second : ℕ) : Type 0 where
+pub record Passes (known : List Known) (heads dropped last : List Bool) (reaches out next more new : List Reach) (words : List ℕ) (rev : ℕ) (changeset : Known) (reach back : Reach) (first second : Option ℕ) : Type 0 where
   pub there : slice_get known rev ≡ Some changeset
   pub has : slice_get reaches rev ≡ Some reach
   pub was : words ≡ reach.words.items
@@ -162,15 +160,15 @@ pub record Passes (known : List Known) (heads dropped last : List Bool) (reaches
   pub back_words : back.words.items ≡ words
   pub back_left : back.left ≡ false
 
-pub passed_wide : (known : List Known) (heads dropped last : List Bool) (reaches out next more new : List Reach) (words : List ℕ) (rev : ℕ) (changeset : Known) (reach back : Reach) (first second : ℕ) → Passes known heads dropped last reaches out next more new words rev changeset reach back first second → (c : ℕ) → wide_at new c ≡ wide_at reaches c
+pub passed_wide : (known : List Known) (heads dropped last : List Bool) (reaches out next more new : List Reach) (words : List ℕ) (rev : ℕ) (changeset : Known) (reach back : Reach) (first second : Option ℕ) → Passes known heads dropped last reaches out next more new words rev changeset reach back first second → (c : ℕ) → wide_at new c ≡ wide_at reaches c
 passed_wide known heads dropped last reaches out next more new words rev changeset reach back first second p c = elim (true_or_false (c == rev)) [
   | inl e ↦ (let same = number_same c rev e in ap (wide_at new) same ∙ ap length (ap words_of p.back_there ∙ p.back_words ∙ p.was ∙ sym (ap words_of p.has)) ∙ ap (wide_at reaches) (sym same))
   | inr e ↦ (let ne = not_number c rev e in ap (λ o. length (words_of o)) (p.put c ne) ∙ p.two.wide c ∙ p.one.wide c ∙ ap (λ o. length (words_of o)) (p.taken c ne))
 ]
 
-pub passed_on : (known : List Known) (heads dropped last : List Bool) (reaches out next more new : List Reach) (words : List ℕ) (rev : ℕ) (changeset : Known) (reach back : Reach) (first second low : ℕ) →
-    Passes known heads dropped last reaches out next more new words rev changeset reach back first second → Reached known heads reaches → IsLeftWithin reaches low (rev + 1) → Reached known last new × ((from : ℕ) → from ≤ low → from ≤ first → from ≤ second → IsLeftWithin new from rev)
-passed_on known heads dropped last reaches out next more new words rev changeset reach back first second low p r within = (
+pub passed_on : (known : List Known) (heads dropped last : List Bool) (reaches out next more new : List Reach) (words : List ℕ) (rev : ℕ) (changeset : Known) (reach back : Reach) (first second : Option ℕ) →
+    Passes known heads dropped last reaches out next more new words rev changeset reach back first second → Reached known heads reaches → ((c : ℕ) → left_at reaches c ≡ true → c < rev + 1) → Reached known last new × ((c : ℕ) → left_at new c ≡ true → (c < rev) × ((left_at reaches c ≡ true) ⊎ ((first ≡ Some c) ⊎ (second ≡ Some c))))
+passed_on known heads dropped last reaches out next more new words rev changeset reach back first second p r within = (
   record {
     heads_count = p.two.heads_count ∙ p.one.heads_count ∙ r.heads_count;
     reaches_count = p.new_count ∙ p.two.count ∙ p.one.count ∙ p.out_count ∙ r.reaches_count;
@@ -181,7 +179,7 @@ passed_on known heads dropped last reaches out next more new words rev changeset
     fallen = λ c lt h. elim (fell_from c h) [ inl k ↦ r.fallen c lt k | inr k ↦ falls_by c k.0 k.1 k.2 k.3 k.4 ];
     handed = λ c off. handed c off;
   },
-  λ low2 le le1 le2 c h. left_within low2 le le1 le2 c h,
+  λ c h. left_within c h,
 )
   where
     -- what stands at another changeset, in the end and before
@@ -285,14 +283,14 @@ passed_on known heads dropped last reaches out next more new words rev changeset
       })
     ]
 
-    left_within : (from : ℕ) → from ≤ low → from ≤ first → from ≤ second → (c : ℕ) → left_at new c ≡ true → (from ≤ c) × (c < rev)
-    left_within from le le1 le2 c h = elim (true_or_false (c == rev)) [
+    left_within : (c : ℕ) → left_at new c ≡ true → (c < rev) × ((left_at reaches c ≡ true) ⊎ ((first ≡ Some c) ⊎ (second ≡ Some c)))
+    left_within c h = elim (true_or_false (c == rev)) [
       | inl e ↦ false_is (sym (ap left_of p.back_there ∙ p.back_left) ∙ ap (left_at new) (sym (number_same c rev e)) ∙ h)
       | inr e ↦ (let ne = not_number c rev e in elim (p.two.left_from c (ap left_of (sym (at_end c ne)) ∙ h)) [
-        | inr k ↦ (let a = k.0 in omega (arith, a, le2), k.1)
+        | inr k ↦ (k.1, inr (inr k.0))
         | inl k ↦ elim (p.one.left_from c k) [
-          | inr j ↦ (let a = j.0 in omega (arith, a, le1), j.1)
-          | inl j ↦ (let w = within c (ap left_of (sym (p.taken c ne)) ∙ j) in let a = w.0 in let b = w.1 in (omega (arith, a, le), low_not c b ne))
+          | inr j ↦ (j.1, inr (inl j.0))
+          | inl j ↦ (let was = ap left_of (sym (p.taken c ne)) ∙ j in (low_not c (within c was) ne, inl was))
         ]
       ])
     ]
@@ -301,17 +299,39 @@ passed_on known heads dropped last reaches out next more new words rev changeset
         low_not x l ne = omega (arith, l, ne)
 
 -- where nothing is left at a changeset
-pub nothing_left : (known : List Known) (heads : List Bool) (reaches same : List Reach) (rev low : ℕ) → same ≡ reaches → left_at reaches rev ≡ false → Reached known heads reaches → IsLeftWithin reaches low (rev + 1) → Reached known heads same × ((from : ℕ) → from ≤ low → from ≤ rev → IsLeftWithin same from rev)
-nothing_left known heads reaches same rev low is off r within = (
-  subst (Reached known heads) (sym is) r,
-  λ from le at c h. let k = ap (λ l. left_at l c) (sym is) ∙ h in let w = within c k in let a = w.0 in let b = w.1 in (
-    omega (arith, a, le),
-    below c b (λ e. false_is (sym off ∙ ap (left_at reaches) (sym e) ∙ k)),
-  ),
-)
+pub nothing_left : (reaches : List Reach) (marks : List ℕ) (new rev : ℕ) → left_at reaches rev ≡ false → AreMarked reaches marks new (rev + 1) → AreMarked reaches marks new rev
+nothing_left reaches marks new rev off are c h = let k = are c h in let lt = k.0 in (low_not c lt (λ e. false_is (sym off ∙ ap (left_at reaches) (sym e) ∙ h)), k.1)
   where
-    below : (c : ℕ) → c < rev + 1 → c ≢ rev → c < rev
-    below c l ne = omega (arith, l, ne)
+    low_not : (x : ℕ) → x < rev + 1 → x ≢ rev → x < rev
+    low_not x l ne = omega (arith, l, ne)
+
+-- the parents that have something to hand on are marked
+pub parents_marked : (reaches new_reaches : List Reach) (marks more most : List ℕ) (new rev : ℕ) (first second : Option ℕ) → rev ≤ 64 * length marks → AreMarked reaches marks new (rev + 1) → ((c : ℕ) → left_at new_reaches c ≡ true → (c < rev) × ((left_at reaches c ≡ true) ⊎ ((first ≡ Some c) ⊎ (second ≡ Some c)))) →
+    ((c : ℕ) → bit_of marks c ≡ true → bit_of more c ≡ true) → ((c : ℕ) → first ≡ Some c → c < 64 * length marks → bit_of more c ≡ true) → ((c : ℕ) → bit_of more c ≡ true → bit_of most c ≡ true) → ((c : ℕ) → second ≡ Some c → c < 64 * length marks → bit_of most c ≡ true) → AreMarked new_reaches most new rev
+parents_marked reaches new_reaches marks more most new rev first second wide are left kept one kept2 two c h =
+    let k = left c h in let lt = k.0 in (
+      lt,
+      elim k.1 [
+        | inl was ↦ elim (are c was).1 [ inl le ↦ inl le | inr bit ↦ inr (kept2 c (kept c bit)) ]
+        | inr e ↦ inr (elim e [ inl f ↦ kept2 c (one c f (omega (arith, lt, wide))) | inr s ↦ two c s (omega (arith, lt, wide)) ])
+      ],
+    )
+
+-- nothing is left at those that are passed
+pub passed_by : (reaches : List Reach) (marks : List ℕ) (new next rev : ℕ) → ((c : ℕ) → next < c → c < rev → (c < new) × (bit_of marks c ≡ false)) → AreMarked reaches marks new rev → AreMarked reaches marks new (next + 1)
+passed_by reaches marks new next rev passed are c h = let k = are c h in (
+  elim (cases_lt c (next + 1)) [
+    | inl low ↦ low
+    | inr past ↦ (let lt = k.0 in let p = passed c (omega (arith, past)) lt in elim k.1 [ inl le ↦ (let l = p.0 in absurd (omega (arith, le, l))) | inr bit ↦ false_is (sym p.1 ∙ bit) ])
+  ],
+  k.1,
+)
+
+pub none_passed : (reaches : List Reach) (marks : List ℕ) (new rev : ℕ) → ((c : ℕ) → c < rev → (c < new) × (bit_of marks c ≡ false)) → AreMarked reaches marks new rev → IsLeftWithin reaches 0 0
+none_passed reaches marks new rev passed are c h = let k = are c h in let p = passed c k.0 in elim k.1 [ inl le ↦ (let l = p.0 in absurd (omega (arith, le, l))) | inr bit ↦ false_is (sym p.1 ∙ bit) ]
+
+pub first_marked : (reaches : List Reach) (marks : List ℕ) (new high : ℕ) → IsLeftWithin reaches new high → AreMarked reaches marks new high
+first_marked reaches marks new high w c h = let k = w c h in (k.1, inl k.0)
 
 -- no changeset has this number
 pub no_reach : (known : List Known) (heads : List Bool) (reaches : List Reach) (rev : ℕ) → length known ≤ rev → Reached known heads reaches → left_at reaches rev ≡ false

@@ -33,6 +33,10 @@ left_at reaches rev = left_of (slice_get reaches rev)
 abbrev pub IsLeftWithin : List Reach → ℕ → ℕ → Type 0
 IsLeftWithin reaches low high = (rev : ℕ) → left_at reaches rev ≡ true → (low ≤ rev) × (rev < high)
 
+-- what is left stands before a changeset, and is new or has its bit in the marks
+abbrev pub AreMarked : List Reach → List ℕ → ℕ → ℕ → Type 0
+AreMarked reaches marks new high = (rev : ℕ) → left_at reaches rev ≡ true → (rev < high) × ((new ≤ rev) ⊎ (bit_of marks rev ≡ true))
+
 -- ---- what stands
 
 -- a changeset of the branch is this one or descends from it
@@ -83,8 +87,8 @@ pub record Falls (known : List Known) (heads dropped : List Bool) (words : List 
   pub fell_from : (c : ℕ) → slice_index_or dropped c false ≡ false → (slice_index_or heads c false ≡ false) ⊎ ((place ≡ c) × (number : ℕ) × (slice_get (numbers_in known) c ≡ Some number) × (bit_of words number ≡ true))
   pub falls : (number : ℕ) → slice_get (numbers_in known) place ≡ Some number → bit_of words number ≡ true → slice_index_or dropped place false ≡ false
 
--- a parent before a changeset was given its bits, and fell where its branch is among them
-pub record Hands (known : List Known) (heads dropped : List Bool) (reaches new : List Reach) (words : List ℕ) (rev : ℕ) (parent : Option ℕ) (low : ℕ) : Type 0 where
+-- a parent before a changeset was given its bits, and fell where its branch is among them; it is the next one if it has something to hand on itself
+pub record Hands (known : List Known) (heads dropped : List Bool) (reaches new : List Reach) (words : List ℕ) (rev : ℕ) (parent next : Option ℕ) : Type 0 where
   pub heads_count : length dropped ≡ length heads
   pub count : length new ≡ length reaches
   pub behind : (c : ℕ) → rev ≤ c → slice_get new c ≡ slice_get reaches c
@@ -92,7 +96,7 @@ pub record Hands (known : List Known) (heads dropped : List Bool) (reaches new :
   pub kept : (c number : ℕ) → has_at reaches c number ≡ true → has_at new c number ≡ true
   pub from : (c number : ℕ) → has_at new c number ≡ true → (has_at reaches c number ≡ true) ⊎ ((parent ≡ Some c) × (c < rev) × (bit_of words number ≡ true))
   pub handed : (c number : ℕ) → parent ≡ Some c → c < rev → number < 64 * wide_at reaches c → bit_of words number ≡ true → has_at new c number ≡ true
-  pub left_from : (c : ℕ) → left_at new c ≡ true → (left_at reaches c ≡ true) ⊎ ((low ≤ c) × (c < rev))
+  pub left_from : (c : ℕ) → left_at new c ≡ true → (left_at reaches c ≡ true) ⊎ ((next ≡ Some c) × (c < rev))
   pub still : (c : ℕ) → left_at new c ≡ false → (left_at reaches c ≡ false) × (words_of (slice_get new c) ≡ words_of (slice_get reaches c))
   pub fell : (c : ℕ) → slice_index_or heads c false ≡ false → slice_index_or dropped c false ≡ false
   pub fell_from : (c : ℕ) → slice_index_or dropped c false ≡ false → (slice_index_or heads c false ≡ false) ⊎ ((parent ≡ Some c) × (c < rev) × (number : ℕ) × (slice_get (numbers_in known) c ≡ Some number) × (bit_of words number ≡ true))

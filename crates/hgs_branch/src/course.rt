@@ -1,8 +1,10 @@
 //! What is kept of the changesets that were taken.
-ghost use Rattle.std.specs.Prelude.{◌≡◌, ◌<◌, ◌+◌, ◌^◌, ◌↔◌, ℕ, true, length, take, slice_get, Some, IfSome, IfNone, IfOk, OnOk};
+ghost use Rattle.std.specs.Prelude.{◌≡◌, ◌<◌, ◌≤◌, ◌+◌, ◌*◌, ◌^◌, ◌↔◌, ℕ, false, true, length, take, slice_get, Some, IfSome, IfNone, IfOk, OnOk};
 ghost use Rattle.hgs_branch.specs.Kept.{Adds, AddsAll, Keeps};
+ghost use Rattle.hgs_branch.specs.Reached.{bit_of};
 ghost use Rattle.hgs_branch.specs.Tracked.{numbers_in, IsNumbered};
 
+use crate::bits::no_bits;
 use crate::changeset::OnBranch;
 use crate::reach::{Known, Reach, own};
 use hgs_bytes::bytes::Bytes;
@@ -95,12 +97,8 @@ fn add(alloc: Global, course: &mut Course, change: &OnBranch) -> Result<(), Allo
     Ok(())
 }
 
-/// Takes more changesets, one after another.
-pub(crate) fn add_all(
-    alloc: Global,
-    course: &mut Course,
-    changes: &[OnBranch],
-) -> Result<(), AllocError>
+// Takes more changesets, one after another.
+fn add_all(alloc: Global, course: &mut Course, changes: &[OnBranch]) -> Result<(), AllocError>
     ensures kept { Keeps course.old course.new }
     ensures ok { OnOk result (AddsAll course.old course.new changes.now) }
 {
@@ -108,6 +106,20 @@ pub(crate) fn add_all(
         add(alloc, course, &changes[place])?;
     }
     Ok(())
+}
+
+/// Takes more changesets, and gives words in which each that there is then has a bit.
+pub(crate) fn add_and_mark(
+    alloc: Global,
+    course: &mut Course,
+    changes: &[OnBranch],
+) -> Result<Vec<u64>, AllocError>
+    ensures kept { Keeps course.old course.new }
+    ensures ok { IfOk result (λ marks. AddsAll course.old course.new changes.now × (length course.new.known.items ≤ 64 * length marks.items)) }
+    ensures none { IfOk result (λ marks. (rev : ℕ) → bit_of marks.items rev ≡ false) }
+{
+    add_all(alloc, course, changes)?;
+    no_bits(alloc, course.known.len())
 }
 
 /// Lets go of all changesets and branches but the first so many.

@@ -6,7 +6,7 @@ ghost use Rattle.hgs_branch.specs.Taken.{with_changes};
 ghost use Rattle.hgs_branch.specs.Text.{branches_text};
 
 use crate::changeset::OnBranch;
-use crate::course::{Course, add_all, forget};
+use crate::course::{Course, add_and_mark, forget};
 use crate::print::lines_of;
 use crate::reach::spread;
 use hgs_revlog::revlog::Revlog;
@@ -68,14 +68,15 @@ impl BranchHeads {
     {
         let count = self.course.known.len();
         let branches = self.course.names.len();
-        match add_all(self.alloc, &mut self.course, changes) {
-            Ok(()) => {
+        match add_and_mark(self.alloc, &mut self.course, changes) {
+            Ok(mut marks) => {
                 let course = &mut self.course;
                 spread(
                     self.alloc,
                     &course.known,
                     &mut course.heads,
                     &mut course.reaches,
+                    &mut marks,
                     count,
                 );
                 Ok(())

@@ -1,6 +1,7 @@
 //! The branches of changesets, and the heads of each.
 #![tactic(auto)]
 
+mod bits;
 pub mod changeset;
 mod course;
 pub mod extras;

@@ -1,8 +1,9 @@
 //! Which branches the descendants of changesets are of.
-ghost use Rattle.std.specs.Prelude.{◌≡◌, ◌≢◌, ◌<◌, ◌≤◌, ◌+◌, ◌*◌, ◌/◌, ◌==◌, ◌&&◌, ◌||◌, ℕ, false, true, nat_lt, length, slice_get, slice_set, if◌then◌else◌, Some, IfOk, IfSome, IfNone};
-ghost use Rattle.hgs_branch.specs.Reached.{bit_of, left_at, wide_at, Falls, Hands, IsLeftWithin, Reached, Receives};
+ghost use Rattle.std.specs.Prelude.{◌≡◌, ◌≢◌, ◌⊎◌, ◌<◌, ◌≤◌, ◌+◌, ◌*◌, ◌/◌, ◌==◌, ℕ, false, true, length, slice_get, slice_set, if◌then◌else◌, Some, IfOk, IfSome, IfNone};
+ghost use Rattle.hgs_branch.specs.Reached.{bit_of, left_at, wide_at, AreMarked, Falls, Hands, IsLeftWithin, Reached, Receives};
 ghost use Rattle.hgs_branch.specs.declared.reach.Reach.{Reach};
 
+use crate::bits::{has, join, last_below, no_bits, set};
 use std::alloc::{AllocError, Global};
 use std::mem::replace;
 
@@ -30,39 +31,9 @@ pub(crate) fn own(alloc: Global, branches: usize, branch: usize) -> Result<Reach
     ensures wide { IfOk result (λ reach. length reach.words.items ≡ branches / 64 + 1) }
     ensures left { IfOk result (λ reach. reach.left ≡ true) }
 {
-    let mut words = vec![in alloc; 0u64; branches / 64 + 1]?;
-    let word = words[branch / 64] | (1u64 << (branch % 64));
-    words[branch / 64] = word;
+    let mut words = no_bits(alloc, branches)?;
+    set(&mut words, branch);
     Ok(Reach { words, left: true })
-}
-
-fn has(words: &[u64], number: usize) -> bool
-    ensures { result ≡ bit_of words.now number }
-{
-    match words.get(number / 64) {
-        None => false,
-        Some(word) => *word & (1u64 << (number % 64)) != 0,
-    }
-}
-
-// Adds the bits of others, for as many branches as there are, and says whether one is new.
-fn join(words: &mut Vec<u64>, others: &[u64]) -> bool
-    ensures wide { length words.new.items ≡ length words.old.items }
-    ensures each { (number : ℕ) → bit_of words.new.items number ≡ (bit_of words.old.items number || (nat_lt number (64 * length words.old.items) && bit_of others.now number)) }
-    ensures none { result ≡ false → words.new.items ≡ words.old.items }
-{
-    let mut more = false;
-    for place in 0..words.len() {
-        let Some(other) = others.get(place) else {
-            return more;
-        };
-        let word = words[place] | *other;
-        if word != words[place] {
-            words[place] = word;
-            more = true;
-        }
-    }
-    more
 }
 
 // Adds such bits to those of a changeset, and says whether its parents may lack one of them.
@@ -97,7 +68,7 @@ fn fall_by(known: &[Known], heads: &mut Vec<bool>, words: &[u64], place: usize)
     }
 }
 
-// Hands the bits of a changeset on to a parent before it. Gives the parent where it has something to hand on itself, and else the changeset.
+// Hands the bits of a changeset on to a parent before it. Gives the parent where it has something to hand on itself.
 fn hand_on(
     known: &[Known],
     heads: &mut Vec<bool>,
@@ -105,30 +76,21 @@ fn hand_on(
     words: &[u64],
     rev: usize,
     parent: Option<u32>,
-) -> usize
+) -> Option<usize>
     ensures { Hands known.now heads.old.items heads.new.items reaches.old.items reaches.new.items words.now rev parent result }
 {
     let Some(parent) = parent else {
-        return rev;
+        return None;
     };
     let place = parent as usize;
     if place >= rev {
-        return rev;
+        return None;
     }
     fall_by(known, heads, words, place);
     if receive(reaches, place, words) {
-        place
+        Some(place)
     } else {
-        rev
-    }
-}
-
-fn is_left(reaches: &[Reach], rev: usize) -> bool
-    ensures { result ≡ left_at reaches.now rev }
-{
-    match reaches.get(rev) {
-        None => false,
-        Some(reach) => reach.left,
+        None
     }
 }
 
@@ -157,53 +119,72 @@ fn put_back(reaches: &mut Vec<Reach>, rev: usize, words: Vec<u64>)
     }
 }
 
-fn lower(a: usize, b: usize) -> usize
-    ensures first { result ≤ a }
-    ensures second { result ≤ b }
+// Marks a changeset, if there is one.
+fn mark(marks: &mut Vec<u64>, rev: Option<usize>)
+    ensures wide { length marks.new.items ≡ length marks.old.items }
+    ensures kept { (c : ℕ) → bit_of marks.old.items c ≡ true → bit_of marks.new.items c ≡ true }
+    ensures marked { (c : ℕ) → rev ≡ Some c → c < 64 * length marks.old.items → bit_of marks.new.items c ≡ true }
+    ensures from { (c : ℕ) → bit_of marks.new.items c ≡ true → (bit_of marks.old.items c ≡ true) ⊎ (rev ≡ Some c) }
 {
-    if b < a { b } else { a }
+    if let Some(rev) = rev {
+        set(marks, rev);
+    }
 }
 
-// Hands on what is left at a changeset. Nothing is left before the number that it gives, if nothing was.
+// Hands on what is left at a changeset, and marks the parents that have something to hand on themselves.
 fn pass_on(
     alloc: Global,
     known: &[Known],
     heads: &mut Vec<bool>,
     reaches: &mut Vec<Reach>,
+    marks: &mut Vec<u64>,
     rev: usize,
-) -> usize
+)
     ensures wide { (c : ℕ) → wide_at reaches.new.items c ≡ wide_at reaches.old.items c }
-    ensures reached { (low : ℕ) → Reached known.now heads.old.items reaches.old.items → IsLeftWithin reaches.old.items low (rev + 1) → Reached known.now heads.new.items reaches.new.items × ((from : ℕ) → from ≤ low → from ≤ result → IsLeftWithin reaches.new.items from rev) }
+    ensures marks_wide { length marks.new.items ≡ length marks.old.items }
+    ensures reached { (new : ℕ) → length known.now ≤ 64 * length marks.old.items → Reached known.now heads.old.items reaches.old.items → AreMarked reaches.old.items marks.old.items new (rev + 1) → Reached known.now heads.new.items reaches.new.items × AreMarked reaches.new.items marks.new.items new rev }
 {
     let Some(changeset) = known.get(rev) else {
-        return rev;
+        return;
     };
     let Some(words) = take_left(alloc, reaches, rev) else {
-        return rev;
+        return;
     };
     let first = hand_on(known, heads, reaches, &words, rev, changeset.p1);
     let second = hand_on(known, heads, reaches, &words, rev, changeset.p2);
     put_back(reaches, rev, words);
-    lower(first, second)
+    mark(marks, first);
+    mark(marks, second);
 }
 
-/// Hands on all that is left, from the newest changeset on, where nothing is before the first new one.
+// The changeset that is looked at next, the last before this one that is new or marked.
+fn next_before(marks: &[u64], new: usize, rev: usize) -> Option<usize>
+    ensures before { IfSome result (λ next. next < rev) }
+    ensures passed { IfSome result (λ next. (c : ℕ) → next < c → c < rev → (c < new) × (bit_of marks.now c ≡ false)) }
+    ensures none { IfNone result ((c : ℕ) → c < rev → (c < new) × (bit_of marks.now c ≡ false)) }
+{
+    if new < rev {
+        return Some(rev - 1);
+    }
+    last_below(marks, rev)
+}
+
+/// Hands on all that is left, from the newest changeset on, where nothing is before the first new one. Others are looked at where
+/// they are marked.
 pub(crate) fn spread(
     alloc: Global,
     known: &[Known],
     heads: &mut Vec<bool>,
     reaches: &mut Vec<Reach>,
+    marks: &mut Vec<u64>,
     new: usize,
 )
     ensures wide { (c : ℕ) → wide_at reaches.new.items c ≡ wide_at reaches.old.items c }
-    ensures reached { Reached known.now heads.old.items reaches.old.items → IsLeftWithin reaches.old.items new (length known.now) → Reached known.now heads.new.items reaches.new.items × IsLeftWithin reaches.new.items 0 0 }
+    ensures reached { length known.now ≤ 64 * length marks.old.items → Reached known.now heads.old.items reaches.old.items → IsLeftWithin reaches.old.items new (length known.now) → Reached known.now heads.new.items reaches.new.items × IsLeftWithin reaches.new.items 0 0 }
 {
-    let mut low = new;
     let mut rev = known.len();
-    while low < rev {
-        rev -= 1;
-        if is_left(reaches, rev) {
-            low = lower(low, pass_on(alloc, known, heads, reaches, rev));
-        }
+    while let Some(next) = next_before(marks, new, rev) {
+        rev = next;
+        pass_on(alloc, known, heads, reaches, marks, rev);
     }
 }

@@ -1,6 +1,6 @@
 use Rattle.std.proofs.Common.{◌≡◌, false}
 use Rattle.hgs_branch.proofs.BitLemmas.{Joined}
-use Rattle.hgs_branch.proofs.reach.join.Given as goal
+use Rattle.hgs_branch.proofs.bits.join.Given as goal
 
 abbrev pub invariant-loop-place : goal.invariant-loop-place
 invariant-loop-place l = record {

@@ -1,6 +1,6 @@
 use Rattle.std.proofs.Common.{inl, inr, arith}
 use Rattle.hgs_branch.proofs.BitLemmas.{joined_bits}
-use Rattle.hgs_branch.proofs.reach.join.Goals as goal
+use Rattle.hgs_branch.proofs.bits.join.Goals as goal
 
 pub returns-in_default-clause-each : goal.returns-in_default-clause-each
 returns-in_default-clause-each c =
