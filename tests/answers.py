@@ -1,6 +1,6 @@
 #!/usr/bin/env python3
 """Compares the hints of the program with those of docs/ANSWERS.md, the pages that it shows with what stands elsewhere, and the
-example of README.md with what it writes.
+example of README.md with what it writes; and looks whether each status has a row in tests/worlds.sh or tests/stores.py, which compare its line and hint.
 
 The last line is 'N passed, M failed'.
 """
@@ -11,6 +11,9 @@ import shutil
 import subprocess
 import sys
 import tempfile
+
+sys.dont_write_bytecode = True
+import stores  # noqa: E402
 
 top = os.path.dirname(os.path.dirname(os.path.abspath(__file__)))
 
@@ -34,6 +37,16 @@ def statuses(name, pattern):
     return set(re.findall(pattern, read(name), re.MULTILINE)) - {"0"}
 
 
+# They take two texts behind the same nodes of parents, or two paths, with one SHA-1: none are known.
+WITHOUT_ROW = {"21", "22"}
+
+
+def statuses_of_rows():
+    """Those that a row of the two scripts has."""
+    rows = statuses("tests/worlds.sh", r"^\w+\|\w+\|(\d+)\|")
+    return rows | {str(row[3]) for row in stores.ROWS + stores.COMMANDS} - {"0"}
+
+
 def page(program, word):
     ended = subprocess.run([program, word], capture_output=True, text=True, check=True)
     return ended.stdout
@@ -47,6 +60,7 @@ def main():
     checks = [
         ("hints", hints_of_program() == hints_of_document() and len(hints_of_document()) == len(answers)),
         ("statuses of the manual", statuses("man/hg_store.1", r"^\.It (\d+)$") == answers),
+        ("statuses with a row", statuses_of_rows() == answers - WITHOUT_ROW),
         ("statuses of the help", set(re.findall(r"^ +(\d+) ", help_page, re.MULTILINE)) - {"0"} == answers),
         ("commands of the manual", all(re.search(rf"^\.(It|Cm).*\b{word}\b", read("man/hg_store.1"), re.MULTILINE) for word in commands(help_page))),
         ("the kit", kit in page(program, "--version") and kit in read("README.md")),

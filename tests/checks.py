@@ -5,29 +5,6 @@ import re
 import subprocess
 
 HERE = os.path.dirname(os.path.abspath(__file__))
-# refuses the allocation of a process that FAIL_ALLOCATION names, and says so
-SHIM = r"""
-#define _GNU_SOURCE
-#include <dlfcn.h>
-#include <stdlib.h>
-#include <unistd.h>
-static long failing = -1, calls;
-static int fails(void) {
-    if (failing < 0) { const char *n = getenv("FAIL_ALLOCATION"); failing = n ? atol(n) : 0; }
-    if (++calls != failing) return 0;
-    return write(2, "refused\n", 8) || 1;
-}
-void *malloc(size_t n) {
-    static void *(*real)(size_t);
-    if (!real) real = dlsym(RTLD_NEXT, "malloc");
-    return fails() ? 0 : real(n);
-}
-void *realloc(void *p, size_t n) {
-    static void *(*real)(void *, size_t);
-    if (!real) real = dlsym(RTLD_NEXT, "realloc");
-    return fails() ? 0 : real(p, n);
-}
-"""
 
 
 class Checks:
@@ -83,8 +60,8 @@ def lay(folder, files):
             file.write(data)
 
 
-def built_shim(folder):
-    """The path of the library that refuses an allocation, which is built there."""
-    shim = os.path.join(folder, "shim.so")
-    subprocess.run(["cc", "-shared", "-fPIC", "-O1", "-xc", "-", "-o", shim, "-ldl"], input=SHIM.encode(), check=True)
+def built_shim(folder, name):
+    """The path of the library of this C file here, which stands between a program and the system; it is built in the folder."""
+    shim = os.path.join(folder, f"{name}.so")
+    subprocess.run(["cc", "-shared", "-fPIC", "-O1", "-o", shim, os.path.join(HERE, f"{name}.c"), "-ldl"], check=True)
     return shim

@@ -418,7 +418,7 @@ def try_refusals(world, name, shim):
 
 def trials(world, pool, growths):
     if growths:
-        shim = built_shim(world.work)
+        shim = built_shim(world.work, "refused_allocation")
         return [pool.submit(try_refusals, world, name, shim) for name in ALL]
     world.limits = list(process_limits(world))
     return [*(pool.submit(try_limits, world, name) for name in ALL), pool.submit(try_disks, world)]

@@ -33,7 +33,7 @@ def kind_of(said):
 
 def main():
     with tempfile.TemporaryDirectory() as folder:
-        shim = built_shim(folder)
+        shim = built_shim(folder, "refused_allocation")
         runs, failed = 0, 0
         for program in sorted(glob.glob(os.path.join(TOP, "crates/*/out/*_tests"))):
             listed = subprocess.run([program, "--list"], capture_output=True, text=True).stdout.split("\n")

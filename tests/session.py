@@ -24,6 +24,8 @@ from plain_record import read_one
 from plain_store import PHASES, Refused, Store
 
 PLACED = b"abort: bad input at %d\n"
+NEW = b"commit\nuser test\ndate 0 0\ndesc 1\na\nfile - 2 a\na\n\nend\n"
+NEW_NODE = b"cb9a9f314b8b07ba71012fcdbc544b5a4d82ff5b"  # as Mercurial gives it
 
 
 def record(parent, files, text):
@@ -217,16 +219,20 @@ class Sessions(Checks):
     def two_write_and_two_ask(self):
         """Fifty commits each of two workers, each followed by a look at a file that all of them hold, while two others ask."""
         replay = Replay()
-        replay.do(commit(None, {b"all": b"first\n", b"b": b"b\n"}, b"first"))
+        self.check("the first changeset", replay.do(b"commit\n" + NEW) == (0, b"0:%s\n" % NEW_NODE))
 
         def commits(worker):
             jobs = []
             for number in range(50):
-                name = b"%d of %d\n" % (number, worker)
-                jobs += [commit(b"tip", {b"all": name, b"b": b"b\n"}, b"c"), b"cat tip all\n"]
+                body = b"%d of %d\n" % (number, worker)
+                jobs += [commit(b"tip", {b"a": body, b"b": b"b\n"}, b"c"), b"cat tip a\n"]
             return jobs
 
-        self.session("two write and two ask", replay, [commits(0), commits(1), [b"log\n"] * 50, [b"log\n"] * 50])
+        workers = [commits(0), commits(1), [b"log\n"] * 50, [b"log\n"] * 50]
+        self.fresh(replay.store.files())
+        cut = script(workers).removesuffix(b"end session\n")
+        self.check("without its last line", self.run(["session"], cut) == (14, PLACED % len(cut)) and bytes_of(self.folder) == replay.store.files())
+        self.session("two write and two ask", replay, workers)
         log = self.run(["log"])[1]
         self.check("101 changesets", log.count(b"\n") == 101)
 
@@ -271,9 +277,8 @@ class Sessions(Checks):
     def written_out(self):
         """What three jobs write, in full."""
         self.fresh()
-        self.run(["commit"], record(None, {b"a": b"1\n"}, b"base"))
-        node = self.run(["heads"])[1].split()[1]
-        want = b"published 0 1 0:%s\nworker 0 job 0 status 0 length 6\ndraft\n\nworker 0 job 1 status 0 length 7\nmain 0\n\nworker 0 job 2 status 12 length 24\nabort: unknown revision\n\n" % node
+        self.run(["commit"], NEW)
+        want = b"published 0 1 0:%s\nworker 0 job 0 status 0 length 6\ndraft\n\nworker 0 job 1 status 0 length 7\nmain 0\n\nworker 0 job 2 status 12 length 24\nabort: unknown revision\n\n" % NEW_NODE
         self.check("written out", self.run(["session"], b"session 1\n0 phase 0\n0 bookmark 0 main\n0 unbookmark x\nend session\n") == (0, want))
         self.check("no jobs", self.run(["session"], b"session 3\nend session\n") == (0, b""))
 

@@ -2,7 +2,7 @@
 """Questions and commands over small stores that are laid out byte by byte, whole and damaged: what is written, the status, and the
 files that stand afterwards. A question changes none. A commit also over lists of filelogs as long as they may be.
 
-Entries and nodes are made here by `struct` and `hashlib`; texts, lines and refusals are written by hand. The last line is
+Entries and nodes are made here by `struct` and `hashlib`; texts, lines and refusals are written by hand, and hints stand in docs/ANSWERS.md. The last line is
 'N passed, M failed'.
 """
 
@@ -13,7 +13,7 @@ import sys
 import tempfile
 
 sys.dont_write_bytecode = True
-from checks import Checks, built_program, bytes_of, lay
+from checks import Checks, built_program, bytes_of, hint_of, lay
 
 NULL = bytes(20)
 REQUIRES = b"dotencode\nfncache\nrevlogv1\nstore\n"
@@ -112,8 +112,13 @@ def cut(files, name, length):
     return {**files, name: files[name][:length]}
 
 
+def without(files, name):
+    return {path: data for path, data in files.items() if path != name}
+
+
 def damage(what, path=INDEX):
-    return f"abort: damaged {path}: {what}\n"
+    """The line of a damage; a path that is no text gives bytes."""
+    return f"abort: damaged {path}: {what}\n" if isinstance(path, str) else b"abort: damaged %s: %s\n" % (path, what.encode())
 
 
 # A store, the words, what is written, and the status.
@@ -240,6 +245,7 @@ ROWS = [
     (COMMITTED, "cat 0 a", "a\n", 0),
     (cut(COMMITTED, INDEX, 63), "log", damage("dirstate 6 0", "dirstate"), 15),
     (cut(COMMITTED, DATA, 54), "log", damage("revlog 5 0"), 15),
+    (without(COMMITTED, "store/00manifest.i"), "files 0", damage("revlog 15 0", "store/00manifest.i"), 15),
     (cut(COMMITTED, "store/00manifest.i", 0), "files 0", damage("revlog 15 0", "store/00manifest.i"), 15),
     (cut(COMMITTED, FILE, 66), "cat 0 a", damage("revlog 15 0", FILE), 15),
     ({**COMMITTED, "bookmarks": b"zz\n"}, "heads", damage("bookmarks 1 1", "bookmarks"), 15),
@@ -296,6 +302,8 @@ def other(files, **changes):
 
 
 names = {"roots": ROOTS_PATH, "marks": "bookmarks", "journal": JOURNAL, "backups": BACKUPS, "backup": BACKUP}
+UNNAMEABLE = other(OPEN, backups=OPEN[BACKUPS].replace(b"\0dirstate", b"\0\xff"))
+BACK = {"store/data/b.i": b"", **{path: BEFORE[path] for path in ("store/fncache", INDEX)}}
 
 # A store, the words, what is written, the status, and the files that stand afterwards.
 COMMANDS = [
@@ -336,8 +344,22 @@ COMMANDS = [
     ),
     (DRAFTS, "recover", "no interrupted transaction available\n", 1, DRAFTS),
     (OPEN, "recover", "transaction undone\n", 0, BEFORE),
-    # a name that no file of a store can have, since the names there are ASCII: nothing stands under it
-    ({**OPEN, JOURNAL: b"data/\xff.i\x000\n" + OPEN[JOURNAL]}, "recover", "transaction undone\n", 0, BEFORE),
+    # a last line of the journal that is cut by its LF: its file is not named, and keeps its bytes
+    (other(OPEN, journal=OPEN[JOURNAL][:-1]), "recover", "transaction undone\n", 0, {**BEFORE, INDEX: OPEN[INDEX]}),
+    # a name that no file of a store can have, since the names there are ASCII: nothing stands under it, so nothing is removed, it is shorter than
+    # a journal says, and it is no backup
+    (other(OPEN, journal=b"data/\xff.i\x000\n" + OPEN[JOURNAL]), "recover", "transaction undone\n", 0, BEFORE),
+    (other(OPEN, backups=OPEN[BACKUPS] + b"\0\xff\0\x000\n"), "recover", "transaction undone\n", 0, BEFORE),
+    *(
+        (files, "recover", damage(what, path), 15, files)
+        for files, what, path in (
+            (other(OPEN, journal=b"data/\xff.i\x005\n" + OPEN[JOURNAL]), "journal 4 5", b"store/data/\xff.i"),
+            (other(OPEN, backups=OPEN[BACKUPS].replace(b"backup", b"\xff")), "journal 5 0", b"journal.\xff.dirstate"),
+        )
+    ),
+    # nor can it be given the bytes of a backup: what the journal names is taken back, and then recovering breaks off, until the list is mended
+    (UNNAMEABLE, "recover", "abort: recovery unfinished\n", 17, {**UNNAMEABLE, **BACK}),
+    ({**UNNAMEABLE, **BACK, BACKUPS: OPEN[BACKUPS]}, "recover", "transaction undone\n", 0, BEFORE),
     (OPEN, "phase 0 public", "abort: lock held by me\n", 10, OPEN),
     *(
         (files, "recover", damage(what, path), 15, files)
@@ -388,14 +410,17 @@ def try_long_lists(program, checks):
 
 def main():
     program, checks = built_program(), Checks()
+    hints = {status: hint_of(status) for status in range(256)}
     for files, words, text, status, after in [(*row, row[0]) for row in ROWS] + COMMANDS:
         with tempfile.TemporaryDirectory() as folder:
             lay(folder, files)
             words = words.split() if isinstance(words, str) else words
             given = RECORD if words == ["commit"] else b""
+            text = text.encode() if isinstance(text, str) else text
             ended = subprocess.run([program, *words], input=given, capture_output=True, cwd=folder, check=False)
-            said = (ended.returncode, ended.stdout) == (status, text.encode())
-            checks.check(f"{words}: status {ended.returncode} ({status}), {ended.stdout} ({text.encode()})", said)
+            said = (ended.returncode, ended.stdout) == (status, text)
+            checks.check(f"{words}: status {ended.returncode} ({status}), {ended.stdout} ({text})", said)
+            checks.check(f"{words}: tells {ended.stderr}", ended.stderr.endswith(hints[status]) and bool(ended.stderr) == bool(hints[status]))
             checks.check(f"{words}: other files stand", bytes_of(folder) == {name: data for name, data in after.items() if data})
     try_long_lists(program, checks)
     print(f"{checks.passed} passed, {checks.failed} failed")

@@ -85,6 +85,11 @@ locked_by_mercurial() { lay_store && ln -s box:77 .hg/wlock && ln -s box:77 .hg/
 left_journal() { lay_store && : >.hg/store/journal; }
 begun_by_mercurial() { lay_store && : >.hg/store/journal && : >.hg/store/journal.backupfiles; }
 link_as_lock() { lay_store && ln -s nowhere .hg/store/lock; }
+link_as_working_lock() { lay_store && ln -s nowhere .hg/wlock; }
+folder_as_journal() { lay_store && mkdir .hg/store/journal; }
+folder_as_list() { lay_store && rm .hg/store/fncache && mkdir .hg/store/fncache; }
+folder_as_new_file() { "$program" init && mkdir -p .hg/store/data/a.i; }
+file_as_new_folder() { "$program" init && mkdir .hg/store/data && printf text >.hg/store/data/x; }
 folder_as_lock() { lay_store && mkdir .hg/store/lock; }
 unlisted_file() { lay_store && sed -i '/file6.txt.i$/d' .hg/store/fncache; }
 large_body() {
@@ -117,6 +122,7 @@ first_line() { # the reader of standard output goes once it has one line
 no_input() { "$program" "$@" <&-; } # standard input is closed
 little_memory() { (ulimit -v 16000 && exec "$program" "$@" </dev/null); } # for less than a body of 16 MiB
 one_file() { printf '%s\n' commit 'user u' 'date 0 0' 'desc 1' t 'file - 1 a' x end | "$program" "$@"; }
+below_a_folder() { printf '%s\n' commit 'user u' 'date 0 0' 'desc 1' t 'file - 1 x/y' z end | "$program" "$@"; }
 copied_over() { printf '%s\n' commit 'parent tip' 'user u' 'date 0 0' 'desc 1' t 'copyfrom src/d0/file0.txt' 'file - 1 src/d2/file2.txt' x end | "$program" "$@"; }
 not_text() { "$program" "$@" $'\xff' </dev/null; }
 
@@ -228,7 +234,13 @@ left_journal|plain|11|abort: abandoned transaction found|bookmark new 0
 begun_by_mercurial|plain|11|abort: abandoned transaction found|bookmark new 0
 begun_by_mercurial|plain|15|abort: damaged store/journal.backupfiles: journal 2 0|recover
 link_as_lock|plain|10|abort: lock held by nowhere|bookmark new 0
+link_as_working_lock|plain|10|abort: lock held by nowhere|bookmark new 0
 folder_as_lock|plain|10|abort: lock held|bookmark new 0
+folder_as_journal|plain|16|abort: file operation failed|bookmark new 0
+folder_as_journal|plain|16|abort: file operation failed|recover
+folder_as_list|one_file|16|abort: file operation failed|commit
+folder_as_new_file|one_file|16|abort: file operation failed|commit
+file_as_new_folder|below_a_folder|16|abort: file operation failed|commit
 folder_as_lock|plain|1|leftover files remain|recover
 cut_data|plain|15|abort: damaged store/00changelog.i: revlog 14 16|bookmark new 0
 cut_data|one_file|15|abort: damaged store/00changelog.i: revlog 14 16|commit
@@ -237,6 +249,6 @@ large_body|little_memory|30|abort: out of memory|cat 0 a
 whole_store|copied_over|32|abort: copy over src/d2/file2.txt|commit
 file_in_the_way|one_file|34|abort: file in the way store/data/a.i|commit
 TABLE
-# 17 and the 16 of a command that writes have theirs in tests/stops.py; 21 and 22 take two texts with one SHA-1
+# 17 has its rows in tests/stops.py; 21 and 22 take two texts with one SHA-1
 echo "$passed passed, $failed failed"
 [ "$failed" = 0 ] && [ "$passed" -gt 0 ]

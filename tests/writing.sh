@@ -225,6 +225,21 @@ rm .hg/store/lock
 : >.hg/store/journal
 check "a journal stands" refused 11 "abort: abandoned transaction found" "$program" phase 4 public
 rm .hg/store/journal
+cp -r ../theirs ../killed && cd ../killed && echo more >>src/main.c || exit 1
+cat >"$work/killed.py" <<END
+import os, signal
+from mercurial import extensions, transaction
+def uisetup(ui):
+    extensions.wrapfunction(transaction.transaction, "close", lambda original, self: os.kill(os.getpid(), signal.SIGKILL))
+END
+(hg --config extensions.killed="$work/killed.py" commit -m killed -u u -d '0 0'; true) >/dev/null 2>&1
+check "Mercurial is killed within its transaction, before it wrote its list of backups" [ -s .hg/store/journal -a ! -s .hg/store/journal.backupfiles ]
+check "the program does not undo it" refused 15 "abort: damaged store/journal.backupfiles: journal 2 0" "$program" recover
+check "Mercurial does" hg recover
+check "and its locks are removed" ends 1 "no interrupted transaction available" "$program" recover
+check "then all is as before" bash -c '[ "$(hg log -r tip --template "{desc|firstline}")" = "step 6" ] && [ "$("$0" bookmark new tip)" = "new 5" ]' "$program"
+check "nothing is wrong" nothing_wrong
+cd ../ours || exit 1
 
 # ---- second names
 

@@ -10,7 +10,7 @@ pub fn hint(status: u8) -> Option<&'static str> {
             "somebody else writes this repository; wait and try again. Where no process does, a stop left the locks: `hg_store recover` removes them",
         ),
         11 => Some(
-            "an earlier transaction was left unfinished; nothing was changed; `hg_store recover` undoes it, once no process writes this repository; `hg recover` does not",
+            "an earlier transaction was left unfinished; nothing was changed. Once no process writes this repository, `hg_store recover` undoes what hg_store left, and `hg recover` what Mercurial left",
         ),
         12 => Some(
             "no changeset has this name; `hg_store log` shows numbers and nodes, `hg_store bookmarks` bookmarks",
