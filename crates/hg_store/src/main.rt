@@ -18,6 +18,7 @@ use crate::usages::usage;
 use hgs_files::streams::Sink;
 use hgs_os::files::OsFiles;
 use hgs_os::streams::{OsSink, OsSource};
+use hgs_os::watch::{Cleared, Watch, WatchedInput, Work};
 use hgs_os::yard::OsYard;
 use hgs_run::run::run;
 use hgs_top::command::refuse_words;
@@ -97,6 +98,23 @@ fn make_store(rt: &HostRuntime, words: &[String]) {
     }
 }
 
+// The command that the words name, where it reads an input and writes what stands there.
+fn reader_of(words: &[String]) -> Option<&'static str> {
+    match asked_by(words) {
+        Ok(Asked::Order(Order::Commit)) => Some("commit"),
+        Ok(Asked::Order(Order::Import)) => Some("import"),
+        _ => None,
+    }
+}
+
+// What is told of while the words are obeyed, where that may take long.
+fn work_of(words: &[String]) -> Option<Work> {
+    match asked_by(words) {
+        Ok(Asked::Generate { count, .. }) => Some(Work::Changesets("gen", count)),
+        _ => reader_of(words).map(Work::Files),
+    }
+}
+
 // Does what the words ask for, with these threads where there are some to be had, says what its status means, and gives that.
 fn answer<T: Threads + Wait + Sync, K: Sink>(
     rt: &HostRuntime,
@@ -106,8 +124,13 @@ fn answer<T: Threads + Wait + Sync, K: Sink>(
     match read_words(rt)? {
         Words::All(words) => {
             make_store(rt, &words);
-            let yard = OsYard::new(rt.alloc(), OsFiles::new(*rt, ".hg")?);
-            let mut input = OsSource::new(rt.stdin());
+            let files = OsFiles::new(*rt, ".hg")?;
+            let files = match work_of(&words) {
+                Some(work) => files.watched(Watch::new(*rt, work)),
+                None => files,
+            };
+            let yard = OsYard::new(rt.alloc(), files);
+            let mut input = OsSource::new(WatchedInput::new(*rt, rt.stdin(), reader_of(&words)));
             let mut progress = OsProgress::new(*rt);
             let ran = run(
                 threads,
@@ -139,7 +162,7 @@ fn main(rt: HostRuntime) -> ExitCode {
         say_hint(&rt, 19);
         return ExitCode::from(19);
     }
-    let mut out = OsSink::new(rt.stdout());
+    let mut out = OsSink::new(Cleared::new(rt, rt.stdout()));
     match answer(&rt, &rt, &mut out) {
         Ok(status) => ExitCode::from(status),
         Err(_) => {

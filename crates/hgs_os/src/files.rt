@@ -4,6 +4,7 @@ ghost use Rattle.hgs_files.specs.Reads.{Counts, counted};
 ghost use Rattle.hgs_files.specs.Ties.{untied};
 
 use crate::folder::Folder;
+use crate::watch::Watch;
 use hgs_files::ends::{Follows, Leads, Told};
 use hgs_files::files::{Created, FileFault, Files, Reads};
 use hgs_files::path::StorePath;
@@ -16,6 +17,7 @@ use std::io;
 pub struct OsFiles {
     folder: Folder,
     tally: Tally,
+    watch: Option<Watch>,
 }
 
 impl OsFiles {
@@ -24,7 +26,16 @@ impl OsFiles {
         Ok(OsFiles {
             folder: Folder::new(rt, folder)?,
             tally: Tally::new(),
+            watch: None,
         })
+    }
+
+    /// The same files, at which somebody looks on.
+    pub fn watched(self, watch: Watch) -> OsFiles {
+        OsFiles {
+            watch: Some(watch),
+            ..self
+        }
     }
 
     /// A reading end over the same folder, with a handle of its own.
@@ -35,6 +46,7 @@ impl OsFiles {
             files: OsFiles {
                 folder: self.folder.again()?,
                 tally: Tally::new(),
+                watch: None,
             },
         })
     }
@@ -87,6 +99,9 @@ impl Reads for OsFiles {
         most: u64,
         into: &mut Vec<u8>,
     ) -> Result<Option<u64>, FileFault> {
+        if let Some(watch) = &mut self.watch {
+            watch.reads(path.bytes(), from);
+        }
         let answer = self.folder.read(path, from, most, into);
         if let Ok(Some(part)) = answer {
             self.tally.give(part);
@@ -109,6 +124,9 @@ impl Files for OsFiles {
     ghost only_writer = { refl };
 
     fn append(&mut self, path: &StorePath, bytes: &[u8]) -> Result<(), FileFault> {
+        if let Some(watch) = &mut self.watch {
+            watch.appends(path.bytes());
+        }
         count(&mut self.tally, self.folder.append(path, bytes))
     }
 

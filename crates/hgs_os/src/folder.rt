@@ -11,8 +11,8 @@ use hgs_files::path::StorePath;
 use std::alloc::AllocError;
 use std::collections::BTreeMap;
 use std::fs::{self, File, OpenOptions, Permissions};
-use std::io::{self, ErrorKind, Read, Seek, SeekFrom, Write};
-use std::os::unix::fs::{MetadataExt, PermissionsExt};
+use std::io::{self, ErrorKind, Read, Write};
+use std::os::unix::fs::{FileExt, MetadataExt, PermissionsExt};
 use std::path::Path;
 
 /// A folder, and the folders whose lists of names changed since they were last made to last.
@@ -49,6 +49,21 @@ fn begun(answer: io::Result<()>) -> io::Result<()> {
     match answer {
         Err(error) if error.kind() == ErrorKind::OutOfMemory => Err(ErrorKind::Other.into()),
         answer => answer,
+    }
+}
+
+// The bytes of a file from a place on.
+#[derive(Drop)]
+struct Behind<'a> {
+    file: &'a File,
+    from: u64,
+}
+
+impl Read for Behind<'_> {
+    fn read(&mut self, buf: &mut [u8]) -> io::Result<usize> {
+        let count = self.file.read_at(buf, self.from)?;
+        self.from = self.from.saturating_add(count as u64);
+        Ok(count)
     }
 }
 
@@ -305,7 +320,7 @@ impl Folder {
     ) -> io::Result<Option<u64>>
         ensures { AddsPart most into.old.items into.new.items result }
     {
-        let mut file = match File::open(&self.rt, name) {
+        let file = match File::open(&self.rt, name) {
             Ok(file) => file,
             Err(error) if is_absent(&error) => return Ok(None),
             Err(error) => return Err(error),
@@ -315,10 +330,8 @@ impl Folder {
             return Err(ErrorKind::IsADirectory.into());
         }
         let part = found.len().saturating_sub(from).min(most);
-        if from > 0 {
-            file.seek(SeekFrom::Start(from.min(found.len())))?;
-        }
-        Ok(Some(read_up_to(&mut file, part, into)?))
+        let mut bytes = Behind { file: &file, from };
+        Ok(Some(read_up_to(&mut bytes, part, into)?))
     }
 
     pub fn size(&self, path: &StorePath) -> io::Result<Option<u64>> {

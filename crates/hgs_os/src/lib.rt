@@ -7,4 +7,5 @@
 pub mod files;
 pub mod folder;
 pub mod streams;
+pub mod watch;
 pub mod yard;
