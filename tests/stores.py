@@ -258,6 +258,17 @@ ROWS = [
     (changed(cut(COMMITTED, "dirstate", 39), INDEX, 3, 2), "log", damage("dirstate 3 0", "dirstate"), 15),
     (changed(changed(COMMITTED, "store/phaseroots", 0, ord("3")), INDEX, 3, 2), "log", damage("revlog 1 0"), 15),
     (changed(cut(COMMITTED, INDEX, 63), "store/phaseroots", 0, ord("3")), "log", damage("roots 1 1", "store/phaseroots"), 15),
+    # then the name is resolved; behind it come the changeset's text, the manifest's index, its text, the path, the file's index and its text
+    (cut(COMMITTED, INDEX, 63), "files 9", damage("dirstate 6 0", "dirstate"), 15),
+    (cut(COMMITTED, DATA, 54), "files 9", UNKNOWN, 12),
+    (cut(without(COMMITTED, "store/00manifest.i"), DATA, 54), "files 0", damage("revlog 5 0"), 15),
+    (changed(changed(COMMITTED, "store/00manifest.i", 3, 2), "store/00manifest.d", 1, ord("b")), "files 0", damage("revlog 1 0", "store/00manifest.i"), 15),
+    (cut(changed(COMMITTED, "store/00manifest.d", 1, ord("b")), FILE, 63), "cat 0 b", damage("revlog 7 0", "store/00manifest.i"), 15),
+    (cut(COMMITTED, FILE, 63), "cat 0 b", "abort: unknown path\n", 23),
+    (changed(changed(COMMITTED, FILE, 65, ord("b")), FILE, 3, 2), "cat 0 a", damage("revlog 1 0", FILE), 15),
+    # a file that is too long is not looked at, and one that is read before it is
+    ({**COMMITTED, "bookmarks": b"\x7f" * (MOST_INLINE + 1)}, "heads", "abort: limit 9\n", 20),
+    ({**cut(COMMITTED, "dirstate", 39), INDEX: inline(FIRST).ljust(MOST_INLINE + 1, b"\x7f")}, "heads", damage("dirstate 3 0", "dirstate"), 15),
     # no repository
     ({}, "log", "abort: not a repository\n", 24),
     ({}, "heads", "abort: not a repository\n", 24),
