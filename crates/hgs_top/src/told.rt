@@ -15,17 +15,29 @@ use hgs_files::files::Files;
 use hgs_files::streams::{Sink, Source};
 use std::alloc::Global;
 
+/// The bytes of room for a line: a bookmark's name and a number, or a number and a node, and the line of what is left over.
+const ROOM: usize = 512;
+
+// Says what a command came to, by a line that has no bytes yet, and gives the status.
+fn say_in<K: Sink>(mut line: Vec<u8>, alloc: Global, ended: &Ended, out: &mut K) -> u8
+    requires empty { line.items ≡ [] }
+    ensures line { EndsLine (ended_text ended.now) (ended_status ended.now) result (K.written out.old) (K.written out.new) }
+    ensures sink { result ≡ 19 → Rose (K.faults out.old) (K.faults out.new) }
+    ensures statuses { IsOneOf (19 ∷ 30 ∷ ended_status ended.now ∷ []) result }
+{
+    match ended.print(alloc, &mut line) {
+        Ok(()) => end_with(out, &line, ended.status()),
+        Err(_) => end_with(out, OUT_OF_MEMORY, 30),
+    }
+}
+
 /// Says what a command came to, and gives the status.
 pub fn say<K: Sink>(alloc: Global, ended: &Ended, out: &mut K) -> u8
     ensures line { EndsLine (ended_text ended.now) (ended_status ended.now) result (K.written out.old) (K.written out.new) }
     ensures sink { result ≡ 19 → Rose (K.faults out.old) (K.faults out.new) }
     ensures statuses { IsOneOf (19 ∷ 30 ∷ ended_status ended.now ∷ []) result }
 {
-    let mut line = Vec::new(alloc);
-    match ended.print(alloc, &mut line) {
-        Ok(()) => end_with(out, &line, ended.status()),
-        Err(_) => end_with(out, OUT_OF_MEMORY, 30),
-    }
+    say_in(Vec::new(alloc), alloc, ended, out)
 }
 
 /// Does what a command asks for that changes files, says what it came to, and gives the status.
@@ -48,6 +60,9 @@ pub fn run_order<F: Files, S: Source, K: Sink>(
     ensures input { LeavesInput (job_of order.entry) (S.left input.old) (S.left input.new) (S.faults input.old) (S.faults input.new) }
     ensures same_start { F.start files.new ≡ F.start files.old }
 {
+    // taken before anything is done, so that what is done finds room for its line
+    let mut line = Vec::new(alloc);
+    let _ = line.reserve(ROOM);
     let ended = do_order(alloc, order, files, input);
-    say(alloc, &ended, out)
+    say_in(line, alloc, &ended, out)
 }
