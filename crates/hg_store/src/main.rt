@@ -111,7 +111,10 @@ fn reader_of(words: &[String]) -> Option<&'static str> {
 fn work_of(words: &[String]) -> Option<Work> {
     match asked_by(words) {
         Ok(Asked::Generate { count, .. }) => Some(Work::Changesets("gen", count)),
-        _ => reader_of(words).map(Work::Files),
+        _ => {
+            let command = reader_of(words)?;
+            Some(Work::Files(command))
+        }
     }
 }
 
