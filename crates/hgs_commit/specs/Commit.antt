@@ -1,15 +1,15 @@
 -- What a commit becomes, by what was loaded and by the files of a tree at rest.
-use Rattle.std.specs.Prelude.{◌≡◌, ◌+◌, ◌==◌, ◌&&◌, ℕ, nat_lt, List, [], ◌∷◌, ◌++◌, Bool, true, false, length, Option, Some, None, is_none, is_some, unwrap_or, slice_index_or, find, Result, Ok, Err, if◌then◌else◌, IfSome, OnOk, ⊤}
+use Rattle.std.specs.Prelude.{◌≡◌, ◌+◌, ◌==◌, ◌&&◌, ℕ, nat_lt, List, [], ◌∷◌, ◌++◌, Bool, false, length, Option, Some, None, is_none, is_some, unwrap_or, slice_index_or, find, Result, Ok, Err, if◌then◌else◌, OnOk, ⊤}
 use Rattle.std.specs.Bool.{MatchBool}
 use Rattle.std.specs.List.{list_any}
 use Rattle.std.specs.Option.{option_map}
-use Rattle.hgs_files.specs.declared.op.Op.{Op}
-use Rattle.hgs_files.specs.Tree.{Tree, after_all}
+use Rattle.hgs_files.specs.Tree.{Tree}
 use Rattle.hgs_index.specs.Manifest.{Row}
 use Rattle.hgs_index.specs.declared.entry.Entry.{Entry}
 use Rattle.hgs_index.specs.declared.kinds.Which.TheVariants as limits
 use Rattle.hgs_index.specs.Revision.{Parents}
 use Rattle.hgs_loading.specs.Found.{and_then}
+pub use Rattle.hgs_loading.specs.Found.{AtRest}
 use Rattle.hgs_loading.specs.Parent.{Files, parent_in}
 use Rattle.hgs_loading.specs.Small.{fncache_path, most_fncache}
 use Rattle.hgs_marks.specs.Bookmarks.{node_of}
@@ -297,10 +297,6 @@ StepsOn l c parents t result = GivesWith (ClashOn l c (trees_in l c parents t) N
 -- the answer of a commit: told is of the first new path that clashes, with a listed one or a new one before it with which it does
 abbrev pub Steps : Loaded → NewChange → Tree → Result Step CommitFault → Type 0
 Steps l c t result = GivesWith (ClashBy l c t (parents_answer (named_all l c.parents))) (λ clash. commit_in clash l c t) result
-
--- where nobody else writes and the list of operations is told, this holds of the tree
-abbrev pub AtRest : Bool → Option (List Op) → Tree → (Tree → Type 0) → Type 0
-AtRest alone seen start holds = alone ≡ true → IfSome seen (λ log. holds (after_all log start))
 
 -- ---- what contracts see of the code's values
 

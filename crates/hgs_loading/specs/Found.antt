@@ -10,6 +10,10 @@ use Rattle.hgs_load.specs.Open.{most_requires, requires_path}
 use Rattle.hgs_load.specs.Requirements.{requires_answer}
 use Rattle.hgs_load.specs.Whole.{within}
 
+-- where nobody else writes and the list of operations is told, this holds of the tree
+abbrev pub AtRest : Bool → Option (List Op) → Tree → (Tree → Type 0) → Type 0
+AtRest alone seen start holds = alone ≡ true → IfSome seen (λ log. holds (after_all log start))
+
 -- Where nobody else writes and the list of operations is told, a call answered what this gives of the tree, or it met a fault of the files or found no memory. `view` is what contracts see of the value.
 abbrev pub Finds : {V B : Type 0} → (V → B) → Bool → Option (List Op) → Tree → (Tree → Result B ReadAnswer) → Result V ReadAnswer → Type 0
 Finds view alone seen start given result = alone ≡ true → IfSome seen (λ log. Gives is_of_outside view result (given (after_all log start)))

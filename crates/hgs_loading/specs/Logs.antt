@@ -1,5 +1,6 @@
 -- A revlog as it is loaded before more is appended to it, and its texts.
-use Rattle.std.specs.Prelude.{ℕ, ◌*◌, ◌==◌, ◌&&◌, nat_le, Bool, true, false, List, length, take, Result, Ok, Err, slice_get, if◌then◌else◌}
+use Rattle.std.specs.Prelude.{◌≡◌, ℕ, ◌*◌, ◌==◌, ◌&&◌, nat_le, Bool, true, false, List, length, take, Result, Ok, Err, slice_get, if◌then◌else◌}
+use Rattle.hgs_bytes.specs.Bytes.{IsPrefixOf}
 use Rattle.hgs_files.specs.Tree.{Tree, bytes_at}
 use Rattle.std.specs.Option.{option_map}
 use Rattle.hgs_index.specs.Inline.{is_inline}
@@ -43,6 +44,10 @@ either_data_in index chunks log t = if log.inline then Ok tt else data_in index 
 -- the revlog of both files
 abbrev pub whole_log_in : List ℕ → List ℕ → Tree → Result Log ReadAnswer
 whole_log_in index chunks t = and_then (either_log_in index t) (λ log. and_then (either_data_in index chunks log t) (λ x. Ok log))
+
+-- An index was loaded as this revlog, and nothing was done to it since but that bytes were appended.
+abbrev pub HasGrown : List ℕ → Log → Tree → Type 0
+HasGrown index log t = (front : List ℕ) × IsPrefixOf front (bytes_at t index) × (loaded_either Refuse front ≡ Ok log)
 
 -- ---- texts
 

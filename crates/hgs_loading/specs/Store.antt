@@ -11,7 +11,7 @@ use Rattle.hgs_load.specs.View.{changelog_index, changelog_data}
 use Rattle.hgs_loading.specs.declared.store.LoadedStore.{LoadedStore}
 use Rattle.hgs_loading.specs.declared.store.Logs.{Logs}
 use Rattle.hgs_loading.specs.Found.{and_then}
-use Rattle.hgs_loading.specs.Logs.{whole_log_in}
+use Rattle.hgs_loading.specs.Logs.{HasGrown, whole_log_in}
 use Rattle.hgs_loading.specs.Small.{Small, small_in, view_small}
 
 -- the small files, the two revlogs, the changesets that are the working parents, and the phase of each changeset
@@ -43,3 +43,7 @@ view_store h = record { files = view_small h.files; changelog = h.changelog; man
 
 abbrev pub view_logs : Logs → Log × Log
 view_logs l = (l.changelog, l.manifest)
+
+-- both indexes were loaded as these, and only appended to since
+abbrev pub HaveGrown : Log × Log → Tree → Type 0
+HaveGrown logs t = HasGrown changelog_index logs.0 t × HasGrown manifest_index logs.1 t

@@ -1,6 +1,7 @@
 //! What a writer reads of a repository while it holds the locks, so that nobody else writes.
 #![tactic(auto)]
 
+pub mod grown;
 pub mod laws;
 pub mod logs;
 pub mod parent;

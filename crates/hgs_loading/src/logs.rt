@@ -10,7 +10,7 @@ ghost use Rattle.hgs_revlog.specs.Log.{stored_sum};
 ghost use Rattle.hgs_load.specs.Answer.{is_of_outside, HasFaultCause, NeverFaults};
 ghost use Rattle.hgs_load.specs.View.{log_answer, piece_length};
 ghost use Rattle.hgs_loading.specs.Found.{Finds};
-ghost use Rattle.hgs_loading.specs.Logs.{data_in, either_data_in, either_index_in, either_log_in, has_more, index_in, whole_log_in};
+ghost use Rattle.hgs_loading.specs.Logs.{data_in, either_data_in, either_index_in, either_log_in, has_more, index_in};
 
 use crate::whole::size_of;
 use hgs_files::files::Reads;
@@ -26,10 +26,10 @@ use hgs_revlog::revlog::Revlog;
 use std::alloc::Global;
 
 /// The bytes of one read of an index: 1,024 entries.
-const PIECE: u64 = 65_536;
+pub(crate) const PIECE: u64 = 65_536;
 
 /// As many pieces hold more entries than a revlog may have.
-const MOST_PIECES: u64 = 977;
+pub(crate) const MOST_PIECES: u64 = 977;
 
 /// More pieces than a list of bytes can have.
 const ALL_PIECES: u64 = 0x1_0000_0000_0000;
@@ -218,22 +218,4 @@ pub fn test_either_data<R: Reads>(
         return Ok(());
     }
     test_data(alloc, files, paths, log)
-}
-
-/// Loads a revlog in either form, and tests its data file.
-pub fn load_whole<R: Reads>(
-    alloc: Global,
-    files: &mut R,
-    paths: &RevlogPaths,
-) -> Result<Revlog, ReadAnswer>
-    ensures found { Finds (λ log. log) R.alone (R.seen files.new) (R.start files.new) (whole_log_in paths.now.index paths.now.chunks) result }
-    ensures entries { IfOk result (λ log. AreEntries log.entries) }
-    ensures seen { Grows (R.seen files.old) (R.seen files.new) }
-    ensures same_start { R.start files.new ≡ R.start files.old }
-    ensures still { R.alone ≡ true → R.seen files.new ≡ R.seen files.old }
-    ensures cause { HasFaultCause (R.faults files.old) (R.faults files.new) (R.denied files.old) (R.denied files.new) result }
-{
-    let log = load_either_log(alloc, files, paths)?;
-    test_either_data(alloc, files, paths, &log)?;
-    Ok(log)
 }
