@@ -23,34 +23,42 @@ use Rattle.hgs_model.specs.declared.command.NewChange.{NewChange}
 use Rattle.hgs_model.specs.declared.files.NewFile.{NewFile}
 use Rattle.hgs_model.specs.declared.command.Refusal.{Refusal}
 use Rattle.hgs_stands.specs.Stands.{Stands}
-use Rattle.hgs_writer.specs.Alone.{HasWhatItNeeds, IsAnswered, IsDoneAs}
+use Rattle.hgs_legal.specs.ListsPaths.{ListsOnlyPaths, ListsPaths}
+use Rattle.hgs_writer.specs.Alone.{IsAnswered, IsDoneAs}
 use Rattle.hgs_writer.specs.Refusals.{refusals_of, refusals_of_outcome}
 use Rattle.hgs_writer.specs.Written.{IsWritten}
-use Rattle.hgs_grown.specs.Grown.{AreCommitted, CommitsNext, GrowsTo, HasWhatAllNeed, LeftHasCause, grown, is_swept, next_repo, nothing, one_more}
+use Rattle.hgs_grown.specs.Grown.{AreCommitted, CommitsNext, GrowsTo, LeftHasCause, grown, is_swept, next_repo, nothing, one_more}
 use Rattle.hgs_grown.specs.declared.commits.Stop.{Stop}
 use Rattle.hgs_grown.specs.declared.commits.Tip.{Tip}
 use Rattle.hgs_grown.specs.declared.commits.Stop.TheVariants.{Memory, Answered}
 
 -- what a call leaves that was alone
 abbrev pub Leaves : Type 0
-Leaves = (t : Tree) (r : Repo) (n : ℕ) (seed : ℕ) (who : List ℕ) (answer : Answer) (done : List Op) → Stands t r → IsNewChange (generated seed n) → HasWhatItNeeds t r (Commit (generated seed n)) → IsWritten who (Commit (generated seed n)) t answer done
+Leaves = (t : Tree) (r : Repo) (n : ℕ) (seed : ℕ) (who : List ℕ) (answer : Answer) (done : List Op) → Stands t r → IsNewChange (generated seed n) → ListsPaths t r → IsWritten who (Commit (generated seed n)) t answer done
     → IsAnswered r (step r (Commit (generated seed n))) answer.outcome (after_all done t)
 
-module _ (law : Leaves) (valid : (seed made : ℕ) → seed < 2 ^ 64 → made < 20000 → IsNewChange (generated seed made)) (who : List ℕ) (seed count : ℕ) (t : Tree) (r : Repo) (small : seed < 2 ^ 64) (few : count ≤ 5000) (stands : Stands t r) (needs : HasWhatAllNeed who seed count t) where
+-- and of its list of filelogs
+abbrev pub Lists : Type 0
+Lists = (t : Tree) (r : Repo) (n : ℕ) (seed : ℕ) (who : List ℕ) (answer : Answer) (done : List Op) → Stands t r → IsNewChange (generated seed n) → ListsPaths t r → IsWritten who (Commit (generated seed n)) t answer done
+    → ListsOnlyPaths (after_all done t)
+
+module _ (law : Leaves) (list_law : Lists) (valid : (seed made : ℕ) → seed < 2 ^ 64 → made < 20000 → IsNewChange (generated seed made)) (who : List ℕ) (seed count : ℕ) (t : Tree) (r : Repo) (small : seed < 2 ^ 64) (few : count ≤ 5000) (stands : Stands t r) (lists : ListsPaths t r) where
   accepted : (stepped : Result Next Refusal) (rev : ℕ) (node : Node) (u : Tree) → IsDoneAs stepped rev node u → (s : Repo) × (next_repo stepped ≡ Some s) × Stands u s
   accepted (Ok next) rev node u h = (next.0, refl, h.0)
   accepted (Err e) rev node u h = absurd h
 
-  pub leads : (n : ℕ) (last : Option Tip) (done : List Op) → n ≤ count → AreCommitted who seed t n last done → (s : Repo) × (grown seed n r ≡ Some s) × Stands (after_all done t) s
-  leads _ _ _ le nothing = (r, refl, stands)
+  pub leads : (n : ℕ) (last : Option Tip) (done : List Op) → n ≤ count → AreCommitted who seed t n last done → (s : Repo) × (grown seed n r ≡ Some s) × Stands (after_all done t) s × ListsPaths (after_all done t) s
+  leads _ _ _ le nothing = (r, refl, stands, lists)
   leads _ _ _ le (one_more n last done more answer rev node before written is) =
       let sofar = leads n last done (omega (arith, le)) before in
       let u = after_all done t in
-      let left = law u sofar.0 n seed who answer more sofar.2 (valid seed n small (omega (arith, le, few))) (needs n last done sofar.0 (omega (arith, le)) before sofar.2) written in
+      let good = valid seed n small (omega (arith, le, few)) in
+      let left = law u sofar.0 n seed who answer more sofar.2 good sofar.3 written in
       let next = accepted (step sofar.0 (Commit (generated seed n))) rev node (after_all more u) (subst (λ o. IsAnswered sofar.0 (step sofar.0 (Commit (generated seed n))) o (after_all more u)) is left) in (
         next.0,
         ap (option_and_then (λ s. next_repo (step s (Commit (generated seed n))))) sofar.1 ∙ next.1,
         subst (λ v. Stands v next.0) (sym (after_all-append done more t)) next.2,
+        subst (λ v. ListsPaths v next.0) (sym (after_all-append done more t)) (list_law u sofar.0 n seed who answer more sofar.2 good sofar.3 written next.0 (inl next.2)),
       )
 
 -- ---- one commit after another

@@ -16,8 +16,6 @@ use Rattle.hgs_model.specs.declared.command.Command.TheVariants.{Commit}
 use Rattle.hgs_model.specs.Repo.{Repo}
 use Rattle.hgs_model.specs.Step.{Next, step}
 use Rattle.hgs_model.specs.declared.command.Refusal.{Refusal}
-use Rattle.hgs_stands.specs.Stands.{Stands}
-use Rattle.hgs_writer.specs.Alone.{HasWhatItNeeds}
 use Rattle.hgs_writer.specs.Refusals.{refusals_of}
 use Rattle.hgs_writer.specs.Written.{IsWritten}
 use Rattle.hgs_grown.specs.declared.commits.Stop.{Stop}
@@ -89,7 +87,3 @@ next_repo (Err e) = None
 abbrev pub grown : ℕ → ℕ → Repo → Option Repo
 grown seed zero r = Some r
 grown seed (suc n) r = option_and_then (λ s. next_repo (step s (Commit (generated seed n)))) (grown seed n r)
-
--- On the way each tree has what the next commit needs of it that no test tells.
-abbrev pub HasWhatAllNeed : List ℕ → ℕ → ℕ → Tree → Type 0
-HasWhatAllNeed who seed count t = (n : ℕ) (last : Option Tip) (done : List Op) (r : Repo) → n < count → AreCommitted who seed t n last done → Stands (after_all done t) r → HasWhatItNeeds (after_all done t) r (Commit (generated seed n))

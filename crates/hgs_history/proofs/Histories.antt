@@ -8,28 +8,31 @@ use Rattle.hgs_files.specs.Files.{GoesOn}
 use Rattle.hgs_files.specs.Tree.{Tree, after_all}
 use Rattle.hgs_headline.specs.WritersLog.{state_behind}
 use Rattle.hgs_journal.specs.Names.{journal_path}
+use Rattle.hgs_legal.specs.ListsPaths.{ListsPaths}
 use Rattle.hgs_legal.specs.LegalLog.{IsRun, Run, State, Turn, current, start_of, stays}
 use Rattle.hgs_legal.specs.Numbers.{acknowledged_of, b_of, n_of, w_of}
 use Rattle.hgs_machine.specs.Carry.{tree_now}
 use Rattle.hgs_model.specs.Repo.{Repo}
 use Rattle.hgs_model.specs.Valid.{IsValid}
 use Rattle.hgs_model.specs.declared.command.Command.{Command}
+use Rattle.hgs_ops.specs.Operations.{strays}
 use Rattle.hgs_script.specs.Script.{CanBeDone, IsShare}
 use Rattle.hgs_script.specs.declared.job.Job.{Job}
 use Rattle.hgs_script.specs.declared.job.Job.TheVariants.{Change}
 use Rattle.hgs_session.specs.Calls.{Beginning, Call, IsCall, Stage, job_among, job_in, name_of, published_by, published_of, unsure_of, unsure_with}
+use Rattle.hgs_stands.specs.Open.{IsOpen}
 use Rattle.hgs_stands.specs.Stands.{Stands}
 use Rattle.hgs_writer.specs.Turns.{IsAtRest, LeadsAs, LeadsOn}
 use Rattle.hgs_model.specs.Step.{step}
 use Rattle.hgs_answers.specs.declared.outcome.Outcome.{Outcome}
 use Rattle.hgs_answers.specs.declared.outcome.Outcome.TheVariants.{Abandoned, LockHeld}
 use Rattle.hgs_writer.specs.Made.{HasNoLocks}
-use Rattle.hgs_writer.specs.Alone.{HasWhatItNeeds, IsAnswered, IsBarred, IsOutcomeOf, ReadsWithin}
+use Rattle.hgs_writer.specs.Alone.{IsAnswered, IsBarred, IsOutcomeOf, ReadsWithin}
 use Rattle.hgs_writer.specs.Limits.{LoadsWithin}
 use Rattle.hgs_writer.specs.Written.{IsWritten, IsWrittenFor}
 use Rattle.hgs_answers.specs.declared.answer.Answer.{Answer}
 use Rattle.hgs_index.specs.declared.node.Node.{Node}
-use Rattle.hgs_history.specs.History.{HaveWhatTheyNeed, IsBehind, IsMadeAt, IsRefusedBy, is_done, is_last_done, stage_behind}
+use Rattle.hgs_history.specs.History.{IsBehind, IsMadeAt, IsRefusedBy, is_done, is_last_done, stage_behind}
 use Rattle.hgs_history.proofs.Refused.{as-written, barred-by, refused-by}
 use Rattle.hgs_history.proofs.Joined.{begins, behind-join, join}
 use Rattle.hgs_history.proofs.Published.{Adds, AreTurns, adds, adds-barred, entries_with, never, published, unsure_after}
@@ -39,9 +42,10 @@ pub record Below : Type 0 where
   pub files : (t : Tree) (r : Repo) (log : List Op) (s : State) → IsRun t r log s → s.files ≡ after_all log t
   pub stands : (t : Tree) (r : Repo) (log : List Op) (s : State) → Stands t r → IsRun t r log s → IsAtRest None s → Stands s.files (current s)
   pub journal : (t : Tree) (r : Repo) (log : List Op) (s : State) (left : List Op) → Stands t r → IsRun t r log s → IsAtRest (Some left) s → s.files journal_path ≡ None → ⊥
-  pub leads : (s : State) (command : Command) (who : List ℕ) (answer : Answer) (changeset : Option (ℕ × Node)) (done : List Op) → IsAtRest None s → Stands s.files (current s) → IsValid command → HasWhatItNeeds s.files (current s) command → IsWrittenFor who command s.files answer changeset done
+  pub keeps : (t : Tree) (r next : Repo) (log : List Op) (s : State) → Stands t r → ListsPaths t r → IsRun t r log s → Stands (after_all log t) next ⊎ IsOpen strays (after_all log t) next → ListsPaths (after_all log t) next
+  pub leads : (s : State) (command : Command) (who : List ℕ) (answer : Answer) (changeset : Option (ℕ × Node)) (done : List Op) → IsAtRest None s → Stands s.files (current s) → IsValid command → ListsPaths s.files (current s) → IsWrittenFor who command s.files answer changeset done
       → LeadsAs s done (record { who = who; command = command; changeset = changeset }) answer.outcome
-  pub answered : (t : Tree) (r : Repo) (command : Command) (who : List ℕ) (answer : Answer) (done : List Op) → Stands t r → IsValid command → HasWhatItNeeds t r command → IsWritten who command t answer done → IsAnswered r (step r command) answer.outcome (after_all done t)
+  pub answered : (t : Tree) (r : Repo) (command : Command) (who : List ℕ) (answer : Answer) (done : List Op) → Stands t r → IsValid command → ListsPaths t r → IsWritten who command t answer done → IsAnswered r (step r command) answer.outcome (after_all done t)
   pub comes : (t : Tree) (r : Repo) (command : Command) (who : List ℕ) (answer : Answer) (done : List Op) → Stands t r → LoadsWithin t r → ReadsWithin t r command → IsWritten who command t answer done → IsOutcomeOf t r command (step r command) answer.outcome
   pub held : (t : Tree) (command : Command) (who : List ℕ) (answer : Answer) (done : List Op) (holder : Option (List ℕ)) → HasNoLocks t → IsWritten who command t answer done → answer.outcome ≡ LockHeld holder → ⊥
   pub barred : (s : State) (left : Option (List Op)) (command : Command) (who : List ℕ) (answer : Answer) (changeset : Option (ℕ × Node)) (done : List Op) → IsAtRest left s → (s.files journal_path ≡ None → ⊥) → IsWrittenFor who command s.files answer changeset done → IsBarred answer.outcome × LeadsOn s done [] left
@@ -80,7 +84,7 @@ more-unsure before c = fold-append unsure_with None before (c ∷ [])
 more-done : (before : List Call) (c : Call) → is_last_done (before ++ c ∷ []) ≡ is_done c.answer.outcome
 more-done before c = fold-append (λ (was : Bool) (d : Call). is_done d.answer.outcome) false before (c ∷ [])
 
-module _ (b : Below) (x : Beginning) (r : Repo) (stands : Stands x.start r) (shares : AllByRecursion IsShare x.jobs) where
+module _ (b : Below) (x : Beginning) (r : Repo) (stands : Stands x.start r) (lists : ListsPaths x.start r) (shares : AllByRecursion IsShare x.jobs) where
   -- where a session has come to behind these calls
   pub record Stood (before : List Call) (stage : Stage) (log : List Op) (s : State) : Type 0 where
     pub told : stage.log ≡ Some log
@@ -104,16 +108,22 @@ module _ (b : Below) (x : Beginning) (r : Repo) (stands : Stands x.start r) (sha
       (subst (λ u. AreTurns x.jobs (published_of before ++ published_by c) u left all) (sym (more-unsure before c))
       (subst (λ l. AreTurns x.jobs (published_of before ++ published_by c) (unsure_with (unsure_of before) c) left l) (sym e) are))
 
+  -- the list of filelogs of a state whose files stand
+  lists-at : (log : List Op) (s : State) → IsRun x.start r log s → Stands s.files (current s) → ListsPaths s.files (current s)
+  lists-at log s run here =
+      let files = b.files x.start r log s run in
+      subst (λ (t : Tree). ListsPaths t (current s)) (sym files) (b.keeps x.start r (current s) log s stands lists run (inl (subst (λ (t : Tree). Stands t (current s)) files here)))
+
   -- what a call adds at a state at rest
   adds-to : (before : List Call) (c : Call) (log more : List Op) (s : State) (command : Command) → job_in x.jobs c.worker c.job ≡ Some (Change command) → IsRun x.start r log s
-      → IsWrittenFor (name_of c.worker c.job) command s.files c.answer c.changeset more → ((now : Repo) → Stands s.files now → HasWhatItNeeds s.files now command)
+      → IsWrittenFor (name_of c.worker c.job) command s.files c.answer c.changeset more
       → (left : Option (List Op)) → IsAtRest left s → AreTurns x.jobs (published_of before) (unsure_of before) left s.published
       → Adds x.jobs (entries_with (published_of before) c.worker c.job c.answer.outcome c.changeset) (unsure_after (unsure_of before) c.worker c.job c.answer.outcome) (is_done c.answer.outcome) s more
-  adds-to before c log more s command is_job run written has None rested are =
+  adds-to before c log more s command is_job run written None rested are =
       let here = b.stands x.start r log s stands run rested in
       adds x.jobs (published_of before) (unsure_of before) s more c.worker c.job command c.changeset is_job c.answer.outcome are
-      (b.leads s command (name_of c.worker c.job) c.answer c.changeset more rested here (job-valid x.jobs c.worker c.job command shares is_job) (has (current s) here) written)
-  adds-to before c log more s command is_job run written has (Some left) rested are =
+      (b.leads s command (name_of c.worker c.job) c.answer c.changeset more rested here (job-valid x.jobs c.worker c.job command shares is_job) (lists-at log s run here) written)
+  adds-to before c log more s command is_job run written (Some left) rested are =
       let stopped = b.barred s (Some left) command (name_of c.worker c.job) c.answer c.changeset more rested (b.journal x.start r log s left stands run rested) written in
       adds-barred x.jobs (published_of before) (unsure_of before) s more c.worker c.job command c.changeset is_job c.answer.outcome left are stopped.0 stopped.1
 
@@ -124,26 +134,22 @@ module _ (b : Below) (x : Beginning) (r : Repo) (stands : Stands x.start r) (sha
     pub more : List Op
     pub told : new.log ≡ Some (log ++ more)
     pub written : IsWrittenFor (name_of c.worker c.job) command s.files c.answer c.changeset more
-    pub has : (now : Repo) → Stands s.files now → HasWhatItNeeds s.files now command
 
-  made-at : (before : List Call) (old new : Stage) (c : Call) (log : List Op) (s : State) → IsCall x old c new → Stood before old log s
-      → ((now : Repo) (command : Command) → job_in x.jobs c.worker c.job ≡ Some (Change command) → Stands (tree_now old.log x.start) now → HasWhatItNeeds (tree_now old.log x.start) now command) → Made c log new s
-  made-at before old new c log s is stood needs =
+  made-at : (before : List Call) (old new : Stage) (c : Call) (log : List Op) (s : State) → IsCall x old c new → Stood before old log s → Made c log new s
+  made-at before old new c log s is stood =
       let who = name_of c.worker c.job in
       let on = subst (λ (o : Option (List Op)). GoesOn o new.log (IsWrittenFor who is.command (tree_now o x.start) c.answer c.changeset)) stood.told is.log in
-      let tree : tree_now old.log x.start ≡ s.files = ap (λ (o : Option (List Op)). tree_now o x.start) stood.told ∙ sym (b.files x.start r log s stood.run) in
       record {
         command = is.command;
         job = is.job;
         more = on.0;
         told = on.1;
         written = subst (λ (t : Tree). IsWrittenFor who is.command t c.answer c.changeset on.0) (sym (b.files x.start r log s stood.run)) on.2;
-        has = subst (λ (t : Tree). (now : Repo) → Stands t now → HasWhatItNeeds t now is.command) tree (λ now. needs now is.command is.job);
       }
 
   call-goes : (before : List Call) (old new : Stage) (c : Call) (log : List Op) (s : State) → Made c log new s → Stood before old log s → Went (before ++ c ∷ []) new log s
   call-goes before old new c log s made stood =
-      let added = adds-to before c log made.more s made.command made.job stood.run made.written made.has stood.left stood.at_rest stood.are in
+      let added = adds-to before c log made.more s made.command made.job stood.run made.written stood.left stood.at_rest stood.are in
       let state = added.leads.state in
       record {
         state = state;
@@ -176,7 +182,7 @@ module _ (b : Below) (x : Beginning) (r : Repo) (stands : Stands x.start r) (sha
     refusal-at : (left : Option (List Op)) → IsAtRest left s → IsRefusedBy (step (current s) made.command) c.answer.outcome
     refusal-at None rested =
         refused-by (current s) (step (current s) made.command) c.answer.outcome (after_all made.more s.files)
-        (b.answered s.files (current s) made.command (name_of c.worker c.job) c.answer made.more (here rested) (job-valid x.jobs c.worker c.job made.command shares made.job) (made.has (current s) (here rested)) written)
+        (b.answered s.files (current s) made.command (name_of c.worker c.job) c.answer made.more (here rested) (job-valid x.jobs c.worker c.job made.command shares made.job) (lists-at log s stood.run (here rested)) written)
     refusal-at (Some left) rested = barred-by (step (current s) made.command) c.answer.outcome (stopped left rested)
 
     outcome-at : (left : Option (List Op)) → IsAtRest left s → LoadsWithin s.files (current s) → ReadsWithin s.files (current s) made.command
@@ -187,7 +193,7 @@ module _ (b : Below) (x : Beginning) (r : Repo) (stands : Stands x.start r) (sha
     abandoned-at : (left : Option (List Op)) → IsAtRest left s → c.answer.outcome ≡ Abandoned → s.files journal_path ≡ None → ⊥
     abandoned-at None rested is none =
         subst (λ (o : Outcome). IsAnswered (current s) (step (current s) made.command) o (after_all made.more s.files)) is
-        (b.answered s.files (current s) made.command (name_of c.worker c.job) c.answer made.more (here rested) (job-valid x.jobs c.worker c.job made.command shares made.job) (made.has (current s) (here rested)) written)
+        (b.answered s.files (current s) made.command (name_of c.worker c.job) c.answer made.more (here rested) (job-valid x.jobs c.worker c.job made.command shares made.job) (lists-at log s stood.run (here rested)) written)
     abandoned-at (Some left) rested is none = journal left rested none
 
     call-at : IsMadeAt x.jobs c s
@@ -265,18 +271,18 @@ module _ (b : Below) (x : Beginning) (r : Repo) (stands : Stands x.start r) (sha
   none-of before old last makes log s stood [] back e = record { done = []; rest = []; whole = refl; stood = stood-same before (before ++ []) old log (log ++ []) s s (sym (append-nil before)) (sym (append-nil log)) refl stood }
   none-of before old last makes log s stood (d ∷ front) back e = absurd (no-call d (front ++ back) e)
 
-  pub come : (before : List Call) (old : Stage) (calls : List Call) (last : Stage) (makes : FoldsTo (IsCall x) old calls last) (log : List Op) (s : State) → Stood before old log s → HaveWhatTheyNeed x old calls last makes → Came before old calls last makes log s
-  come before old [] last makes log s stood needs = record {
+  pub come : (before : List Call) (old : Stage) (calls : List Call) (last : Stage) (makes : FoldsTo (IsCall x) old calls last) (log : List Op) (s : State) → Stood before old log s → Came before old calls last makes log s
+  come before old [] last makes log s stood = record {
     state = s;
     more = [];
     goes = refl;
     stood = subst (λ k. Stood (before ++ []) k (log ++ []) s) makes (stood-same before (before ++ []) old log (log ++ []) s s (sym (append-nil before)) (sym (append-nil log)) refl stood);
     fronts = none-of before old last makes log s stood;
   }
-  come before old (c ∷ calls) last makes log s stood needs =
-      let went = call-goes before old makes.0 c log s (made-at before old makes.0 c log s makes.1 stood (λ now command is_job st. needs [] calls c now command refl is_job st)) stood in
+  come before old (c ∷ calls) last makes log s stood =
+      let went = call-goes before old makes.0 c log s (made-at before old makes.0 c log s makes.1 stood) stood in
       came-more before old c calls last makes log s stood went
-      (come (before ++ c ∷ []) makes.0 calls last makes.2 (log ++ went.more) went.state went.stood (λ front back d now command e. needs (c ∷ front) back d now command (ap (λ l. c ∷ l) e)))
+      (come (before ++ c ∷ []) makes.0 calls last makes.2 (log ++ went.more) went.state went.stood)
 
   -- a session that has made no call
   pub at-first : x.first.log ≡ Some [] → Stood [] x.first [] (start_of x.start r)
@@ -301,9 +307,9 @@ module _ (b : Below) (x : Beginning) (r : Repo) (stands : Stands x.start r) (sha
   next-call old (d ∷ calls) last makes [] back c e = (makes.0, subst (λ k. IsCall x old k makes.0) (same-call d c calls back e) makes.1)
   next-call old (d ∷ calls) last makes (g ∷ front) back c e = next-call makes.0 calls last makes.2 front back c (same-calls d g calls (front ++ c ∷ back) e)
 
-  pub next-at : (calls : List Call) (last : Stage) (makes : FoldsTo (IsCall x) x.first calls last) (front back : List Call) (c : Call) (log : List Op) (s : State) → HaveWhatTheyNeed x x.first calls last makes → calls ≡ front ++ c ∷ back
+  pub next-at : (calls : List Call) (last : Stage) (makes : FoldsTo (IsCall x) x.first calls last) (front back : List Call) (c : Call) (log : List Op) (s : State) → calls ≡ front ++ c ∷ back
       → Stood front (stage_behind x x.first calls last makes front) log s → IsMadeAt x.jobs c s
-  next-at calls last makes front back c log s needs e stood =
+  next-at calls last makes front back c log s e stood =
       let stage = stage_behind x x.first calls last makes front in
       let next = next-call x.first calls last makes front back c e in
-      call-at front stage next.0 c log s (made-at front stage next.0 c log s next.1 stood (λ now command is_job st. needs front back c now command e is_job st)) stood
+      call-at front stage next.0 c log s (made-at front stage next.0 c log s next.1 stood) stood

@@ -18,16 +18,15 @@ use Rattle.hgs_session.specs.Jobs.{IsFresh, Progress, changed, changes}
 use Rattle.hgs_session.specs.Session.{HasEnded, IsSession}
 use Rattle.hgs_stands.specs.Stands.{Stands}
 use Rattle.hgs_stands.specs.Theorems.EmptyLemmas.{empty-stands}
-use Rattle.hgs_writer.specs.Alone.{HasWhatItNeeds}
+use Rattle.hgs_legal.specs.ListsPaths.{ListsPaths}
 use Rattle.hgs_writer.specs.Begun.{has_no_locks}
 use Rattle.hgs_writer.specs.Written.{has_no_plan}
-use Rattle.hgs_history.specs.History.{HaveWhatTheyNeed}
 use Rattle.hgs_history.specs.Samples.{held_call, held_calls, held_result, held_session, held_states, held_store, nothing_done, told_once, two_jobs}
 
 pub held-stands : Stands held_store empty_repo
 held-stands = empty-stands held_store (record { text = requires_text; there = refl; known = refl; whole = refl }) (refl, (refl, (refl, (refl, (refl, (refl, (refl, (refl, tt)))))))) refl
 
-one-job : (n : ℕ) → n ≡ 1 → n ≤ 10000
+pub one-job : (n : ℕ) → n ≡ 1 → n ≤ 10000
 one-job n e = omega arith
 
 pub held-shares : AllByRecursion IsShare two_jobs
@@ -79,16 +78,8 @@ second-called = record {
 pub held-made : Makes held_session held_calls nothing_done
 held-made = (nothing_done, second-called, (nothing_done, first-called, refl))
 
--- deleting a bookmark needs nothing of the files
-needs-nothing : (worker job : ℕ) (command : Command) (t : Tree) (r : Repo) → job_in two_jobs worker job ≡ Some (Change command) → HasWhatItNeeds t r command
-needs-nothing zero zero command t r e = let same : delete_here ≡ command = cc e in subst (HasWhatItNeeds t r) same tt
-needs-nothing zero (suc job) command t r e = absurd (cc e)
-needs-nothing (suc zero) zero command t r e = let same : delete_here ≡ command = cc e in subst (HasWhatItNeeds t r) same tt
-needs-nothing (suc zero) (suc job) command t r e = absurd (cc e)
-needs-nothing (suc (suc worker)) job command t r e = absurd (cc e)
-
-pub held-needs : HaveWhatTheyNeed held_session nothing_done held_calls nothing_done held-made
-held-needs front back c now command is job stands = needs-nothing c.worker c.job command _ now job
+pub held-lists : ListsPaths held_store empty_repo
+held-lists = record { lines = tt }
 
 -- ---- the workers
 

@@ -8,7 +8,6 @@ use Rattle.hgs_files.specs.Tree.{Tree}
 use Rattle.hgs_journal.specs.Names.{journal_path}
 use Rattle.hgs_legal.specs.LegalLog.{State, Turn, current}
 use Rattle.hgs_legal.specs.Numbers.{acknowledged_of, b_of, n_of, w_of}
-use Rattle.hgs_machine.specs.Carry.{tree_now}
 use Rattle.hgs_model.specs.Repo.{Repo}
 use Rattle.hgs_model.specs.Step.{Next, step}
 use Rattle.hgs_model.specs.declared.command.Refusal.{Refusal}
@@ -17,10 +16,10 @@ use Rattle.hgs_model.specs.declared.command.Command.{Command}
 use Rattle.hgs_script.specs.declared.job.Job.{Job}
 use Rattle.hgs_script.specs.declared.job.Job.TheVariants.{Change}
 use Rattle.hgs_script.specs.declared.result.PublishedJob.{PublishedJob}
-use Rattle.hgs_session.specs.Calls.{AreInOrder, Beginning, Call, IsCall, Makes, Stage, job_in, name_of, published_of, unsure_of}
+use Rattle.hgs_session.specs.Calls.{Beginning, Call, IsCall, Stage, job_in, name_of, published_of, unsure_of}
 use Rattle.hgs_stands.specs.Stands.{Stands}
 use Rattle.hgs_writer.specs.Made.{HasNoLocks}
-use Rattle.hgs_writer.specs.Alone.{HasWhatItNeeds, IsBarred, IsOutcomeOf, ReadsWithin}
+use Rattle.hgs_writer.specs.Alone.{IsBarred, IsOutcomeOf, ReadsWithin}
 use Rattle.hgs_writer.specs.Limits.{LoadsWithin}
 use Rattle.hgs_writer.specs.Written.{IsWrittenFor}
 
@@ -103,14 +102,3 @@ abbrev pub stage_behind : (x : Beginning) (old : Stage) (calls : List Call) (las
 stage_behind x old [] last makes front = old
 stage_behind x old (c ∷ calls) last makes [] = old
 stage_behind x old (c ∷ calls) last makes (d ∷ front) = stage_behind x makes.0 calls last makes.2 front
-
--- At each call the files have what its command needs of them that no test tells.
-abbrev pub HaveWhatTheyNeed : (x : Beginning) (old : Stage) (calls : List Call) (last : Stage) → FoldsTo (IsCall x) old calls last → Type 0
-HaveWhatTheyNeed x old calls last makes =
-    (front back : List Call) (c : Call) (now : Repo) (command : Command) → calls ≡ front ++ c ∷ back → job_in x.jobs c.worker c.job ≡ Some (Change command)
-    → Stands (tree_now (stage_behind x old calls last makes front).log x.start) now → HasWhatItNeeds (tree_now (stage_behind x old calls last makes front).log x.start) now command
-
--- So it is whatever calls the jobs make in their order from this tree.
-abbrev pub AlwaysHaveWhatTheyNeed : List (List Job) → Tree → Type 0
-AlwaysHaveWhatTheyNeed jobs start =
-    (x : Beginning) (calls : List Call) (last : Stage) (makes : Makes x calls last) → AreInOrder calls → x.jobs ≡ jobs → x.start ≡ start → x.first.log ≡ Some [] → HaveWhatTheyNeed x x.first calls last makes

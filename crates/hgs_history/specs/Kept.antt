@@ -2,8 +2,10 @@
 use Rattle.std.specs.Prelude.{◌≡◌, ℕ, suc, List, [], ◌∷◌, ◌++◌, Some}
 use Rattle.std.specs.List.{AllByRecursion, FoldsTo}
 use Rattle.hgs_bytes.specs.Bytes.{IsPrefixOf}
+use Rattle.hgs_files.specs.Tree.{after_all}
 use Rattle.hgs_files.specs.declared.op.Op.{Op}
 use Rattle.hgs_headline.specs.WritersLog.{WritersLog, course_of, state_after}
+use Rattle.hgs_legal.specs.ListsPaths.{ListsOnlyPaths}
 use Rattle.hgs_legal.specs.LegalLog.{IsLegal}
 use Rattle.hgs_model.specs.Repo.{Repo}
 use Rattle.hgs_script.specs.declared.result.Answered.{Answered}
@@ -33,7 +35,8 @@ NoneFallsBack h x worker calls (answers ∷ replies) = NeverFallsBack h x worker
 
 -- The log is one that writers make from the repository, and legal. What is published is what is listed, and at most the job that is
 -- called unsure; each job that writes is one call, in its worker's order, each call is made over the repository behind those before it,
--- and behind each the log has what they list. Within the limits no worker falls back.
+-- and behind each the log has what they list. The tree behind the log lists only
+-- names of paths. Within the limits no worker falls back.
 pub record KeepsHistory (x : Beginning) (r : Repo) (calls : List Call) (last : Stage) (makes : Makes x calls last) (result : SessionResult) : Type 0 where
   pub log : WritersLog
   pub start : log.start ≡ x.start
@@ -45,4 +48,5 @@ pub record KeepsHistory (x : Beginning) (r : Repo) (calls : List Call) (last : S
   pub listed : AllByRecursion IsListed calls
   pub behind : (front back : List Call) → calls ≡ front ++ back → (done : List Op) × ((stage_behind x x.first calls last makes front).log ≡ Some done) × IsPrefixOf done log.log × IsBehind x.jobs front (state_after log done)
   pub made : (front back : List Call) (c : Call) → calls ≡ front ++ c ∷ back → (done : List Op) × ((stage_behind x x.first calls last makes front).log ≡ Some done) × IsPrefixOf done log.log × IsMadeAt x.jobs c (state_after log done)
+  pub lists : ListsOnlyPaths (after_all log.log x.start)
   pub asked : OpensAlong (course_of log) [] log.log → ReadsAlong (course_of log) [] log.log → NoneFallsBack log x 0 calls result.replies

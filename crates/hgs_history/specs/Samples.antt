@@ -2,8 +2,9 @@
 use Rattle.std.specs.Prelude.{ℕ, List, [], ◌∷◌, Some, None, codes, true}
 use Rattle.hgs_answers.specs.declared.outcome.Outcome.TheVariants.{LockHeld}
 use Rattle.hgs_files.specs.Tree.{Tree}
+use Rattle.hgs_model.specs.declared.command.Command.TheVariants.{Commit}
 use Rattle.hgs_ops.specs.Operations.{wlock_path}
-use Rattle.hgs_ops.specs.Samples.{bare, delete_here}
+use Rattle.hgs_ops.specs.Samples.{bare, delete_here, first_change}
 use Rattle.hgs_script.specs.declared.job.Job.{Job}
 use Rattle.hgs_script.specs.declared.job.Job.TheVariants.{Change}
 use Rattle.hgs_script.specs.declared.result.SessionResult.{SessionResult}
@@ -14,6 +15,10 @@ use Rattle.hgs_stands.specs.Samples.{with_bytes}
 
 abbrev pub held_store : Tree
 held_store = with_bytes bare wlock_path (codes "other")
+
+-- each of two workers commits
+abbrev pub two_commits : List (List Job)
+two_commits = (Change (Commit first_change) ∷ []) ∷ (Change (Commit first_change) ∷ []) ∷ []
 
 -- each worker deletes a bookmark
 abbrev pub two_jobs : List (List Job)

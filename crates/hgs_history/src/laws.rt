@@ -8,6 +8,7 @@ ghost use Rattle.hgs_files.specs.Reads.{greatest};
 ghost use Rattle.hgs_files.specs.Tree.{Tree, after_all};
 ghost use Rattle.hgs_files.specs.declared.op.Op.{Op};
 ghost use Rattle.hgs_headline.specs.WritersLog.{WritersLog, course_of, state_after};
+ghost use Rattle.hgs_legal.specs.ListsPaths.{ListsOnlyPaths, ListsPaths};
 ghost use Rattle.hgs_legal.specs.LegalLog.{IsLegal, Turn};
 ghost use Rattle.hgs_model.specs.Repo.{Repo};
 ghost use Rattle.hgs_script.specs.Script.{IsShare};
@@ -21,20 +22,23 @@ ghost use Rattle.hgs_script.specs.declared.result.SessionResult.{SessionResult};
 ghost use Rattle.hgs_script.specs.declared.result.Answered.{Answered};
 ghost use Rattle.hgs_views.specs.Course.{OpensAlong, ReadsAlong};
 ghost use Rattle.hgs_views.specs.Seen.{Numbers};
-ghost use Rattle.hgs_history.specs.History.{AlwaysHaveWhatTheyNeed, ArePublished, HaveWhatTheyNeed, IsBehind, IsMadeAt, is_last_done, stage_behind};
+ghost use Rattle.hgs_history.specs.History.{ArePublished, IsBehind, IsMadeAt, is_last_done, stage_behind};
 ghost use Rattle.hgs_history.specs.Kept.{KeepsHistory};
 ghost use Rattle.hgs_history.specs.Once.{AreCallsFrom, IsCleanAt, IsListed, IsUnharmed, calls_by, how_many, one_if_failed, one_if_faulted};
 ghost use Rattle.hgs_history.specs.Workers.{GoesBeside, Knows};
 
 use crate::question_laws::questions_beside_writers;
 use hgs_legal::laws::numbers_rise;
+use hgs_legal::list_laws::writers_keep_lists;
+use hgs_stands::laws::{files_of_standing_trees, stands_for_one};
 use hgs_writer::laws::{calls_clean_up, calls_come_to_steps, calls_leave_what_they_answer};
 use hgs_writer::turn_laws::{
     calls_beside_a_journal_publish_nothing, calls_publish_their_own_turns,
     states_at_rest_have_one_number, states_at_rest_stand,
 };
 
-/// From a tree that stands for a repository the log of a session's calls is one that writers make. It publishes the transactions
+/// From a tree that stands for a repository, and whose list of filelogs has only names of paths, the log of a session's calls is one that
+/// writers make. It publishes the transactions
 /// of the jobs that these calls list, in that order, each by the job's own command and with its name in the locks and the
 /// changeset that is listed; and behind them at most that of the job of which it is not known. So it is of each front of the
 /// calls, and of the log that they led to, which is a front of the whole; where the last of them is done, its bookmarks and
@@ -43,12 +47,13 @@ use hgs_writer::turn_laws::{
 /// repository makes of its command, or is barred by a journal that stands; and each call answers what one does that is alone with
 /// the files there.
 pub fn sessions_publish_what_they_list()
-    ensures { (x : Beginning) (r : Repo) (calls : List Call) (last : Stage) (makes : Makes x calls last) → Stands x.start r → x.first.log ≡ Some [] → AllByRecursion IsShare x.jobs → HaveWhatTheyNeed x x.first calls last makes →
+    ensures { (x : Beginning) (r : Repo) (calls : List Call) (last : Stage) (makes : Makes x calls last) → Stands x.start r → x.first.log ≡ Some [] → AllByRecursion IsShare x.jobs → ListsPaths x.start r →
         (h : WritersLog) × (h.start ≡ x.start) × (h.first ≡ r) × (last.log ≡ Some h.log) × ArePublished x.jobs (published_of calls) (unsure_of calls) h.last.published ×
         ((front back : List Call) → calls ≡ front ++ back → (log : List Op) × ((stage_behind x x.first calls last makes front).log ≡ Some log) × IsPrefixOf log h.log × IsBehind x.jobs front (state_after h log)) ×
         ((front back : List Call) (c : Call) → calls ≡ front ++ c ∷ back → (log : List Op) × ((stage_behind x x.first calls last makes front).log ≡ Some log) × IsPrefixOf log h.log × IsMadeAt x.jobs c (state_after h log)) }
 {
     numbers_rise();
+    writers_keep_lists();
     states_at_rest_stand();
     states_at_rest_have_one_number();
     calls_publish_their_own_turns();
@@ -58,11 +63,11 @@ pub fn sessions_publish_what_they_list()
     calls_clean_up();
 }
 
-/// So that log is legal. Where the files have what commits need, a writing end that takes each list of which it is known that it is
+/// So that log is legal. Where the list of filelogs has only names of paths, a writing end that takes each list of which it is known that it is
 /// legal takes whatever a session may leave.
 pub fn sessions_make_legal_logs()
-    ensures legal { (x : Beginning) (calls : List Call) (last : Stage) (log : List Op) (makes : Makes x calls last) → x.first.log ≡ Some [] → AllByRecursion IsShare x.jobs → HaveWhatTheyNeed x x.first calls last makes → last.log ≡ Some log → IsLegal x.start log }
-    ensures taken { (jobs : List (List Job)) (old : List Op) (start : Tree) → AllByRecursion IsShare jobs → AlwaysHaveWhatTheyNeed jobs (after_all old start) → MayRun jobs (Some old) start (λ t log. ∥ IsLegal t log ∥₁) }
+    ensures legal { (x : Beginning) (calls : List Call) (last : Stage) (log : List Op) (makes : Makes x calls last) → x.first.log ≡ Some [] → AllByRecursion IsShare x.jobs → ListsOnlyPaths x.start → last.log ≡ Some log → IsLegal x.start log }
+    ensures taken { (jobs : List (List Job)) (old : List Op) (start : Tree) → AllByRecursion IsShare jobs → ListsOnlyPaths (after_all old start) → MayRun jobs (Some old) start (λ t log. ∥ IsLegal t log ∥₁) }
 {
     sessions_publish_what_they_list();
 }
@@ -74,7 +79,7 @@ pub fn fresh_workers_know_nothing()
 
 /// So the result of a session lists what the log publishes.
 pub fn results_list_what_is_published()
-    ensures { (x : Beginning) (r : Repo) (calls : List Call) (last : Stage) (states : List EndState) (result : SessionResult) (makes : Makes x calls last) → IsSession x calls last states result → Stands x.start r → x.first.log ≡ Some [] → AllByRecursion IsShare x.jobs → HaveWhatTheyNeed x x.first calls last makes →
+    ensures { (x : Beginning) (r : Repo) (calls : List Call) (last : Stage) (states : List EndState) (result : SessionResult) (makes : Makes x calls last) → IsSession x calls last states result → Stands x.start r → x.first.log ≡ Some [] → AllByRecursion IsShare x.jobs → ListsPaths x.start r →
         (h : WritersLog) × (h.start ≡ x.start) × (h.first ≡ r) × (last.log ≡ Some h.log) × ArePublished x.jobs result.published result.unsure h.last.published }
 {
     sessions_publish_what_they_list();
@@ -101,10 +106,11 @@ pub fn failures_are_counted()
     ensures faulted { (x : Beginning) (calls : List Call) (last : Stage) (states : List EndState) (result : SessionResult) (faults denied : ℕ) → Makes x calls last → IsSession x calls last states result → AreCounted last states faults denied → faults < greatest → x.first.faults + how_many one_if_faulted result.replies ≤ faults }
 {}
 
-/// Where the files stood for a repository with no lock, and the writing end counted neither a fault nor want of memory: no job finds a
-/// lock held or a transaction abandoned, none is left unfinished, and no file is left behind.
+/// Where the files stood for a repository with no lock, their list of filelogs had only names of paths, and the writing end counted neither
+/// a fault nor want of memory: no job finds a lock held or a transaction abandoned, none is left unfinished, no file is left behind, and
+/// the list has again only names of paths.
 pub fn sessions_without_failures_are_clean()
-    ensures { (x : Beginning) (calls : List Call) (last : Stage) (makes : Makes x calls last) → IsCleanAt x.start x.first → AllByRecursion IsShare x.jobs → HaveWhatTheyNeed x x.first calls last makes → last.faults ≡ x.first.faults → last.denied ≡ x.first.denied → x.first.faults < greatest → x.first.denied < greatest → AllByRecursion IsUnharmed calls × IsCleanAt x.start last }
+    ensures { (x : Beginning) (calls : List Call) (last : Stage) (makes : Makes x calls last) → (at : IsCleanAt x.start x.first) → AllByRecursion IsShare x.jobs → ListsPaths (after_all at.log x.start) at.repository → last.faults ≡ x.first.faults → last.denied ≡ x.first.denied → x.first.faults < greatest → x.first.denied < greatest → AllByRecursion IsUnharmed calls × (now : IsCleanAt x.start last) × ListsPaths (after_all now.log x.start) now.repository }
 {
     calls_leave_what_they_answer();
     calls_clean_up();
@@ -126,11 +132,15 @@ pub fn workers_never_fall_back()
     questions_beside_writers();
 }
 
-/// All of this together of a session that has a result, over files that stood for a repository and have what its commits need.
+/// All of this together of a session that has a result, over files that stood for a repository and whose list of filelogs had only names
+/// of paths. It has these still.
 pub fn sessions_keep_their_history()
-    ensures { (x : Beginning) (r : Repo) (calls : List Call) (last : Stage) (states : List EndState) (result : SessionResult) (makes : Makes x calls last) → IsSession x calls last states result → Stands x.start r → x.first.log ≡ Some [] → AllByRecursion IsShare x.jobs → HaveWhatTheyNeed x x.first calls last makes → KeepsHistory x r calls last makes result }
+    ensures { (x : Beginning) (r : Repo) (calls : List Call) (last : Stage) (states : List EndState) (result : SessionResult) (makes : Makes x calls last) → IsSession x calls last states result → Stands x.start r → x.first.log ≡ Some [] → AllByRecursion IsShare x.jobs → ListsPaths x.start r → KeepsHistory x r calls last makes result }
 {
     sessions_publish_what_they_list();
+    writers_keep_lists();
+    stands_for_one();
+    files_of_standing_trees();
     sessions_make_legal_logs();
     results_list_what_is_published();
     sessions_do_each_job_once();

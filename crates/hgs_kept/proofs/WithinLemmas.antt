@@ -32,9 +32,9 @@ use Rattle.hgs_shown.specs.Limits.{IsSmallTree}
 use Rattle.hgs_stands.specs.Stands.{Stands}
 use Rattle.hgs_legal.specs.LegalLog.{Acts, Doing, Goes, Idle, IsRun, IsTurn, Leaves, Preparing, Run, State, Turn, Working, begins, breaks, breaks_after, breaks_undo, current, drops_journal, drops_none, finished, finishes, gives_up, goes_on_knocking, goes_on_undoing, is_refused, journals, knocks, knocks_again, last_repo, newly, prepares, removes, start_of, stays, undoes, undone, worked, works}
 use Rattle.hgs_legal.specs.Numbers.{StopsAt, acknowledged_of, repo_at}
+use Rattle.hgs_legal.specs.Theorems.Idle.{Safe, StandsIdle, idle-stands}
 use Rattle.hgs_legal.specs.Theorems.Runs.{run-join}
 use Rattle.hgs_kept.specs.Within.{AreFew, AreFewBehind, AreShort, GoesBy, IsCounted, IsRunBy, IsWithin}
-use Rattle.hgs_kept.proofs.RunLemmas.{Safe, StandsIdle, idle-stands}
 
 -- ---- one command
 

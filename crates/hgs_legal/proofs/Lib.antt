@@ -18,3 +18,12 @@ pub mod Growing
 pub mod EndLemmas
 pub mod FrontLemmas
 pub mod BehindLemmas
+pub mod ListLines
+pub mod ListOps
+pub mod ListCommits
+pub mod ListSettles
+pub mod ListRuns
+pub mod ListEnds
+pub mod ListPieces
+pub mod ListTests
+pub mod ListLaid

@@ -2,6 +2,7 @@
 -- that a contract cites.
 pub mod TreeFacts
 pub mod Runs
+pub mod Idle
 pub mod Prefixes
 pub mod StopLemmas
 pub mod Protocol

@@ -5,7 +5,7 @@ use Rattle.hgs_files.specs.declared.op.Op.{Op}
 use Rattle.hgs_files.specs.Log.{IsDone}
 use Rattle.hgs_files.specs.Stop.{IsStopped, StopLeaves}
 use Rattle.hgs_files.specs.Tree.{Tree, after_all}
-use Rattle.hgs_journal.specs.Covers.{Covers, is_loose, undo_ops}
+use Rattle.hgs_journal.specs.Covers.{Covers, IsRestored, Restores, is_loose, undo_ops}
 use Rattle.hgs_journal.specs.Names.{journal_path}
 use Rattle.hgs_model.specs.Repo.{Repo}
 use Rattle.hgs_ops.specs.Operations.{strays}
@@ -121,6 +121,16 @@ module _ (b : Below) where
     left-open Fault swept log h = inr (nothing-done log h.0)
     left-open Unfinished swept log (ops, e, h) = inr (still-open ops log h.op h.left e h.done)
     left-open Memory swept log h = inr (nothing-done log h.0)
+
+  -- from a tree that covers another, its files are those of that one
+  pub covered-restored : (t q : Tree) (swept : Bool) (log : List Op) → Covers strays t q → RecoversBy t Restored swept log → Restores strays (after_all log t) q
+  covered-restored t q swept log c (ops, e, h) path free =
+      subst (λ (l : List Op). IsRestored (after_all l t path) (q path)) (sym h.whole)
+      (subst (λ (f : Option (List ℕ)). IsRestored f (q path)) (sym (ap (λ (u : Tree). u path) (after_all-append h.undone h.removed t) ∙ all-others-stay (after_all h.undone t) swept h.removed path h.clears free))
+      (subst (λ (u : Tree). IsRestored (u path) (q path)) (sym undone) (b.leads strays t q c.journal c.backups refl (leads-back b t q c) path free)))
+    where
+      undone : after_all h.undone t ≡ after_all (undo_ops t c.journal c.backups) t
+      undone = b.joins ops h.undone [] t h.done ∙ ap (λ (l : List Op). after_all l t) (ops-are ops (undo_ops t c.journal c.backups) (sym e ∙ found-open b t q c))
 
   -- ---- from an open tree
 

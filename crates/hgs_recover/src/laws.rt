@@ -3,7 +3,7 @@ ghost use Rattle.std.specs.Prelude.{◌≡◌, ◌⊎◌, ℕ, Bool, List, None,
 ghost use Rattle.hgs_files.specs.declared.op.Op.{Op};
 ghost use Rattle.hgs_files.specs.Stop.{StopLeaves};
 ghost use Rattle.hgs_files.specs.Tree.{Tree, after_all};
-ghost use Rattle.hgs_journal.specs.Covers.{is_loose};
+ghost use Rattle.hgs_journal.specs.Covers.{Covers, Restores, is_loose};
 ghost use Rattle.hgs_journal.specs.Names.{journal_path};
 ghost use Rattle.hgs_model.specs.Repo.{Repo};
 ghost use Rattle.hgs_ops.specs.Operations.{strays};
@@ -18,12 +18,13 @@ use hgs_files::laws::{pieces_join, pieces_of_pieces};
 use hgs_journal::laws::{texts_read, undo_leads_back, undo_may_stop};
 use hgs_stands::laws::{open_trees_lead_back, other_files_do_not_matter};
 
-/// From a tree that is open for a repository, recovering leads to one that stands for it, and has no locks where all was
-/// swept. Wherever it is stopped, the tree is still open for it or stands for it; and where it does not end well the tree is
+/// From a tree that is open for a repository, recovering leads to one that stands for it, with the files of the tree before the
+/// transaction, locks, strays and empty files aside, and has no locks where all was swept. Wherever it is stopped, the tree is still open for it or stands for it; and where it does not end well the tree is
 /// open as before.
 pub fn recovering_leads_back()
     ensures found { (t : Tree) (r : Repo) → IsOpen strays t r → answer_in t ≡ Restored }
     ensures leads { (t : Tree) (r : Repo) (swept : Bool) (log : List Op) → IsOpen strays t r → RecoversBy t Restored swept log → Stands (after_all log t) r }
+    ensures restores { (t q : Tree) (swept : Bool) (log : List Op) → Covers strays t q → RecoversBy t Restored swept log → Restores strays (after_all log t) q }
     ensures swept { (t : Tree) (r : Repo) (log : List Op) → IsOpen strays t r → RecoversBy t Restored true log → IsClean (after_all log t) r }
     ensures stops { (t u : Tree) (r : Repo) (answer : RecoverAnswer) (swept : Bool) (log : List Op) → IsOpen strays t r → RecoversBy t answer swept log → StopLeaves t log u → IsOpen strays u r ⊎ Stands u r }
     ensures left { (t : Tree) (r : Repo) (answer : RecoverAnswer) (swept : Bool) (log : List Op) → IsOpen strays t r → RecoversBy t answer swept log → (answer ≡ Restored) ⊎ IsOpen strays (after_all log t) r }

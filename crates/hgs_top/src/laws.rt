@@ -27,7 +27,7 @@ ghost use Rattle.hgs_machine.specs.Refusals.{WereRefused};
 ghost use Rattle.hgs_model.specs.Valid.{IsValid};
 ghost use Rattle.hgs_model.specs.declared.command.Command.{Command};
 ghost use Rattle.hgs_stands.specs.Stands.{Stands};
-ghost use Rattle.hgs_writer.specs.Alone.{HasWhatItNeeds};
+ghost use Rattle.hgs_legal.specs.ListsPaths.{ListsOnlyPaths};
 ghost use Rattle.hgs_top.specs.Histories.{GoesOnAs, IsTold, MakesHistory};
 ghost use Rattle.hgs_top.specs.Orders.{ComesTo, IsCommandOf, Obeys};
 ghost use Rattle.hgs_top.specs.declared.ended.Ended.TheVariants.{Answered};
@@ -90,18 +90,18 @@ pub fn commands_are_valid()
     read_imports_are_imports();
 }
 
-/// Over files that stand for a repository, and have what a commit needs of them that no test tells, the operations of a command
-/// that was answered are pieces of a legal log of just that command; the files then stand for what its answer says; and wherever
-/// it is stopped, they stand for the repository before, or are open for it, or stand for the next one.
+/// Over files that stand for a repository, and whose list of filelogs has only names of paths, the operations of a command that was
+/// answered are pieces of a legal log of just that command; the files then stand for what its answer says, with such a list again; and
+/// wherever it is stopped, they stand for the repository before, or are open for it, or stand for the next one.
 pub fn answered_commands_make_histories()
-    ensures { (job : Job) (left : Option (List ℕ)) (log : List Op) (new : Option (List Op)) (start : Tree) (r : Repo) (command : Command) (answer : Answer) → Stands (after_all log start) r → IsValid command → HasWhatItNeeds (after_all log start) r command →
+    ensures { (job : Job) (left : Option (List ℕ)) (log : List Op) (new : Option (List Op)) (start : Tree) (r : Repo) (command : Command) (answer : Answer) → Stands (after_all log start) r → IsValid command → ListsOnlyPaths (after_all log start) →
         ComesTo job left (Some log) new start (Answered command answer) → GoesOnAs log new start r command answer.outcome }
 {
     calls_leave_what_they_answer();
 }
 
 /// So a run that did what its words ask for, if that is a command whose operations are those of a transaction, made pieces of a
-/// legal log of the repository that the files stood for, or nothing.
+/// legal log of the repository that the files stood for, or nothing, where their list of filelogs had only names of paths.
 pub fn runs_make_histories()
     ensures { (words : List (List ℕ)) (left : Option (List ℕ)) (old new : Option (List Op)) (start : Tree) (status : ℕ) (written_old written_new : Option (List ℕ)) (faults_old faults_new denied_old denied_new : ℕ) → Obeys (λ n. WereRefused n faults_old faults_new denied_old denied_new) (request_of_words words) left old new start status written_old written_new → MakesHistory words left old new start }
 {

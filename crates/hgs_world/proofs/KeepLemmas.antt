@@ -5,6 +5,7 @@ use Rattle.hgs_files.specs.declared.op.Op.{Op}
 use Rattle.hgs_files.specs.declared.op.Op.TheVariants as ops
 use Rattle.hgs_files.specs.Tree.{Tree, after_all}
 use Rattle.hgs_index.specs.declared.node.Node.{Node}
+use Rattle.hgs_legal.specs.ListsPaths.{ListsOnlyPaths, ListsPaths}
 use Rattle.hgs_machine.specs.Asked.{Doing, Ending, Question, Sizing, asked, bytes_in, question_of}
 use Rattle.hgs_machine.specs.Fed.{fed, is_acknowledged, is_acknowledged_at, is_published, is_published_at, is_publishing}
 use Rattle.hgs_machine.specs.SoFar.{Fits, stopped_as, stops_as}
@@ -133,51 +134,51 @@ accepted_by : (stepped : Result Next Refusal) → IsOk stepped → (next : Next)
 accepted_by (Ok next) h = (next, refl)
 accepted_by (Err e) h = absurd (let no : ⊥ = cc in no)
 
-done_by : (r : Repo) (older : List Command) (command : Command) (u : Tree) (rev : ℕ) (node : Node) (stepped : Result Next Refusal) → step r command ≡ stepped → Replays empty_repo older r → IsDoneAs stepped rev node u
+done_by : (r : Repo) (older : List Command) (command : Command) (u : Tree) (rev : ℕ) (node : Node) (stepped : Result Next Refusal) → step r command ≡ stepped → ListsOnlyPaths u → Replays empty_repo older r → IsDoneAs stepped rev node u
     → AtRest u (ended_in (noted true true (book_of older command)))
-done_by r older command u rev node (Ok next) e leads h = stands next.0 (older ++ command ∷ []) (leads_on empty_repo r older command next leads e) h.0
-done_by r older command u rev node (Err x) e leads h = absurd h
+done_by r older command u rev node (Ok next) e lists leads h = stands next.0 (older ++ command ∷ []) (leads_on empty_repo r older command next leads e) h.0 (lists next.0 (inl h.0))
+done_by r older command u rev node (Err x) e lists leads h = absurd h
 
-left_by : (r : Repo) (older : List Command) (command : Command) (u : Tree) → Replays empty_repo older r → IsOpen strays u r ⊎ Stands u r → AtRest u (ended_in (noted false false (book_of older command)))
-left_by r older command u leads (inl o) = is_open r older leads o
-left_by r older command u leads (inr s) = stands r older leads s
+left_by : (r : Repo) (older : List Command) (command : Command) (u : Tree) → ListsOnlyPaths u → Replays empty_repo older r → IsOpen strays u r ⊎ Stands u r → AtRest u (ended_in (noted false false (book_of older command)))
+left_by r older command u lists leads (inl o) = is_open r older leads o (lists r (inr o))
+left_by r older command u lists leads (inr s) = stands r older leads s (lists r (inl s))
 
-publishes_by : (r : Repo) (older : List Command) (command : Command) (u : Tree) → Replays empty_repo older r → IsOk (step r command) → IsOpen strays u r → AtRest u (ended_in (noted true false (book_of older command)))
-publishes_by r older command u leads ok o =
+publishes_by : (r : Repo) (older : List Command) (command : Command) (u : Tree) → ListsOnlyPaths u → Replays empty_repo older r → IsOk (step r command) → IsOpen strays u r → AtRest u (ended_in (noted true false (book_of older command)))
+publishes_by r older command u lists leads ok o =
     let next = accepted_by (step r command) ok in
-    has_published r older command next.0 leads next.1 o
+    has_published r older command next.0 leads next.1 o (lists r (inr o))
 
-ended_so : (r : Repo) (older : List Command) (command : Command) (u : Tree) (rev : ℕ) (node : Node) (o : Short) → Replays empty_repo older r → IsAnswered r (step r command) (outcome_of_ended o rev node) u
+ended_so : (r : Repo) (older : List Command) (command : Command) (u : Tree) (rev : ℕ) (node : Node) (o : Short) → ListsOnlyPaths u → Replays empty_repo older r → IsAnswered r (step r command) (outcome_of_ended o rev node) u
     → AtRest u (ended_in (noted (is_published_at stages.Sweeping o) (is_acknowledged_at stages.Sweeping o) (book_of older command)))
-ended_so r older command u rev node AllDone leads h = done_by r older command u rev node (step r command) refl leads h
-ended_so r older command u rev node Fault leads h = stands r older leads h
-ended_so r older command u rev node OutOfMemory leads h = stands r older leads h
-ended_so r older command u rev node (Unfinished No) leads h = left_by r older command u leads h.1
-ended_so r older command u rev node (Unfinished Yes) leads h = publishes_by r older command u leads h.0 h.1
-ended_so r older command u rev node (Unfinished Unknown) leads h = left_by r older command u leads (inl h.1)
+ended_so r older command u rev node AllDone lists leads h = done_by r older command u rev node (step r command) refl lists leads h
+ended_so r older command u rev node Fault lists leads h = stands r older leads h (lists r (inl h))
+ended_so r older command u rev node OutOfMemory lists leads h = stands r older leads h (lists r (inl h))
+ended_so r older command u rev node (Unfinished No) lists leads h = left_by r older command u lists leads h.1
+ended_so r older command u rev node (Unfinished Yes) lists leads h = publishes_by r older command u lists leads h.0 h.1
+ended_so r older command u rev node (Unfinished Unknown) lists leads h = left_by r older command u lists leads (inl h.1)
 
-published_in_part : (r : Repo) (older : List Command) (command : Command) (u : Tree) (rev : ℕ) (node : Node) (b : Bool) → Replays empty_repo older r
+published_in_part : (r : Repo) (older : List Command) (command : Command) (u : Tree) (rev : ℕ) (node : Node) (b : Bool) → ListsOnlyPaths u → Replays empty_repo older r
     → IsAnswered r (step r command) (outcome_of_ended (if b then Unfinished Unknown else Unfinished No) rev node) u → AtRest u (ended_in (noted false false (book_of older command)))
-published_in_part r older command u rev node true leads h = left_by r older command u leads (inl h.1)
-published_in_part r older command u rev node false leads h = left_by r older command u leads h.1
+published_in_part r older command u rev node true lists leads h = left_by r older command u lists leads (inl h.1)
+published_in_part r older command u rev node false lists leads h = left_by r older command u lists leads h.1
 
-stopped_so : (r : Repo) (older : List Command) (command : Command) (u : Tree) (rev : ℕ) (node : Node) (s : Stage) (bytes : ℕ) (o : Short) → Replays empty_repo older r → IsAnswered r (step r command) (outcome_of_ended (stops_as s bytes o) rev node) u
+stopped_so : (r : Repo) (older : List Command) (command : Command) (u : Tree) (rev : ℕ) (node : Node) (s : Stage) (bytes : ℕ) (o : Short) → ListsOnlyPaths u → Replays empty_repo older r → IsAnswered r (step r command) (outcome_of_ended (stops_as s bytes o) rev node) u
     → AtRest u (ended_in (noted (is_published_at s o) (is_acknowledged_at s o) (book_of older command)))
-stopped_so r older command u rev node stages.Preparing bytes o leads h = stands r older leads h
-stopped_so r older command u rev node stages.Beginning bytes o leads h = left_by r older command u leads h.1
-stopped_so r older command u rev node stages.Working bytes o leads h = left_by r older command u leads h.1
-stopped_so r older command u rev node stages.Publishing bytes o leads h = published_in_part r older command u rev node (nat_lt 0 bytes) leads h
-stopped_so r older command u rev node stages.Asking bytes o leads h = left_by r older command u leads (inl h.1)
-stopped_so r older command u rev node stages.Finishing bytes o leads h = publishes_by r older command u leads h.0 h.1
-stopped_so r older command u rev node stages.Undoing bytes o leads h = left_by r older command u leads h.1
-stopped_so r older command u rev node stages.Dropping bytes o leads h = left_by r older command u leads h.1
-stopped_so r older command u rev node stages.Sweeping bytes o leads h = ended_so r older command u rev node o leads h
-stopped_so r older command u rev node stages.Removing bytes o leads h = ended_so r older command u rev node o leads h
+stopped_so r older command u rev node stages.Preparing bytes o lists leads h = stands r older leads h (lists r (inl h))
+stopped_so r older command u rev node stages.Beginning bytes o lists leads h = left_by r older command u lists leads h.1
+stopped_so r older command u rev node stages.Working bytes o lists leads h = left_by r older command u lists leads h.1
+stopped_so r older command u rev node stages.Publishing bytes o lists leads h = published_in_part r older command u rev node (nat_lt 0 bytes) lists leads h
+stopped_so r older command u rev node stages.Asking bytes o lists leads h = left_by r older command u lists leads (inl h.1)
+stopped_so r older command u rev node stages.Finishing bytes o lists leads h = publishes_by r older command u lists leads h.0 h.1
+stopped_so r older command u rev node stages.Undoing bytes o lists leads h = left_by r older command u lists leads h.1
+stopped_so r older command u rev node stages.Dropping bytes o lists leads h = left_by r older command u lists leads h.1
+stopped_so r older command u rev node stages.Sweeping bytes o lists leads h = ended_so r older command u rev node o lists leads h
+stopped_so r older command u rev node stages.Removing bytes o lists leads h = ended_so r older command u rev node o lists leads h
 
 -- a writer whose machine stands here, and that does nothing more
-pub rests : (r : Repo) (older : List Command) (command : Command) (u : Tree) (rev : ℕ) (node : Node) (m : Machine) → Replays empty_repo older r → IsAnswered r (step r command) (outcome_of_ended (stopped_as m) rev node) u
+pub rests : (r : Repo) (older : List Command) (command : Command) (u : Tree) (rev : ℕ) (node : Node) (m : Machine) → ListsOnlyPaths u → Replays empty_repo older r → IsAnswered r (step r command) (outcome_of_ended (stopped_as m) rev node) u
     → AtRest u (ended_in (noted (is_published m) (is_acknowledged m) (book_of older command)))
-rests r older command u rev node m leads h = stopped_so r older command u rev node m.stage (bytes_in (slice_get m.plan.ops.items m.done)) m.outcome leads h
+rests r older command u rev node m lists leads h = stopped_so r older command u rev node m.stage (bytes_in (slice_get m.plan.ops.items m.done)) m.outcome lists leads h
 
 -- ---- what follows of the commands
 
@@ -188,20 +189,22 @@ pub record FollowsAt (t : Tree) (book : Commands) : Type 0 where
   pub acknowledged : Replays empty_repo (acknowledged_of book) before
   pub published : Replays empty_repo book.published last
   pub files : ((book.acknowledged ≡ length book.published) × Stands t before) ⊎ IsOpen strays t before
+  pub lists : ListsPaths t before
 
 whole_leads : (older : List Command) (r : Repo) → Replays empty_repo older r → Replays empty_repo (take (length older) older) r
 whole_leads older r leads = subst (λ c. Replays empty_repo c r) (sym (take_whole older)) leads
 
 pub follows_at_rest : (t : Tree) (book : Commands) → AtRest t book → FollowsAt t book
-follows_at_rest t _ (stands r older leads s) = record { before = r; last = r; acknowledged = whole_leads older r leads; published = leads; files = inl (refl, s) }
-follows_at_rest t _ (is_open r older leads o) = record { before = r; last = r; acknowledged = whole_leads older r leads; published = leads; files = inr o }
-follows_at_rest t _ (has_published r older command next leads e o) =
+follows_at_rest t _ (stands r older leads s lists) = record { before = r; last = r; acknowledged = whole_leads older r leads; published = leads; files = inl (refl, s); lists = lists }
+follows_at_rest t _ (is_open r older leads o lists) = record { before = r; last = r; acknowledged = whole_leads older r leads; published = leads; files = inr o; lists = lists }
+follows_at_rest t _ (has_published r older command next leads e o lists) =
     record {
       before = r;
       last = next.0;
       acknowledged = subst (λ c. Replays empty_repo c r) (sym (take_older older command)) leads;
       published = leads_on empty_repo r older command next leads e;
       files = inr o;
+      lists = lists;
     }
 
 -- ---- a stop
@@ -221,31 +224,31 @@ rest_some (Some (ops.Create path bytes)) part count h = cc
 rest_some (Some (ops.Sync path)) part count h = cc
 rest_some (Some ops.Settle) part count h = cc
 
-published_whole : (r : Repo) (older : List Command) (command : Command) (u : Tree) (rev : ℕ) (node : Node) (b : Bool) → b ≡ true → Replays empty_repo older r
+published_whole : (r : Repo) (older : List Command) (command : Command) (u : Tree) (rev : ℕ) (node : Node) (b : Bool) → b ≡ true → ListsOnlyPaths u → Replays empty_repo older r
     → IsAnswered r (step r command) (outcome_of_ended (if b then Unfinished Unknown else Unfinished No) rev node) u → AtRest u (ended_in (noted true false (book_of older command)))
-published_whole r older command u rev node true e leads h = publishes_by r older command u leads h.0 h.1
-published_whole r older command u rev node false e leads h = absurd (let no : ⊥ = cc in no)
+published_whole r older command u rev node true e lists leads h = publishes_by r older command u lists leads h.0 h.1
+published_whole r older command u rev node false e lists leads h = absurd (let no : ⊥ = cc in no)
 
 -- the publishing append stands whole
 shown_so : (r : Repo) (older : List Command) (command : Command) (u : Tree) (rev : ℕ) (node : Node) (plan : Plan) (s : Stage) (done place : ℕ) (o : Short) (swept : Bool) (part count : ℕ) →
-    let m : Machine = record { plan = plan; stage = s; done = done; place = place; outcome = o; swept = swept } in (is_publishing m && asks_rest (asked m) part count) ≡ true → Replays empty_repo older r
+    let m : Machine = record { plan = plan; stage = s; done = done; place = place; outcome = o; swept = swept } in (is_publishing m && asks_rest (asked m) part count) ≡ true → ListsOnlyPaths u → Replays empty_repo older r
     → IsAnswered r (step r command) (outcome_of_ended (stopped_as m) rev node) u → AtRest u (ended_in (noted true false (book_of older command)))
-shown_so r older command u rev node plan stages.Preparing done place o swept part count e leads h = absurd (let no : ⊥ = cc in no)
-shown_so r older command u rev node plan stages.Beginning done place o swept part count e leads h = absurd (let no : ⊥ = cc in no)
-shown_so r older command u rev node plan stages.Working done place o swept part count e leads h = absurd (let no : ⊥ = cc in no)
-shown_so r older command u rev node plan stages.Publishing done place o swept part count e leads h =
-    published_whole r older command u rev node (nat_lt 0 (bytes_in (slice_get plan.ops.items done))) (rest_some (slice_get plan.ops.items done) part count e) leads h
-shown_so r older command u rev node plan stages.Asking done place o swept part count e leads h = absurd (let no : ⊥ = cc in no)
-shown_so r older command u rev node plan stages.Finishing done place o swept part count e leads h = absurd (let no : ⊥ = cc in no)
-shown_so r older command u rev node plan stages.Undoing done place o swept part count e leads h = absurd (let no : ⊥ = cc in no)
-shown_so r older command u rev node plan stages.Dropping done place o swept part count e leads h = absurd (let no : ⊥ = cc in no)
-shown_so r older command u rev node plan stages.Sweeping done place o swept part count e leads h = absurd (let no : ⊥ = cc in no)
-shown_so r older command u rev node plan stages.Removing done place o swept part count e leads h = absurd (let no : ⊥ = cc in no)
+shown_so r older command u rev node plan stages.Preparing done place o swept part count e lists leads h = absurd (let no : ⊥ = cc in no)
+shown_so r older command u rev node plan stages.Beginning done place o swept part count e lists leads h = absurd (let no : ⊥ = cc in no)
+shown_so r older command u rev node plan stages.Working done place o swept part count e lists leads h = absurd (let no : ⊥ = cc in no)
+shown_so r older command u rev node plan stages.Publishing done place o swept part count e lists leads h =
+    published_whole r older command u rev node (nat_lt 0 (bytes_in (slice_get plan.ops.items done))) (rest_some (slice_get plan.ops.items done) part count e) lists leads h
+shown_so r older command u rev node plan stages.Asking done place o swept part count e lists leads h = absurd (let no : ⊥ = cc in no)
+shown_so r older command u rev node plan stages.Finishing done place o swept part count e lists leads h = absurd (let no : ⊥ = cc in no)
+shown_so r older command u rev node plan stages.Undoing done place o swept part count e lists leads h = absurd (let no : ⊥ = cc in no)
+shown_so r older command u rev node plan stages.Dropping done place o swept part count e lists leads h = absurd (let no : ⊥ = cc in no)
+shown_so r older command u rev node plan stages.Sweeping done place o swept part count e lists leads h = absurd (let no : ⊥ = cc in no)
+shown_so r older command u rev node plan stages.Removing done place o swept part count e lists leads h = absurd (let no : ⊥ = cc in no)
 
 -- A machine that has come this far stops, of which no more was noted than this: it has published where its publishing operation stands whole.
 pub rests_stopped : (r : Repo) (older : List Command) (command : Command) (u : Tree) (w : Working) (count : ℕ) (p a : Bool) → (p ≡ true → is_published w.machine ≡ true) → (a ≡ true → p ≡ true) → is_acknowledged w.machine ≡ a
-    → Replays empty_repo older r → IsAnswered r (step r command) (outcome_of_ended (stopped_as w.machine) w.rev w.node) u → AtRest u (ended_in (noted (publishes_with count w) false (noted p a (book_of older command))))
-rests_stopped r older command u w count p a comes sooner is leads h = by (is_published m) whole p a refl refl is comes sooner
+    → ListsOnlyPaths u → Replays empty_repo older r → IsAnswered r (step r command) (outcome_of_ended (stopped_as w.machine) w.rev w.node) u → AtRest u (ended_in (noted (publishes_with count w) false (noted p a (book_of older command))))
+rests_stopped r older command u w count p a comes sooner is lists leads h = by (is_published m) whole p a refl refl is comes sooner
   where
     m : Machine
     m = w.machine
@@ -257,7 +260,7 @@ rests_stopped r older command u w count p a comes sooner is leads h = by (is_pub
     as_come : (q b : Bool) → is_published m ≡ q → is_acknowledged m ≡ b → AtRest u (ended_in (noted q b (book_of older command)))
     as_come q b e f =
         subst (λ x. AtRest u (ended_in (noted x b (book_of older command)))) e
-        (subst (λ x. AtRest u (ended_in (noted (is_published m) x (book_of older command)))) f (rests r older command u w.rev w.node m leads h))
+        (subst (λ x. AtRest u (ended_in (noted (is_published m) x (book_of older command)))) f (rests r older command u w.rev w.node m lists leads h))
 
     by : (q shown p a : Bool) → is_published m ≡ q → whole ≡ shown → is_acknowledged m ≡ a → (p ≡ true → q ≡ true) → (a ≡ true → p ≡ true) → AtRest u (ended_in (noted (q || shown) false (noted p a (book_of older command))))
     by true shown true true e f g comes sooner = as_come true true e g
@@ -266,5 +269,5 @@ rests_stopped r older command u w count p a comes sooner is leads h = by (is_pub
     by true shown false false e f g comes sooner = as_come true false e g
     by false shown true a e f g comes sooner = absurd (let k = comes refl in let no : ⊥ = cc in no)
     by false shown false true e f g comes sooner = absurd (let k = sooner refl in let no : ⊥ = cc in no)
-    by false true false false e f g comes sooner = shown_so r older command u w.rev w.node m.plan m.stage m.done m.place m.outcome m.swept w.part count f leads h
+    by false true false false e f g comes sooner = shown_so r older command u w.rev w.node m.plan m.stage m.done m.place m.outcome m.swept w.part count f lists leads h
     by false false false false e f g comes sooner = as_come false false e g

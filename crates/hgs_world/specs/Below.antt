@@ -1,10 +1,14 @@
 -- What the laws of the crates below say.
 use Rattle.std.specs.Prelude.{◌≡◌, ◌⊎◌, ℕ, List, [], ◌++◌, Bool, true, false, Option, None}
+use Rattle.hgs_bytes.specs.Bytes.{same}
 use Rattle.std.specs.List.{AllByRecursion}
 use Rattle.hgs_answers.specs.declared.answer.Answer.{Answer}
 use Rattle.hgs_files.specs.declared.op.Op.{Op}
+use Rattle.hgs_files.specs.Stop.{StopLeaves}
 use Rattle.hgs_files.specs.Tree.{Tree, after_all, bytes_at}
+use Rattle.hgs_journal.specs.Covers.{Covers, Restores, is_loose}
 use Rattle.hgs_journal.specs.Names.{journal_path}
+use Rattle.hgs_legal.specs.ListsPaths.{ListsOnlyPaths, ListsPaths}
 use Rattle.hgs_legal.specs.Pieces.{Piece}
 use Rattle.hgs_machine.specs.Asked.{asked}
 use Rattle.hgs_machine.specs.Course.{CarriedOut, lock_removals}
@@ -19,16 +23,17 @@ use Rattle.hgs_model.specs.Repo.{Repo, empty_repo}
 use Rattle.hgs_model.specs.Step.{step}
 use Rattle.hgs_model.specs.Valid.{IsValid}
 use Rattle.hgs_model.specs.declared.command.Command.{Command}
-use Rattle.hgs_ops.specs.Operations.{strays}
+use Rattle.hgs_ops.specs.Operations.{lock_path, strays, wlock_path}
 use Rattle.hgs_recover.specs.Found.{answer_in}
 use Rattle.hgs_recover.specs.Recovering.{RecoversBy}
+use Rattle.hgs_recover.specs.declared.answer.RecoverAnswer.{RecoverAnswer}
 use Rattle.hgs_recover.specs.declared.answer.RecoverAnswer.TheVariants.{NothingToDo, Restored}
 use Rattle.hgs_stands.specs.Open.{IsOpen}
-use Rattle.hgs_stands.specs.Places.{store_files}
+use Rattle.hgs_stands.specs.Places.{fncache_path, store_files}
 use Rattle.hgs_stands.specs.Requires.{IsInProfile}
 use Rattle.hgs_stands.specs.Stands.{IsClean, Stands}
 use Rattle.hgs_transaction.specs.declared.assemble.Plan.{Plan}
-use Rattle.hgs_writer.specs.Alone.{HasWhatItNeeds, IsAnswered}
+use Rattle.hgs_writer.specs.Alone.{IsAnswered}
 use Rattle.hgs_writer.specs.Written.{IsWritten}
 
 -- what the laws of machines say
@@ -53,7 +58,16 @@ pub record Laws : Type 0 where
   pub progress : Progress
   pub begins : (t : Tree) (plan : Plan) → IsPlanned t plan → SoFar t (new_machine plan) []
   pub stop : (t : Tree) (m : Machine) (log more : List Op) → SoFar t m log → IsInPart (asked m) more → CarriedOut t m.plan (stopped_as m) false (log ++ more)
-  pub answered : (t : Tree) (r : Repo) (command : Command) (who : List ℕ) (answer : Answer) (done : List Op) → Stands t r → IsValid command → HasWhatItNeeds t r command → IsWritten who command t answer done → IsAnswered r (step r command) answer.outcome (after_all done t)
+  pub answered : (t : Tree) (r : Repo) (command : Command) (who : List ℕ) (answer : Answer) (done : List Op) → Stands t r → IsValid command → ListsPaths t r → IsWritten who command t answer done → IsAnswered r (step r command) answer.outcome (after_all done t)
+  pub lists : (t : Tree) (r : Repo) (command : Command) (who : List ℕ) (answer : Answer) (done : List Op) → Stands t r → IsValid command → ListsPaths t r → IsWritten who command t answer done → ListsOnlyPaths (after_all done t)
+  pub piece_lists : (t : Tree) (r next : Repo) (log : List Op) → Stands t r → ListsPaths t r → Piece t r log next → ListsPaths (after_all log t) next
+  pub same_list : (t u : Tree) (r : Repo) → bytes_at u fncache_path ≡ bytes_at t fncache_path → ListsPaths t r → ListsPaths u r
+  pub covered_list : (u q : Tree) (r : Repo) → Covers strays u q → ListsPaths u r → ListsPaths q r
+  pub restored_list : (u q : Tree) (r : Repo) → Restores strays u q → ListsPaths q r → ListsPaths u r
+  pub no_list : (t : Tree) (r : Repo) → bytes_at t fncache_path ≡ [] → ListsPaths t r
+  pub turned_away_others : (t : Tree) (who : List ℕ) (why : LockRefusal) (log : List Op) (path : List ℕ) → IsTurnedAway who t why true log → same path wlock_path ≡ false → same path lock_path ≡ false → after_all log t path ≡ t path
+  pub recovered_others : (t u : Tree) (answer : RecoverAnswer) (swept : Bool) (log : List Op) (path : List ℕ) → t journal_path ≡ None → RecoversBy t answer swept log → StopLeaves t log u → is_loose strays path ≡ false → u path ≡ t path
+  pub restores : (t q : Tree) (swept : Bool) (log : List Op) → Covers strays t q → RecoversBy t Restored swept log → Restores strays (after_all log t) q
   pub turned_away : (t : Tree) (r : Repo) (who : List ℕ) (why : LockRefusal) (swept : Bool) (log : List Op) → IsTurnedAway who t why swept log → (log ≡ []) ⊎ Piece t r log r
   pub released : (t : Tree) (r : Repo) (who : List ℕ) (swept : Bool) (locking releasing : List Op) → AreLocked who t locking → AreRemoved lock_removals swept releasing → Piece t r (locking ++ releasing) r
   pub piece_stands : (t : Tree) (r next : Repo) (log : List Op) → Stands t r → Piece t r log next → Stands (after_all log t) next

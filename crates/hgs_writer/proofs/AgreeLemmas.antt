@@ -50,7 +50,8 @@ use Rattle.hgs_writer.specs.Free.{HasRoomFor, IsFree, new_lines}
 use Rattle.hgs_writer.specs.Growth.{AreGrownFilesOf, IsWhole}
 use Rattle.hgs_writer.specs.Logs.{IsLogOf}
 use Rattle.hgs_writer.specs.NewTexts.{growth_by}
-use Rattle.hgs_writer.specs.Ready.{NeedsNoTest}
+use Rattle.hgs_legal.specs.ListsPaths.{ListsPaths}
+use Rattle.hgs_writer.specs.BytePaths.{HasBytePaths}
 use Rattle.hgs_writer.specs.StepsBelow.{StepsBelow}
 use Rattle.hgs_writer.specs.Trees.{AreBelow, AreTextsOf, IsTreeOf}
 use Rattle.hgs_writer.proofs.Basics.{IsLimited, both, ok-is}
@@ -112,7 +113,7 @@ copied-answer r n parents copies = copies >>= λ copied. answer-of r (new_change
 module _ (laws : Below) (more : StepsBelow) (t : Tree) (r : Repo) (l : Loaded) (s : Stands t r) (loads : IsLoadedOf t l) (changelog : IsLogOf t (of_changelog l.changelog) (history r.changesets).changelog) (changelog_whole : IsWhole t (of_changelog l.changelog)) (manifest : IsLogOf t (of_manifest l.manifest) (history r.changesets).manifest) (manifest_whole : IsWhole t (of_manifest l.manifest))
     (n : NewChange) (good : IsNewChange n) (clash : Option (List ℕ)) (parents : Parents) (below : AreBelow (length r.changesets) parents)
     (files : (x : OfGrown × Parents) → grown_in l n parents t ≡ Ok (x, []) → AreGrownFilesOf t r (next r n parents) x.0) (keeps : nothing_changed r (new_changeset (history r.changesets) parents n) ≡ None → IsRepo (next r n parents))
-    (is_ready : (x : OfGrown × Parents) (z : OfTexts) → has_inline l ≡ false → grown_in l n parents t ≡ Ok (x, []) → texts_in l n parents x.0 x.1 t ≡ Ok (z, []) → ClashOn l n (trees_in l n parents t) None None → standing (history r.changesets).changelog (changeset_revision (history r.changesets) (new_changeset (history r.changesets) parents n)).text parents ≡ None → NeedsNoTest t r (next r n parents) → IsReady t r (Commit n) (next r n parents)) where
+    (is_ready : (x : OfGrown × Parents) (z : OfTexts) → has_inline l ≡ false → grown_in l n parents t ≡ Ok (x, []) → texts_in l n parents x.0 x.1 t ≡ Ok (z, []) → ClashOn l n (trees_in l n parents t) None None → standing (history r.changesets).changelog (changeset_revision (history r.changesets) (new_changeset (history r.changesets) parents n)).text parents ≡ None → long_list l (length z.lines) ≡ [] → ListsPaths t r → HasBytePaths n → IsReady t r (Commit n) (next r n parents)) where
   -- it was told whether names clash
   abbrev IsTold : Type 0
   IsTold = ClashOn l n (trees_in l n parents t) None clash
@@ -205,7 +206,7 @@ module _ (laws : Below) (more : StepsBelow) (t : Tree) (r : Repo) (l : Loaded) (
         replaced g grown (Err fault) is = marks-refused (IsFree t r then-next) l n z.0.changeset.node clash fault (λ free. marks-given more t r l n parents s loads free.bookmarks z.0.changeset.node fault is) is
         replaced g grown (Ok after) is = record {
           as_step = step-of next_is new none.0 none.1 none.2 none.4 g grown after is;
-          ready = λ told. is_ready y.0 z.0 (separate-by none.4) (e ∙ ap (λ (os : List Obstacle). Ok (y.0, os)) none.1) (texts_is ∙ ap (λ (os : List Obstacle). Ok (z.0, os)) none.2) (subst (ClashOn l n (trees_in l n parents t) None) none.5 told) new;
+          ready = λ told. is_ready y.0 z.0 (separate-by none.4) (e ∙ ap (λ (os : List Obstacle). Ok (y.0, os)) none.1) (texts_is ∙ ap (λ (os : List Obstacle). Ok (z.0, os)) none.2) (subst (ClashOn l n (trees_in l n parents t) None) none.5 told) new none.3;
         }
 
         by : (o : Option OfGrowth) → z.0.changeset.growth ≡ growth_by (of_changelog l.changelog) (changeset_revision h c) None → z.0.changeset.growth ≡ o → AnswersWith IsTold t r n clash (or_refused (and_plan (written_new z.0 o) (λ w. step_of l n parents w)) accepted) (Ok (done_at then-next (length r.changesets)))
@@ -268,7 +269,7 @@ pub commit-answers : (laws : Below) (more : StepsBelow) (t : Tree) (r : Repo) (l
     → (n : NewChange) → IsNewChange n → (clash : Option (List ℕ)) → ((e : Refusal) → model_named_all r n.parents ≡ Err e → (commit_in clash l n t ≡ Err (Refused (refused_for e))) × (step r (Commit n) ≡ Err e))
     → ((revs : List ℕ) → model_named_all r n.parents ≡ Ok revs → (commit_in clash l n t ≡ step_on clash l n (as_parents revs) t) × AreBelow (length r.changesets) (as_parents revs))
     → ((parents : Parents) (x : OfGrown × Parents) → AreBelow (length r.changesets) parents → grown_in l n parents t ≡ Ok (x, []) → AreGrownFilesOf t r (next r n parents) x.0)
-    → ((parents : Parents) (x : OfGrown × Parents) (z : OfTexts) → AreBelow (length r.changesets) parents → copies_hold (history r.changesets) parents n.files ≡ Ok tt → has_inline l ≡ false → grown_in l n parents t ≡ Ok (x, []) → texts_in l n parents x.0 x.1 t ≡ Ok (z, []) → ClashOn l n (trees_in l n parents t) None None → standing (history r.changesets).changelog (changeset_revision (history r.changesets) (new_changeset (history r.changesets) parents n)).text parents ≡ None → NeedsNoTest t r (next r n parents) → IsReady t r (Commit n) (next r n parents))
+    → ((parents : Parents) (x : OfGrown × Parents) (z : OfTexts) → AreBelow (length r.changesets) parents → copies_hold (history r.changesets) parents n.files ≡ Ok tt → has_inline l ≡ false → grown_in l n parents t ≡ Ok (x, []) → texts_in l n parents x.0 x.1 t ≡ Ok (z, []) → ClashOn l n (trees_in l n parents t) None None → standing (history r.changesets).changelog (changeset_revision (history r.changesets) (new_changeset (history r.changesets) parents n)).text parents ≡ None → long_list l (length z.lines) ≡ [] → ListsPaths t r → HasBytePaths n → IsReady t r (Commit n) (next r n parents))
     → named_all l n.parents ≡ model_named_all r n.parents → AnswersAs t r l n clash (commit_in clash l n t) (step r (Commit n))
 commit-answers laws more t r l s loads changelog changelog_whole manifest manifest_whole n good clash unknown known files is_ready names = by (model_named_all r n.parents) refl
   where

@@ -44,13 +44,15 @@ use Rattle.hgs_steps.specs.declared.step.Step.{Step}
 use Rattle.hgs_transaction.specs.Assembled.{IsPlanOf}
 use Rattle.hgs_transaction.specs.OfTransaction.{ArePartsOf}
 use Rattle.hgs_transaction.specs.declared.parts.Parts.{Parts}
-use Rattle.hgs_writer.specs.Alone.{HasWhatItNeeds, IsAnswered, IsDoneAs, IsStopOf}
+use Rattle.hgs_legal.specs.ListsPaths.{ListsPaths}
+use Rattle.hgs_writer.specs.Alone.{IsAnswered, IsDoneAs, IsStopOf}
+use Rattle.hgs_writer.specs.BytePaths.{NamesBytes}
 use Rattle.hgs_writer.specs.Outcomes.{outcome_of_commit, outcome_of_ended, outcome_of_lock, outcome_of_plan, outcome_of_read}
 use Rattle.hgs_writer.specs.Planning.{ComesTo, IsNotPlannedFor, IsPlannedFor, has_no_memory, is_refused, is_unread}
 use Rattle.hgs_writer.specs.Written.{IsCarriedOut, IsWritten, is_carried_out, is_not_planned, is_turned_away}
 use Rattle.hgs_writer.specs.declared.plan.Planned.{Planned}
 use Rattle.hgs_writer.specs.Below.{Below}
-use Rattle.hgs_writer.proofs.CommitLemmas.{IsFit, IsStepFor, IsTold, commit-fault, commit-step, has-under-locks, import-fault, import-step, valid-fit}
+use Rattle.hgs_writer.proofs.CommitLemmas.{IsFit, IsStepFor, IsTold, commit-fault, commit-step, import-fault, import-step, lists-under-locks, valid-fit}
 
 -- ---- what is done, as pieces
 
@@ -66,6 +68,39 @@ pieces-of t r stepped log (inl none) = subst (Pieces t r) (sym none) no_pieces
 pieces-of t r stepped log (inr (inl piece)) = one-piece t r r log piece
 pieces-of t r stepped log (inr (inr (inl left))) = subst (Pieces t r) (append-nil log) (at_last log [] left no_more)
 pieces-of t r stepped log (inr (inr (inr (next, accepted, piece)))) = one-piece t r next.0 log piece
+
+-- What the laws of pieces and of lists of filelogs say.
+pub record ListLaws : Type 0 where
+  pub ends : (t : Tree) (r next : Repo) (log : List Op) → Stands t r → Piece t r log next → Stands (after_all log t) next
+  pub left_open : (t : Tree) (r : Repo) (log : List Op) → Stands t r → LeavesJournal t r log → IsOpen strays (after_all log t) r
+  pub piece : (t : Tree) (r next : Repo) (log : List Op) → Stands t r → ListsPaths t r → Piece t r log next → ListsPaths (after_all log t) next
+  pub left : (t : Tree) (r : Repo) (log : List Op) → Stands t r → ListsPaths t r → LeavesJournal t r log → ListsPaths (after_all log t) r
+  pub one : (t : Tree) (r s : Repo) → Stands t r → Stands t s → r ≡ s
+  pub not_open : (t : Tree) (r s : Repo) → Stands t r → IsOpen strays t s → ⊥
+  pub open_one : (t : Tree) (r s : Repo) → IsOpen strays t r → IsOpen strays t s → r ≡ s
+
+-- the list of filelogs behind it
+module _ (laws : ListLaws) (t : Tree) (r : Repo) (stepped : Result Next Refusal) (s : Stands t r) (lists : ListsPaths t r) where
+  abbrev IsOf : Tree → Repo → Type 0
+  IsOf u next = Stands u next ⊎ IsOpen strays u next
+
+  standing-one : (u : Tree) (q next : Repo) → Stands u q → IsOf u next → q ≡ next
+  standing-one u q next a (inl b) = laws.one u q next a b
+  standing-one u q next a (inr b) = absurd (laws.not_open u q next a b)
+
+  open-one : (u : Tree) (q next : Repo) → IsOpen strays u q → IsOf u next → q ≡ next
+  open-one u q next a (inl b) = absurd (laws.not_open u next q b a)
+  open-one u q next a (inr b) = laws.open_one u q next a b
+
+  piece-lists : (log : List Op) (q next : Repo) → Piece t r log q → IsOf (after_all log t) next → ListsPaths (after_all log t) next
+  piece-lists log q next piece is = subst (ListsPaths (after_all log t)) (standing-one (after_all log t) q next (laws.ends t r q log s piece) is) (laws.piece t r q log s lists piece)
+
+  pub made-lists : (log : List Op) (next : Repo) → IsMadeOf t r stepped log → IsOf (after_all log t) next → ListsPaths (after_all log t) next
+  made-lists log next (inl none) is =
+      subst (λ (l : List Op). IsOf (after_all l t) next → ListsPaths (after_all l t) next) (sym none) (λ here. subst (ListsPaths t) (standing-one t r next s here) lists) is
+  made-lists log next (inr (inl piece)) is = piece-lists log r next piece is
+  made-lists log next (inr (inr (inl left))) is = subst (ListsPaths (after_all log t)) (open-one (after_all log t) r next (laws.left_open t r log s left) is) (laws.left t r log s lists left)
+  made-lists log next (inr (inr (inr (q, accepted, piece)))) is = piece-lists log q.0 next piece is
 
 -- where it is stopped
 module _ (ends : (t : Tree) (r next : Repo) (log : List Op) → Stands t r → Piece t r log next → Stands (after_all log t) next) (left_open : (t : Tree) (r : Repo) (log : List Op) → Stands t r → LeavesJournal t r log → IsOpen strays (after_all log t) r)
@@ -145,7 +180,7 @@ planned-as u r command step_is a (Err f) e is = absurd (subst (λ x. AnswersAs u
 step-for : (u : Tree) (r : Repo) (command : Command) (step_is : Step) (a : Result Step PlanFault) → ((next : Repo) → IsReady u r command next) → a ≡ Ok step_is → AnswersAs u r command a (step r command) → IsStepFor u r command step_is
 step-for u r command step_is a ready e is =
     let next = planned-as u r command step_is a (step r command) e is in
-    record { next = next.0; accepted = next.1; as_step = next.2; ready = λ has. ready next.0.0 }
+    record { next = next.0; accepted = next.1; as_step = next.2; ready = λ lists bytes. ready next.0.0 }
 
 module _ (laws : Below) where
   -- a step that is planned is the one that the repository makes
@@ -181,14 +216,14 @@ module _ (laws : Below) where
   refused-answered u r l (Mark mark name) fault v fit s is comes after = given-answered u r (Mark mark name) fault (step r (Mark mark name)) (planned l (mark_of l mark name)) v comes (laws.marked u r l mark name s is) after
   refused-answered u r l (Unmark mark) fault v fit s is comes after = given-answered u r (Unmark mark) fault (step r (Unmark mark)) (planned l (unmark_of l mark)) v comes (laws.unmarked u r l mark s is) after
 
-  not-planned-answered : (u : Tree) (r : Repo) (command : Command) (fault : CommitFault) (v : Tree) → IsFit u r command → Stands u r → IsNotPlannedFor command u fault → Stands v r → IsAnswered r (step r command) (outcome_of_commit fault) v
+  not-planned-answered : (u : Tree) (r : Repo) (command : Command) (fault : CommitFault) (v : Tree) → (NamesBytes command → IsFit u r command) → Stands u r → IsNotPlannedFor command u fault → Stands v r → IsAnswered r (step r command) (outcome_of_commit fault) v
   not-planned-answered u r command _ v fit s (is_unread e m) after = read-answered r (step r command) e v after
   not-planned-answered u r command _ v fit s has_no_memory after = after
-  not-planned-answered u r command _ v fit s (is_refused read l fault was from is comes) after = by fault comes
+  not-planned-answered u r command _ v fit s (is_refused read l fault was from is comes bytes) after = by fault comes
     where
       by : (f : CommitFault) → ComesTo u l command (Err f) → IsAnswered r (step r command) (outcome_of_commit f) v
       by (commits.Unread e) c = read-answered r (step r command) e v after
-      by (commits.Refused f) c = refused-answered u r l command f v fit s is c after
+      by (commits.Refused f) c = refused-answered u r l command f v (fit bytes) s is c after
 
   -- ---- a transaction that is carried out
 
@@ -246,7 +281,7 @@ module _ (laws : Below) where
       let after = nothing-or-piece t r (step r command) done s (laws.turned_away t r who why answer.swept done turned) in
       (subst (λ o. IsAnswered r (step r command) o (after_all done t)) (sym outcome) (lock-answered t r who why answer.swept done (step r command) (after_all done t) s turned after.0), after.1)
 
-  not-planned-leaves : (t : Tree) (r : Repo) (command : Command) (who : List ℕ) (answer : Answer) (fault : CommitFault) (locking releasing : List Op) → Stands t r → IsFit (after_all locking t) r command → AreLocked who t locking → IsNotPlannedFor command (after_all locking t) fault
+  not-planned-leaves : (t : Tree) (r : Repo) (command : Command) (who : List ℕ) (answer : Answer) (fault : CommitFault) (locking releasing : List Op) → Stands t r → (NamesBytes command → IsFit (after_all locking t) r command) → AreLocked who t locking → IsNotPlannedFor command (after_all locking t) fault
       → AreRemoved lock_removals answer.swept releasing → answer.outcome ≡ outcome_of_commit fault → LeavesAs t r command answer (locking ++ releasing)
   not-planned-leaves t r command who answer fault locking releasing s fit locks plans removed outcome =
       let piece = laws.released t r who answer.swept locking releasing locks removed in
@@ -255,18 +290,18 @@ module _ (laws : Below) where
         inr (inl piece),
       )
 
-  carried-leaves : (t : Tree) (r : Repo) (command : Command) (who : List ℕ) (answer : Answer) (planned : Planned) (locking carrying : List Op) → Stands t r → IsValid command → HasWhatItNeeds t r command → AreLocked who t locking → IsPlannedFor command (after_all locking t) planned
+  carried-leaves : (t : Tree) (r : Repo) (command : Command) (who : List ℕ) (answer : Answer) (planned : Planned) (locking carrying : List Op) → Stands t r → IsValid command → ListsPaths t r → AreLocked who t locking → IsPlannedFor command (after_all locking t) planned
       → IsCarriedOut (after_all locking t) planned answer carrying → LeavesAs t r command answer (locking ++ carrying)
-  carried-leaves t r command who answer planned locking carrying s valid has locks plan c =
-      let made = planned-step (after_all locking t) r plan.loaded command plan.step (valid-fit (after_all locking t) r command valid (has-under-locks laws t who locking locks r command has)) (laws.stands t r who locking locks s) plan.is_loaded plan.comes in
-      carried t r command made.next who plan.step.parts planned answer locking carrying s valid made.accepted (made.ready (has-under-locks laws t who locking locks r command has)) made.as_step.parts plan.plan (plan.rev ∙ made.as_step.rev) (ap (λ n. n.0) plan.node ∙ made.as_step.node) locks c
+  carried-leaves t r command who answer planned locking carrying s valid lists locks plan c =
+      let made = planned-step (after_all locking t) r plan.loaded command plan.step (valid-fit (after_all locking t) r command valid plan.bytes (lists-under-locks laws t who locking locks r lists)) (laws.stands t r who locking locks s) plan.is_loaded plan.comes in
+      carried t r command made.next who plan.step.parts planned answer locking carrying s valid made.accepted (made.ready (lists-under-locks laws t who locking locks r lists) plan.bytes) made.as_step.parts plan.plan (plan.rev ∙ made.as_step.rev) (ap (λ n. n.0) plan.node ∙ made.as_step.node) locks c
 
-  pub written : (t : Tree) (r : Repo) (command : Command) (who : List ℕ) (answer : Answer) (done : List Op) → Stands t r → IsValid command → HasWhatItNeeds t r command → IsWritten who command t answer done → LeavesAs t r command answer done
-  written t r command who answer done s valid has (is_turned_away why turned outcome) = turned-away-leaves t r command who answer done why s turned outcome
-  written t r command who answer done s valid has (is_not_planned fault locking releasing locks plans removed outcome whole) =
-      subst (LeavesAs t r command answer) (sym whole) (not-planned-leaves t r command who answer fault locking releasing s (valid-fit (after_all locking t) r command valid (has-under-locks laws t who locking locks r command has)) locks plans removed outcome)
-  written t r command who answer done s valid has (is_carried_out made locking carrying locks plan c whole) =
-      subst (LeavesAs t r command answer) (sym whole) (carried-leaves t r command who answer made locking carrying s valid has locks plan c)
+  pub written : (t : Tree) (r : Repo) (command : Command) (who : List ℕ) (answer : Answer) (done : List Op) → Stands t r → IsValid command → ListsPaths t r → IsWritten who command t answer done → LeavesAs t r command answer done
+  written t r command who answer done s valid lists (is_turned_away why turned outcome) = turned-away-leaves t r command who answer done why s turned outcome
+  written t r command who answer done s valid lists (is_not_planned fault locking releasing locks plans removed outcome whole) =
+      subst (LeavesAs t r command answer) (sym whole) (not-planned-leaves t r command who answer fault locking releasing s (λ bytes. valid-fit (after_all locking t) r command valid bytes (lists-under-locks laws t who locking locks r lists)) locks plans removed outcome)
+  written t r command who answer done s valid lists (is_carried_out made locking carrying locks plan c whole) =
+      subst (LeavesAs t r command answer) (sym whole) (carried-leaves t r command who answer made locking carrying s valid lists locks plan c)
 
 -- a call that is done: the repository accepts the command
 pub done-as : (r : Repo) (stepped : Result Next Refusal) (rev : ℕ) (node : Node) (u : Tree) → IsDoneAs stepped rev node u → (next : Next) × (stepped ≡ Ok next) × (rev ≡ next.1.rev) × (node.0 ≡ next.1.node) × Stands u next.0

@@ -1,12 +1,13 @@
 -- Locks and strays aside two trees are the same: a command needs and reads the same of both, and there is as much room in both.
 use Rattle.std.proofs.Common.{◌≡◌, ℕ, ◌+◌, List, [], ◌∷◌, Bool, false, ◌||◌, drop, length, refl, sym, ◌∙◌, ap, subst, inl, inr}
-use Rattle.std.specs.Prelude.{◌<◌, ◌≤◌, ◌^◌, Option, Result, Ok, Err, sum_by, unwrap_or}
+use Rattle.std.specs.Prelude.{◌≤◌, Option, Result, Ok, Err, sum_by, unwrap_or}
 use Rattle.hgs_files.specs.Tree.{Tree, after_all, bytes_at}
 use Rattle.hgs_index.specs.Either.{chunk_bytes, chunks_either}
 use Rattle.hgs_index.specs.Inline.{is_inline}
 use Rattle.hgs_index.specs.Revision.{Revision}
 use Rattle.hgs_index.specs.Revlog.{chunk_of}
 use Rattle.hgs_journal.specs.Covers.{is_loose}
+use Rattle.hgs_legal.specs.ListsPaths.{AreKeptLines, ListsPaths}
 use Rattle.hgs_load.specs.Open.{most_bookmarks_text, most_dirstate, most_roots}
 use Rattle.hgs_loading.specs.Small.{most_fncache}
 use Rattle.hgs_model.specs.History.{history}
@@ -21,7 +22,6 @@ use Rattle.hgs_ops.specs.Operations.{strays}
 use Rattle.hgs_ops.specs.Theorems.Beside.{AreSameAside}
 use Rattle.hgs_path.specs.declared.name.Ext.{Ext}
 use Rattle.hgs_path.specs.declared.name.Ext.TheVariants.{I, D}
-use Rattle.hgs_path.specs.ListedNames.{names_of}
 use Rattle.hgs_path.specs.StoreName.{store_name}
 use Rattle.hgs_revlog.specs.Held.{AreWithinLimits}
 use Rattle.hgs_revlog.specs.Load.{most_data}
@@ -31,9 +31,8 @@ use Rattle.hgs_writer.specs.Alone.{LacksRoom, SomeLacksRoom}
 use Rattle.hgs_writer.specs.Below.{Below}
 use Rattle.hgs_writer.specs.Commits.{CanBeRead}
 use Rattle.hgs_writer.specs.Free.{HasRoomFor, IsFree, new_lines}
-use Rattle.hgs_writer.specs.Imports.{AreReadWithin, NeedNoTests, SomeRecord}
+use Rattle.hgs_writer.specs.Imports.{AreReadWithin, SomeRecord}
 use Rattle.hgs_writer.specs.Limits.{LoadsWithin}
-use Rattle.hgs_writer.specs.Ready.{NeedsNoTest}
 
 module _ (laws : Below) (t u : Tree) (aside : AreSameAside t u) where
   -- a file that is neither has the same bytes
@@ -47,12 +46,8 @@ module _ (laws : Below) (t u : Tree) (aside : AreSameAside t u) where
   list-stays : bytes_at t fncache_path ≡ bytes_at u fncache_path
   list-stays = bytes-stay fncache_path refl
 
-  pub needs-stay : (r next : Repo) → NeedsNoTest t r next → NeedsNoTest u r next
-  needs-stay r next needs = record {
-    bytes = needs.bytes;
-    list = subst (λ (b : List ℕ). length b < 2 ^ 64) list-stays needs.list;
-    listed = λ names e name path ext there new is none. needs.listed names (ap names_of list-stays ∙ e) name path ext there new is (filelog-stays path ext ∙ none);
-  }
+  pub lists-stay : (r : Repo) → ListsPaths t r → ListsPaths u r
+  lists-stay r lists = record { lines = subst (AreKeptLines r.changesets) list-stays lists.lines }
 
   pub read-stays : (r : Repo) → CanBeRead t r → CanBeRead u r
   read-stays r read = record {
@@ -105,33 +100,18 @@ module _ (laws : Below) (t u : Tree) (aside : AreSameAside t u) where
 -- ---- records, one after another
 
 module _ (laws : Below) where
-  pub tests-stay : (t u : Tree) (r : Repo) (changes : List NewChange) → AreSameAside t u → NeedNoTests t r changes → NeedNoTests u r changes
-  tests-stay t u r [] aside needs = tt
-  tests-stay t u r (n ∷ changes) aside needs = λ next e. (
-    needs-stay laws t u aside r next.0 (needs next e).0,
-    tests-stay (after_all (laid t r n next.0) t) (after_all (laid u r n next.0) u) next.0 changes (λ path free. laws.laid_alike t u r next.0 n aside path free) (needs next e).1,
-  )
-
   pub within-stay : (t u : Tree) (r : Repo) (changes : List NewChange) → AreSameAside t u → AreReadWithin t r changes → AreReadWithin u r changes
   within-stay t u r [] aside within = tt
   within-stay t u r (n ∷ changes) aside within = (
     loads-stay laws t u aside r within.0,
     read-stays laws t u aside r within.1,
-    λ next e. (
-      needs-stay laws t u aside r next.0 (within.2 next e).0,
-      within-stay (after_all (laid t r n next.0) t) (after_all (laid u r n next.0) u) next.0 changes (λ path free. laws.laid_alike t u r next.0 n aside path free) (within.2 next e).1,
-    ),
+    λ next e. within-stay (after_all (laid t r n next.0) t) (after_all (laid u r n next.0) u) next.0 changes (λ path free. laws.laid_alike t u r next.0 n aside path free) (within.2 next e),
   )
 
   pub some-before : (t u : Tree) (r : Repo) (changes : List NewChange) → AreSameAside t u → SomeLacksRoom u r changes → SomeLacksRoom t r changes
   some-before t u r [] aside some = absurd some
   some-before t u r (n ∷ changes) aside (inl lacks) = inl (lacks-before laws t u aside r (step r (Commit n)) lacks)
   some-before t u r (n ∷ changes) aside (inr (next, e, some)) = inr (next, e, some-before (after_all (laid t r n next.0) t) (after_all (laid u r n next.0) u) next.0 changes (λ path free. laws.laid_alike t u r next.0 n aside path free) some)
-
--- what is read within the limits has what needs no test
-pub within-tests : (t : Tree) (r : Repo) (changes : List NewChange) → AreReadWithin t r changes → NeedNoTests t r changes
-within-tests t r [] within = tt
-within-tests t r (n ∷ changes) within = λ next e. ((within.2 next e).0, within-tests (after_all (laid t r n next.0) t) next.0 changes (within.2 next e).1)
 
 -- what holds of no tree holds of some record of it where it holds of some record of the other
 pub some-alike : (P : Repo → NewChange → Type 0) (t u : Tree) (r : Repo) (changes : List NewChange) → SomeRecord (λ v now n. P now n) u r changes → SomeRecord (λ v now n. P now n) t r changes

@@ -30,12 +30,14 @@ use Rattle.hgs_steps.specs.Planned.{IsLoadedOf, IsStepOf}
 use Rattle.hgs_steps.specs.declared.fault.PlanFault.{PlanFault}
 use Rattle.hgs_steps.specs.declared.loaded.Loaded.{Loaded}
 use Rattle.hgs_steps.specs.declared.step.Step.{Step}
-use Rattle.hgs_writer.specs.Alone.{HasWhatItNeeds, IsAcceptedCommit, IsCommitWithoutRoom, IsOutcomeOf, IsPassed, PassesLimit, ReadsWithin}
+use Rattle.hgs_legal.specs.ListsPaths.{ListsPaths}
+use Rattle.hgs_writer.specs.Alone.{IsAcceptedCommit, IsCommitWithoutRoom, IsOutcomeOf, IsPassed, PassesLimit, ReadsWithin}
 use Rattle.hgs_writer.specs.Below.{Below}
-use Rattle.hgs_writer.specs.Imports.{ComesToNothing, ImportAnswersAs, NeedNoTests, SomeRecord}
+use Rattle.hgs_writer.specs.BytePaths.{AreOfBytes, NamesBytes}
+use Rattle.hgs_writer.specs.Imports.{ComesToNothing, ImportAnswersAs, SomeRecord}
 use Rattle.hgs_writer.specs.Limits.{LoadsWithin}
 use Rattle.hgs_writer.specs.Records.{ImportComesTo}
-use Rattle.hgs_writer.proofs.AsideLemmas.{form-stays, lacks-before, loads-stay, needs-stay, read-stays, some-alike, some-before, tests-stay, within-stay, within-tests}
+use Rattle.hgs_writer.proofs.AsideLemmas.{form-stays, lacks-before, lists-stay, loads-stay, read-stays, some-alike, some-before, within-stay}
 use Rattle.hgs_writer.proofs.UnderLemmas.{beside-aside, same-beside}
 
 -- ---- under the locks
@@ -45,19 +47,15 @@ module _ (laws : Below) (t : Tree) (who : List ℕ) (locking : List Op) (locks :
   under : AreSameAside t (after_all locking t)
   under = beside-aside t (after_all locking t) (same-beside who t locking locks)
 
-  pub has-under-locks : (r : Repo) (command : Command) → HasWhatItNeeds t r command → HasWhatItNeeds (after_all locking t) r command
-  has-under-locks r (Commit n) has = λ next e. needs-stay laws t (after_all locking t) under r next.0 (has next e)
-  has-under-locks r (Import changes) has = tests-stay laws t (after_all locking t) r changes under has
-  has-under-locks r (Move name to force) has = tt
-  has-under-locks r (Mark mark name) has = tt
-  has-under-locks r (Unmark mark) has = tt
+  pub lists-under-locks : (r : Repo) → ListsPaths t r → ListsPaths (after_all locking t) r
+  lists-under-locks r lists = lists-stay laws t (after_all locking t) under r lists
 
   pub loads-under-locks : (r : Repo) → LoadsWithin t r → LoadsWithin (after_all locking t) r
   loads-under-locks r within = loads-stay laws t (after_all locking t) under r within
 
   pub reads-under-locks : (r : Repo) (command : Command) → ReadsWithin t r command → ReadsWithin (after_all locking t) r command
   reads-under-locks r (Commit n) within = (within.0, read-stays laws t (after_all locking t) under r within.1)
-  reads-under-locks r (Import changes) within = (within.0, within-stay laws t (after_all locking t) r changes under within.1)
+  reads-under-locks r (Import changes) within = (within.0, lists-under-locks r within.1, within-stay laws t (after_all locking t) r changes under within.2)
   reads-under-locks r (Move name to force) within = tt
   reads-under-locks r (Mark mark name) within = tt
   reads-under-locks r (Unmark mark) within = tt
@@ -109,32 +107,33 @@ module _ (laws : Below) (t : Tree) (who : List ℕ) (locking : List Op) (locks :
 
 -- ---- what is planned of a commit
 
--- A commit that a record can hold; an import whose records each can, and have what needs no test; or another command.
+-- A commit that a record can hold; an import whose records each can, by paths that are bytes, over a tree that lists only names of paths;
+-- or another command.
 abbrev pub IsFit : Tree → Repo → Command → Type 0
 IsFit t r (Commit n) = IsNewChange n
-IsFit t r (Import changes) = AreNewChanges changes × NeedNoTests t r changes
+IsFit t r (Import changes) = AreNewChanges changes × AreOfBytes changes × ListsPaths t r
 IsFit t r command = Unit {0}
 
-pub valid-fit : (t : Tree) (r : Repo) (command : Command) → IsValid command → HasWhatItNeeds t r command → IsFit t r command
-valid-fit t r (Commit n) valid has = valid
-valid-fit t r (Import changes) valid has = (valid, has)
-valid-fit t r (Move name to force) valid has = tt
-valid-fit t r (Mark mark name) valid has = tt
-valid-fit t r (Unmark mark) valid has = tt
+pub valid-fit : (t : Tree) (r : Repo) (command : Command) → IsValid command → NamesBytes command → ListsPaths t r → IsFit t r command
+valid-fit t r (Commit n) valid bytes lists = valid
+valid-fit t r (Import changes) valid bytes lists = (valid, bytes, lists)
+valid-fit t r (Move name to force) valid bytes lists = tt
+valid-fit t r (Mark mark name) valid bytes lists = tt
+valid-fit t r (Unmark mark) valid bytes lists = tt
 
-pub reads-fit : (t : Tree) (r : Repo) (command : Command) → ReadsWithin t r command → IsFit t r command
-reads-fit t r (Commit n) within = within.0
-reads-fit t r (Import changes) within = (within.0, within-tests t r changes within.1)
-reads-fit t r (Move name to force) within = tt
-reads-fit t r (Mark mark name) within = tt
-reads-fit t r (Unmark mark) within = tt
+pub reads-fit : (t : Tree) (r : Repo) (command : Command) → ReadsWithin t r command → NamesBytes command → IsFit t r command
+reads-fit t r (Commit n) within bytes = within.0
+reads-fit t r (Import changes) within bytes = (within.0, bytes, within.1)
+reads-fit t r (Move name to force) within bytes = tt
+reads-fit t r (Mark mark name) within bytes = tt
+reads-fit t r (Unmark mark) within bytes = tt
 
 -- a step that is planned is the repository's
 pub record IsStepFor (u : Tree) (r : Repo) (command : Command) (step_is : Step) : Type 0 where
   pub next : Next
   pub accepted : step r command ≡ Ok next
   pub as_step : IsStepOf u r command next step_is
-  pub ready : HasWhatItNeeds u r command → IsReady u r command next.0
+  pub ready : ListsPaths u r → NamesBytes command → IsReady u r command next.0
 
 module _ (laws : Below) (u : Tree) (r : Repo) (l : Loaded) (n : NewChange) (s : Stands u r) (loads : IsLoadedOf u l) (good : IsNewChange n) where
   abbrev pub IsTold : Option (List ℕ) → Type 0
@@ -149,7 +148,7 @@ module _ (laws : Below) (u : Tree) (r : Repo) (l : Loaded) (n : NewChange) (s : 
     where
       by : (stepped : Result Next Refusal) → step r (Commit n) ≡ stepped → AnswersWith (IsTold comes.0) u r n comes.0 (Ok step_is) stepped → IsStepFor u r (Commit n) step_is
       by (Err e) is made = absurd made
-      by (Ok next) is made = record { next = next; accepted = is; as_step = made.as_step; ready = λ has. made.ready comes.1 (has next is) }
+      by (Ok next) is made = record { next = next; accepted = is; as_step = made.as_step; ready = made.ready comes.1 }
 
   -- a refusal that is no want of memory
   pub commit-fault : (fault : PlanFault) → is_memory fault ≡ false → Steps l n u (Err (commits.Refused fault)) → (clash : Option (List ℕ)) × AnswersWith (IsTold clash) u r n clash (Err (commits.Refused fault)) (step r (Commit n))
@@ -167,12 +166,12 @@ module _ (laws : Below) (u : Tree) (r : Repo) (l : Loaded) (n : NewChange) (s : 
 
 module _ (laws : Below) (u : Tree) (r : Repo) (l : Loaded) (changes : List NewChange) (s : Stands u r) (loads : IsLoadedOf u l) (fit : IsFit u r (Import changes)) where
   pub import-step : (step_is : Step) → ImportComesTo u l changes (Ok step_is) → IsStepFor u r (Import changes) step_is
-  import-step step_is comes = by (step r (Import changes)) refl (laws.imported u r l changes (Ok step_is) s loads fit.0 fit.1 comes)
+  import-step step_is comes = by (step r (Import changes)) refl (laws.imported u r l changes (Ok step_is) s loads fit.0 fit.1 fit.2 comes)
     where
       by : (stepped : Result Next Refusal) → step r (Import changes) ≡ stepped → ImportAnswersAs u r changes (Ok step_is) stepped → IsStepFor u r (Import changes) step_is
       by (Err e) is made = absurd made
-      by (Ok next) is made = record { next = next; accepted = is; as_step = made.0; ready = λ has. made.1 }
+      by (Ok next) is made = record { next = next; accepted = is; as_step = made.0; ready = λ lists bytes. made.1 }
 
   -- a refusal that is no fault of the outside
   pub import-fault : (fault : CommitFault) → is_free fault ≡ false → ImportComesTo u l changes (Err fault) → SomeRecord (ComesToNothing fault) u r changes
-  import-fault fault known comes = subst (λ (b : Bool). MatchBool b ⊤ (SomeRecord (ComesToNothing fault) u r changes)) known (laws.imported u r l changes (Err fault) s loads fit.0 fit.1 comes)
+  import-fault fault known comes = subst (λ (b : Bool). MatchBool b ⊤ (SomeRecord (ComesToNothing fault) u r changes)) known (laws.imported u r l changes (Err fault) s loads fit.0 fit.1 fit.2 comes)

@@ -25,9 +25,10 @@ use Rattle.hgs_steps.specs.declared.fault.PlanFault.TheVariants.{Refused as refu
 use Rattle.hgs_steps.specs.declared.loaded.Loaded.{Loaded}
 use Rattle.hgs_steps.specs.declared.step.Step.{Step}
 use Rattle.hgs_writer.specs.Commits.{AnswersAs, AnswersWith}
-use Rattle.hgs_writer.specs.Imports.{ComesToNothing, HaveOwnDigests, IsKeptBy, NeedNoTests, SomeRecord}
+use Rattle.hgs_legal.specs.ListsPaths.{ListsPaths}
+use Rattle.hgs_writer.specs.BytePaths.{AreOfBytes, HasBytePaths}
+use Rattle.hgs_writer.specs.Imports.{ComesToNothing, IsKeptBy, SomeRecord}
 use Rattle.hgs_writer.specs.Limits.{LoadsWithin}
-use Rattle.hgs_writer.specs.Ready.{HasOwnDigests, NeedsNoTest}
 use Rattle.hgs_writer.specs.Records.{AnswersLast, AreMore, CommitComesTo, IsRefusedAmong, IsRefusedOn, is_refused, is_unloaded}
 use Rattle.hgs_writer.proofs.LayingLemmas.{parts-lay}
 
@@ -35,6 +36,7 @@ use Rattle.hgs_writer.proofs.LayingLemmas.{parts-lay}
 pub record Laws : Type 0 where
   pub committed : (t : Tree) (r : Repo) (l : Loaded) (n : NewChange) (clash : Option (List ℕ)) → Stands t r → IsLoadedOf t l → IsNewChange n → AnswersAs t r l n clash (commit_in clash l n t) (step r (Commit n))
   pub stands : (t : Tree) (r : Repo) (x : Record) (records : List Record) → Stands t r → IsValid (Import (changes_of (x ∷ records))) → AreLaid t r (x ∷ records) → Stands (tree_behind t r (x ∷ records)) (repo_behind r (x ∷ records))
+  pub lists : (t : Tree) (r next : Repo) (n : NewChange) (answer : Answer) → Stands t r → ListsPaths t r → IsNewChange n → step r (Commit n) ≡ Ok (next, answer) → IsReady t r (Commit n) next → ListsPaths (after_all (laid t r n next) t) next
   pub loads : (t : Tree) (r : Repo) → Stands t r → LoadsWithin t r → (read : Read) × (loaded_in t ≡ Ok read)
   pub one : (r : Repo) (n : NewChange) → step r (Import (n ∷ [])) ≡ step r (Commit n)
   pub more : (r mid : Repo) (n m : NewChange) (changes : List NewChange) (answer : Answer) → step r (Commit n) ≡ Ok (mid, answer) → step r (Import (n ∷ m ∷ changes)) ≡ step mid (Import (m ∷ changes))
@@ -80,20 +82,14 @@ pub record AnswersAsLast (t : Tree) (r : Repo) (records : List Record) (step_is 
   pub rev : step_is.rev ≡ answer.rev
   pub node : step_is.node.0 ≡ answer.node
 
--- ---- what no test tells
-
-pub digests-need : ((t : Tree) (r next : Repo) → HasOwnDigests t r next → NeedsNoTest t r next) → (t : Tree) (r : Repo) (changes : List NewChange) → HaveOwnDigests t r changes → NeedNoTests t r changes
-digests-need law t r [] own = tt
-digests-need law t r (n ∷ changes) own = λ next e. (law t r next.0 (own next e).0, digests-need law (after_all (laid t r n next.0) t) next.0 changes (own next e).1)
-
 -- ---- one record
 
--- it is accepted, with this step, and the tree is ready if it has what needs no test
+-- it is accepted, with this step, and the tree is ready if it lists only names of paths and the record's are bytes
 pub record Accepts (t : Tree) (r : Repo) (n : NewChange) (s : Step) : Type 0 where
   pub next : Next
   pub is : step r (Commit n) ≡ Ok next
   pub as_step : IsStepOf t r (Commit n) next s
-  pub ready : NeedsNoTest t r next.0 → IsReady t r (Commit n) next.0
+  pub ready : ListsPaths t r → HasBytePaths n → IsReady t r (Commit n) next.0
 
 pub known-free : (b : Bool) (A : Type 0) → b ≡ false → MatchBool b ⊤ A → A
 known-free true A e m = absurd (no e)
@@ -137,16 +133,15 @@ module _ (laws : Laws) where
 
   -- ---- records, one after another
 
-  pub follow : (t : Tree) (r : Repo) (changes : List NewChange) (steps : List Step) → Stands t r → AllByRecursion IsNewChange changes → NeedNoTests t r changes → AreMore t changes steps → Followed t r changes steps
-  follow t r [] [] s good needs more = record { records = []; these = refl; laid_are = tt; steps_are = tt }
-  follow t r [] (x ∷ steps) s good needs more = absurd more
-  follow t r (n ∷ changes) [] s good needs more = absurd more
-  follow t r (n ∷ changes) (x ∷ steps) s good needs more =
+  pub follow : (t : Tree) (r : Repo) (changes : List NewChange) (steps : List Step) → Stands t r → AllByRecursion IsNewChange changes → AreOfBytes changes → ListsPaths t r → AreMore t changes steps → Followed t r changes steps
+  follow t r [] [] s good bytes lists more = record { records = []; these = refl; laid_are = tt; steps_are = tt }
+  follow t r [] (x ∷ steps) s good bytes lists more = absurd more
+  follow t r (n ∷ changes) [] s good bytes lists more = absurd more
+  follow t r (n ∷ changes) (x ∷ steps) s good bytes lists more =
       let one = accepts t r more.0.loaded n x s more.0.is_loaded good.0 more.0.comes in
-      let need = needs one.next one.is in
-      let ready = one.ready need.0 in
+      let ready = one.ready lists bytes.0 in
       let u = after_all (laid t r n one.next.0) t in
-      let rest = follow u one.next.0 changes steps (laid-stands t r n one.next.0 one.next.1 s good.0 one.is ready) good.1 need.1 (subst (λ ops. AreMore (after_all ops t) changes steps) (parts-lay t r one.next.0 n x.parts one.as_step.parts) more.1) in
+      let rest = follow u one.next.0 changes steps (laid-stands t r n one.next.0 one.next.1 s good.0 one.is ready) good.1 bytes.1 (laws.lists t r one.next.0 n one.next.1 s lists good.0 one.is ready) (subst (λ ops. AreMore (after_all ops t) changes steps) (parts-lay t r one.next.0 n x.parts one.as_step.parts) more.1) in
       record {
         records = (n, one.next.0) ∷ rest.records;
         these = (let e = rest.these in λ i. n ∷ e i);
@@ -182,17 +177,17 @@ module _ (laws : Laws) where
           no read k = cc
   on-refused t r n fault known s good (is_refused l f loaded comes) = refuses t r l n f known s loaded good comes
 
-  pub among-refused : (t : Tree) (r : Repo) (changes : List NewChange) (fault : CommitFault) → is_free fault ≡ false → Stands t r → AllByRecursion IsNewChange changes → NeedNoTests t r changes → IsRefusedAmong t changes fault → SomeRecord (ComesToNothing fault) t r changes
-  among-refused t r [] fault known s good needs why = absurd why
-  among-refused t r (n ∷ changes) fault known s good needs (inl why) = inl (on-refused t r n fault known s good.0 why)
-  among-refused t r (n ∷ changes) fault known s good needs (inr why) =
+  pub among-refused : (t : Tree) (r : Repo) (changes : List NewChange) (fault : CommitFault) → is_free fault ≡ false → Stands t r → AllByRecursion IsNewChange changes → AreOfBytes changes → ListsPaths t r → IsRefusedAmong t changes fault → SomeRecord (ComesToNothing fault) t r changes
+  among-refused t r [] fault known s good bytes lists why = absurd why
+  among-refused t r (n ∷ changes) fault known s good bytes lists (inl why) = inl (on-refused t r n fault known s good.0 why)
+  among-refused t r (n ∷ changes) fault known s good bytes lists (inr why) =
       let one = accepts t r why.1.loaded n why.0 s why.1.is_loaded good.0 why.1.comes in
-      let need = needs one.next one.is in
+      let ready = one.ready lists bytes.0 in
       let u = after_all (laid t r n one.next.0) t in
       inr (
         one.next,
         one.is,
-        among-refused u one.next.0 changes fault known (laid-stands t r n one.next.0 one.next.1 s good.0 one.is (one.ready need.0)) good.1 need.1
+        among-refused u one.next.0 changes fault known (laid-stands t r n one.next.0 one.next.1 s good.0 one.is ready) good.1 bytes.1 (laws.lists t r one.next.0 n one.next.1 s lists good.0 one.is ready)
             (subst (λ ops. IsRefusedAmong (after_all ops t) changes fault) (parts-lay t r one.next.0 n why.0.parts one.as_step.parts) why.2),
       )
 

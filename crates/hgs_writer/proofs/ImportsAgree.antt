@@ -18,7 +18,9 @@ use Rattle.hgs_steps.specs.Planned.{IsLoadedOf}
 use Rattle.hgs_steps.specs.declared.loaded.Loaded.{Loaded}
 use Rattle.hgs_steps.specs.declared.step.Step.{Step}
 use Rattle.hgs_transaction.specs.OfTransaction.{ArePartsOf}
-use Rattle.hgs_writer.specs.Imports.{ComesToNothing, ImportAnswersAs, NeedNoTests, SomeRecord}
+use Rattle.hgs_legal.specs.ListsPaths.{ListsPaths}
+use Rattle.hgs_writer.specs.BytePaths.{AreOfBytes}
+use Rattle.hgs_writer.specs.Imports.{ComesToNothing, ImportAnswersAs, SomeRecord}
 use Rattle.hgs_writer.specs.Joined.{all_laid, joined_parts, joined_paths}
 use Rattle.hgs_writer.specs.Records.{AnswersLast, AreMore, ArePlanned, AreRefused, ImportComesTo, IsJoined, IsRefusedAmong, is_refused}
 use Rattle.hgs_writer.proofs.FollowLemmas.{AreStepsOf, Laws, among-refused, follow, steps-answer, steps-few}
@@ -57,27 +59,27 @@ module _ (laws : Laws) (laid_laws : LaidLaws) (ready : ReadyLaw) where
         ready t r x records stands valid all,
       )
 
-  import-joined : (t : Tree) (r : Repo) (l : Loaded) (changes : List NewChange) (s : Step) → Stands t r → IsLoadedOf t l → AreNewChanges changes → NeedNoTests t r changes → IsJoined t l changes s → ImportAnswersAs t r changes (Ok s) (step r (Import changes))
-  import-joined t r l changes s stands h valid needs joined =
-      let f = follow laws t r changes joined.steps stands valid.each needs (planned-more t l changes joined.steps h joined.planned) in
+  import-joined : (t : Tree) (r : Repo) (l : Loaded) (changes : List NewChange) (s : Step) → Stands t r → IsLoadedOf t l → AreNewChanges changes → AreOfBytes changes → ListsPaths t r → IsJoined t l changes s → ImportAnswersAs t r changes (Ok s) (step r (Import changes))
+  import-joined t r l changes s stands h valid bytes lists joined =
+      let f = follow laws t r changes joined.steps stands valid.each bytes lists (planned-more t l changes joined.steps h joined.planned) in
       subst (λ (these : List NewChange). ImportAnswersAs t r these (Ok s) (step r (Import these))) f.these
       (accepted-import t r l f.records joined.steps s stands h (subst AreNewChanges (sym f.these) valid) f.laid_are f.steps_are joined.answer
       (joined.parts ∙ ap (λ these. joined_parts t l.standing (joined_paths these) (all_laid joined.steps)) (sym f.these)))
 
-  import-refused : (t : Tree) (r : Repo) (l : Loaded) (changes : List NewChange) (fault : CommitFault) → Stands t r → IsLoadedOf t l → AreNewChanges changes → NeedNoTests t r changes → MatchBool (is_free fault) ⊤ (AreRefused t l changes fault) → MatchBool (is_free fault) ⊤ (SomeRecord (ComesToNothing fault) t r changes)
-  import-refused t r l changes fault stands h valid needs why = by (is_free fault) refl why
+  import-refused : (t : Tree) (r : Repo) (l : Loaded) (changes : List NewChange) (fault : CommitFault) → Stands t r → IsLoadedOf t l → AreNewChanges changes → AreOfBytes changes → ListsPaths t r → MatchBool (is_free fault) ⊤ (AreRefused t l changes fault) → MatchBool (is_free fault) ⊤ (SomeRecord (ComesToNothing fault) t r changes)
+  import-refused t r l changes fault stands h valid bytes lists why = by (is_free fault) refl why
     where
-      some : (changes : List NewChange) → is_free fault ≡ false → AreNewChanges changes → NeedNoTests t r changes → AreRefused t l changes fault → SomeRecord (ComesToNothing fault) t r changes
-      some [] known valid needs why = absurd (omega (arith, valid.least))
-      some (n ∷ changes) known valid needs why = among-refused laws t r (n ∷ changes) fault known stands valid.each needs (refused-among t l n changes fault h why)
+      some : (changes : List NewChange) → is_free fault ≡ false → AreNewChanges changes → AreOfBytes changes → AreRefused t l changes fault → SomeRecord (ComesToNothing fault) t r changes
+      some [] known valid bytes why = absurd (omega (arith, valid.least))
+      some (n ∷ changes) known valid bytes why = among-refused laws t r (n ∷ changes) fault known stands valid.each bytes lists (refused-among t l n changes fault h why)
 
       by : (b : Bool) → is_free fault ≡ b → MatchBool b ⊤ (AreRefused t l changes fault) → MatchBool b ⊤ (SomeRecord (ComesToNothing fault) t r changes)
       by true e why = why
-      by false e why = some changes e valid needs why
+      by false e why = some changes e valid bytes why
 
-  pub import-answers : (t : Tree) (r : Repo) (l : Loaded) (changes : List NewChange) (result : Result Step CommitFault) → Stands t r → IsLoadedOf t l → AreNewChanges changes → NeedNoTests t r changes → ImportComesTo t l changes result → ImportAnswersAs t r changes result (step r (Import changes))
-  import-answers t r l changes (Ok s) stands h valid needs comes = import-joined t r l changes s stands h valid needs comes
-  import-answers t r l changes (Err fault) stands h valid needs comes = by (step r (Import changes)) (import-refused t r l changes fault stands h valid needs comes)
+  pub import-answers : (t : Tree) (r : Repo) (l : Loaded) (changes : List NewChange) (result : Result Step CommitFault) → Stands t r → IsLoadedOf t l → AreNewChanges changes → AreOfBytes changes → ListsPaths t r → ImportComesTo t l changes result → ImportAnswersAs t r changes result (step r (Import changes))
+  import-answers t r l changes (Ok s) stands h valid bytes lists comes = import-joined t r l changes s stands h valid bytes lists comes
+  import-answers t r l changes (Err fault) stands h valid bytes lists comes = by (step r (Import changes)) (import-refused t r l changes fault stands h valid bytes lists comes)
     where
       by : (a : Result Next Refusal) → MatchBool (is_free fault) ⊤ (SomeRecord (ComesToNothing fault) t r changes) → ImportAnswersAs t r changes (Err fault) a
       by a why = why

@@ -56,7 +56,6 @@ pub mod UnreadLemmas
 pub mod FreeLemmas
 pub mod AgreeLemmas
 pub mod CopyLemmas
-pub mod DigestLemmas
 pub mod ListLemmas
 pub mod PiecePlanLemmas
 pub mod CarriedLemmas

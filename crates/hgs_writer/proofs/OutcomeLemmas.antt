@@ -40,6 +40,7 @@ use Rattle.hgs_steps.specs.declared.fault.PlanFault.TheVariants as plans
 use Rattle.hgs_steps.specs.declared.step.Step.{Step}
 use Rattle.hgs_writer.specs.Alone.{IsOutcomeOf, IsPassed, LacksRoom, PassesLimit, ReadsWithin, SomeLacksRoom}
 use Rattle.hgs_writer.specs.Below.{Below}
+use Rattle.hgs_writer.specs.BytePaths.{NamesBytes}
 use Rattle.hgs_writer.specs.Commits.{Hinders}
 use Rattle.hgs_writer.specs.Free.{IsFree}
 use Rattle.hgs_writer.specs.Imports.{AreReadWithin, ComesToNothing, IsKeptBy, SomeRecord}
@@ -111,7 +112,7 @@ none-unread : {A : Type 0} (u : Tree) (r : Repo) (changes : List NewChange) (e :
 none-unread u r [] e within some = absurd some
 none-unread u r (n ∷ changes) e within (inl (inl limit)) = absurd (limit.1 within.1)
 none-unread u r (n ∷ changes) e within (inl (inr unloaded)) = absurd (unloaded.1 within.0)
-none-unread u r (n ∷ changes) e within (inr (next, is, some)) = none-unread (after_all (laid u r n next.0) u) next.0 changes e (within.2 next is).1 some
+none-unread u r (n ∷ changes) e within (inr (next, is, some)) = none-unread (after_all (laid u r n next.0) u) next.0 changes e (within.2 next is) some
 
 -- what is read is not refused
 not-refused : {A : Type 0} (t : Tree) (read : Read) (e : ReadAnswer) → loaded_in t ≡ Ok read → loaded_in t ≡ Err e → A
@@ -166,40 +167,40 @@ module _ (laws : Below) (reads_of : (t : Tree) (r : Repo) → Stands t r → Loa
   import-outcome u r l changes (plans.Collision p rev) fit s is comes = some-lacks u r changes (plans.Collision p rev) (λ e k. cc) (λ HasRoom clash hinders. hinders) (import-fault laws u r l changes s is fit (commits.Refused (plans.Collision p rev)) refl comes)
 
   -- nor is what is read for an import
-  unread-import : (u : Tree) (r : Repo) (l : Loaded) (changes : List NewChange) (e : ReadAnswer) → ReadsWithin u r (Import changes) → Stands u r → IsLoadedOf u l → ImportComesTo u l changes (Err (commits.Unread e)) → IsOutcomeOf u r (Import changes) (step r (Import changes)) (outcome_of_read e)
-  unread-import u r l changes (reads.Damaged d) within s is comes = none-unread u r changes (reads.Damaged d) within.1 (import-fault laws u r l changes s is (reads-fit u r (Import changes) within) (commits.Unread (reads.Damaged d)) refl comes)
-  unread-import u r l changes reads.Fault within s is comes = tt
-  unread-import u r l changes (reads.Limit w) within s is comes = none-unread u r changes (reads.Limit w) within.1 (import-fault laws u r l changes s is (reads-fit u r (Import changes) within) (commits.Unread (reads.Limit w)) refl comes)
-  unread-import u r l changes reads.UnknownPath within s is comes = tt
-  unread-import u r l changes reads.NotARepository within s is comes = tt
-  unread-import u r l changes (reads.Requirement w) within s is comes = tt
-  unread-import u r l changes reads.Memory within s is comes = tt
+  unread-import : (u : Tree) (r : Repo) (l : Loaded) (changes : List NewChange) (e : ReadAnswer) → ReadsWithin u r (Import changes) → NamesBytes (Import changes) → Stands u r → IsLoadedOf u l → ImportComesTo u l changes (Err (commits.Unread e)) → IsOutcomeOf u r (Import changes) (step r (Import changes)) (outcome_of_read e)
+  unread-import u r l changes (reads.Damaged d) within bytes s is comes = none-unread u r changes (reads.Damaged d) within.2 (import-fault laws u r l changes s is (reads-fit u r (Import changes) within bytes) (commits.Unread (reads.Damaged d)) refl comes)
+  unread-import u r l changes reads.Fault within bytes s is comes = tt
+  unread-import u r l changes (reads.Limit w) within bytes s is comes = none-unread u r changes (reads.Limit w) within.2 (import-fault laws u r l changes s is (reads-fit u r (Import changes) within bytes) (commits.Unread (reads.Limit w)) refl comes)
+  unread-import u r l changes reads.UnknownPath within bytes s is comes = tt
+  unread-import u r l changes reads.NotARepository within bytes s is comes = tt
+  unread-import u r l changes (reads.Requirement w) within bytes s is comes = tt
+  unread-import u r l changes reads.Memory within bytes s is comes = tt
 
-  refused-outcome : (u : Tree) (r : Repo) (l : Loaded) (command : Command) (fault : PlanFault) → ReadsWithin u r command → Stands u r → IsLoadedOf u l → ComesTo u l command (Err (commits.Refused fault)) → IsOutcomeOf u r command (step r command) (outcome_of_plan fault)
-  refused-outcome u r l (Commit n) plans.Memory within s is comes = tt
-  refused-outcome u r l (Commit n) (plans.Refused e) within s is comes = commit-outcome u r l n (plans.Refused e) refl within.0 s is comes.0
-  refused-outcome u r l (Commit n) (plans.Limit w) within s is comes = commit-outcome u r l n (plans.Limit w) refl within.0 s is comes.0
-  refused-outcome u r l (Commit n) (plans.NameClash p) within s is comes = commit-outcome u r l n (plans.NameClash p) refl within.0 s is comes.0
-  refused-outcome u r l (Commit n) (plans.InTheWay p) within s is comes = commit-outcome u r l n (plans.InTheWay p) refl within.0 s is comes.0
-  refused-outcome u r l (Commit n) (plans.Collision p rev) within s is comes = commit-outcome u r l n (plans.Collision p rev) refl within.0 s is comes.0
-  refused-outcome u r l (Import changes) fault within s is comes = import-outcome u r l changes fault (reads-fit u r (Import changes) within) s is comes
-  refused-outcome u r l (Move name to force) fault within s is comes = given-outcome u r (Move name to force) fault (step r (Move name to force)) (planned l (move_of l name to force)) (λ which next e. e) comes (laws.moved u r l name to force s is)
-  refused-outcome u r l (Mark mark name) fault within s is comes = given-outcome u r (Mark mark name) fault (step r (Mark mark name)) (planned l (mark_of l mark name)) (λ which next e. e) comes (laws.marked u r l mark name s is)
-  refused-outcome u r l (Unmark mark) fault within s is comes = given-outcome u r (Unmark mark) fault (step r (Unmark mark)) (planned l (unmark_of l mark)) (λ which next e. e) comes (laws.unmarked u r l mark s is)
+  refused-outcome : (u : Tree) (r : Repo) (l : Loaded) (command : Command) (fault : PlanFault) → ReadsWithin u r command → NamesBytes command → Stands u r → IsLoadedOf u l → ComesTo u l command (Err (commits.Refused fault)) → IsOutcomeOf u r command (step r command) (outcome_of_plan fault)
+  refused-outcome u r l (Commit n) plans.Memory within bytes s is comes = tt
+  refused-outcome u r l (Commit n) (plans.Refused e) within bytes s is comes = commit-outcome u r l n (plans.Refused e) refl within.0 s is comes.0
+  refused-outcome u r l (Commit n) (plans.Limit w) within bytes s is comes = commit-outcome u r l n (plans.Limit w) refl within.0 s is comes.0
+  refused-outcome u r l (Commit n) (plans.NameClash p) within bytes s is comes = commit-outcome u r l n (plans.NameClash p) refl within.0 s is comes.0
+  refused-outcome u r l (Commit n) (plans.InTheWay p) within bytes s is comes = commit-outcome u r l n (plans.InTheWay p) refl within.0 s is comes.0
+  refused-outcome u r l (Commit n) (plans.Collision p rev) within bytes s is comes = commit-outcome u r l n (plans.Collision p rev) refl within.0 s is comes.0
+  refused-outcome u r l (Import changes) fault within bytes s is comes = import-outcome u r l changes fault (reads-fit u r (Import changes) within bytes) s is comes
+  refused-outcome u r l (Move name to force) fault within bytes s is comes = given-outcome u r (Move name to force) fault (step r (Move name to force)) (planned l (move_of l name to force)) (λ which next e. e) comes (laws.moved u r l name to force s is)
+  refused-outcome u r l (Mark mark name) fault within bytes s is comes = given-outcome u r (Mark mark name) fault (step r (Mark mark name)) (planned l (mark_of l mark name)) (λ which next e. e) comes (laws.marked u r l mark name s is)
+  refused-outcome u r l (Unmark mark) fault within bytes s is comes = given-outcome u r (Unmark mark) fault (step r (Unmark mark)) (planned l (unmark_of l mark)) (λ which next e. e) comes (laws.unmarked u r l mark s is)
 
   -- what a command comes to that is not planned
-  fault-comes : (u : Tree) (r : Repo) (l : Loaded) (command : Command) (fault : CommitFault) → ReadsWithin u r command → Stands u r → IsLoadedOf u l → ComesTo u l command (Err fault) → IsOutcomeOf u r command (step r command) (outcome_of_commit fault)
-  fault-comes u r l command (commits.Refused f) within s is comes = refused-outcome u r l command f within s is comes
-  fault-comes u r l (Commit n) (commits.Unread e) within s is comes = unread-outcome u r l n e within s is comes.0
-  fault-comes u r l (Import changes) (commits.Unread e) within s is comes = unread-import u r l changes e within s is comes
-  fault-comes u r l (Move name to force) (commits.Unread e) within s is comes = absurd comes
-  fault-comes u r l (Mark mark name) (commits.Unread e) within s is comes = absurd comes
-  fault-comes u r l (Unmark mark) (commits.Unread e) within s is comes = absurd comes
+  fault-comes : (u : Tree) (r : Repo) (l : Loaded) (command : Command) (fault : CommitFault) → ReadsWithin u r command → NamesBytes command → Stands u r → IsLoadedOf u l → ComesTo u l command (Err fault) → IsOutcomeOf u r command (step r command) (outcome_of_commit fault)
+  fault-comes u r l command (commits.Refused f) within bytes s is comes = refused-outcome u r l command f within bytes s is comes
+  fault-comes u r l (Commit n) (commits.Unread e) within bytes s is comes = unread-outcome u r l n e within s is comes.0
+  fault-comes u r l (Import changes) (commits.Unread e) within bytes s is comes = unread-import u r l changes e within bytes s is comes
+  fault-comes u r l (Move name to force) (commits.Unread e) within bytes s is comes = absurd comes
+  fault-comes u r l (Mark mark name) (commits.Unread e) within bytes s is comes = absurd comes
+  fault-comes u r l (Unmark mark) (commits.Unread e) within bytes s is comes = absurd comes
 
   not-planned-outcome : (u : Tree) (r : Repo) (command : Command) (fault : CommitFault) (read : Read) → ReadsWithin u r command → Stands u r → loaded_in u ≡ Ok read → IsNotPlannedFor command u fault → IsOutcomeOf u r command (step r command) (outcome_of_commit fault)
   not-planned-outcome u r command _ read reads_within s is (is_unread e m) = read-outcome r command u read (step r command) e is m
   not-planned-outcome u r command _ read reads_within s is has_no_memory = tt
-  not-planned-outcome u r command _ read reads_within s is (is_refused other l fault was from loaded comes) = fault-comes u r l command fault reads_within s loaded comes
+  not-planned-outcome u r command _ read reads_within s is (is_refused other l fault was from loaded comes bytes) = fault-comes u r l command fault reads_within bytes s loaded comes
 
   pub outcome-of : (t : Tree) (r : Repo) (command : Command) (who : List ℕ) (answer : Answer) (done : List Op) → Stands t r → LoadsWithin t r → ReadsWithin t r command → IsWritten who command t answer done → IsOutcomeOf t r command (step r command) answer.outcome
   outcome-of t r command who answer done s within reads_within (is_turned_away why turned outcome) =
@@ -210,5 +211,5 @@ module _ (laws : Below) (reads_of : (t : Tree) (r : Repo) → Stands t r → Loa
       let read = reads_of u r stands (loads-under-locks laws t who locking locks r within) in
       subst (IsOutcomeOf t r command (step r command)) (sym outcome) (outcome-before laws t who locking locks r command (step r command) (outcome_of_commit fault) (not-planned-outcome u r command fault read.0 (reads-under-locks laws t who locking locks r command reads_within) stands read.1 plan))
   outcome-of t r command who answer done s within reads_within (is_carried_out planned locking carrying locks plan c whole) =
-      let made = planned-step laws (after_all locking t) r plan.loaded command plan.step (reads-fit (after_all locking t) r command (reads-under-locks laws t who locking locks r command reads_within)) (laws.stands t r who locking locks s) plan.is_loaded plan.comes in
+      let made = planned-step laws (after_all locking t) r plan.loaded command plan.step (reads-fit (after_all locking t) r command (reads-under-locks laws t who locking locks r command reads_within) plan.bytes) (laws.stands t r who locking locks s) plan.is_loaded plan.comes in
       subst (IsOutcomeOf t r command (step r command)) (sym c.outcome) (subst (λ x. IsOutcomeOf t r command x (outcome_of_ended c.ended planned.rev planned.node)) (sym made.accepted) (outcome-before laws t who locking locks r command (Ok made.next) (outcome_of_ended c.ended planned.rev planned.node) (ended-outcome (after_all locking t) r command made.next made.as_step.few made.as_step.separate planned.rev planned.node c.ended)))

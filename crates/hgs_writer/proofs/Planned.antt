@@ -20,7 +20,8 @@ use Rattle.hgs_steps.specs.Steps.{mark_of, move_of, planned, unmark_of}
 use Rattle.hgs_steps.specs.declared.fault.PlanFault.{PlanFault}
 use Rattle.hgs_steps.specs.declared.loaded.Loaded.{Loaded}
 use Rattle.hgs_steps.specs.declared.step.Step.{Step}
-use Rattle.hgs_writer.specs.Alone.{HasWhatItNeeds}
+use Rattle.hgs_legal.specs.ListsPaths.{ListsPaths}
+use Rattle.hgs_writer.specs.BytePaths.{AreOfBytes, HasBytePaths, NamesBytes}
 use Rattle.hgs_writer.specs.Below.{Below}
 use Rattle.hgs_writer.specs.Imports.{ImportAnswersAs}
 use Rattle.hgs_writer.specs.Planning.{ComesTo}
@@ -36,15 +37,15 @@ pub record IsStepFor (u : Tree) (r : Repo) (command : Command) (step_is : Step) 
   pub ready : IsReady u r command next.0
 
 module _ (laws : Below) (u : Tree) (r : Repo) (l : Loaded) (s : Stands u r) (loads : IsLoadedOf u l) where
-  commit-step : (n : NewChange) (step_is : Step) → IsValid (Commit n) → HasWhatItNeeds u r (Commit n) → Steps l n u (Ok step_is) → IsStepFor u r (Commit n) step_is
-  commit-step n step_is valid has comes = by (step r (Commit n)) refl (subst (λ (x : Result Step CommitFault). AnswersWith IsTold u r n comes.0 x (step r (Commit n))) comes.2 (laws.committed u r l n comes.0 s loads valid))
+  commit-step : (n : NewChange) (step_is : Step) → IsValid (Commit n) → HasBytePaths n → ListsPaths u r → Steps l n u (Ok step_is) → IsStepFor u r (Commit n) step_is
+  commit-step n step_is valid bytes lists comes = by (step r (Commit n)) refl (subst (λ (x : Result Step CommitFault). AnswersWith IsTold u r n comes.0 x (step r (Commit n))) comes.2 (laws.committed u r l n comes.0 s loads valid))
     where
       IsTold : Type 0
       IsTold = ClashBy l n u (parents_answer (named_all l n.parents)) comes.0
 
       by : (stepped : Result Next Refusal) → step r (Commit n) ≡ stepped → AnswersWith (ClashBy l n u (parents_answer (named_all l n.parents)) comes.0) u r n comes.0 (Ok step_is) stepped → IsStepFor u r (Commit n) step_is
       by (Err e) is made = absurd made
-      by (Ok next) is made = record { next = next; accepted = is; as_step = made.as_step; ready = made.ready comes.1 (has next is) }
+      by (Ok next) is made = record { next = next; accepted = is; as_step = made.as_step; ready = made.ready comes.1 lists bytes }
 
   step-for : (command : Command) (step_is : Step) (a : Result Step PlanFault) → ((next : Repo) → IsReady u r command next) → a ≡ Ok step_is → AnswersAs u r command a (step r command) → IsStepFor u r command step_is
   step-for command step_is a ready e is = by (step r command) refl (subst (λ x. AnswersAs u r command x (step r command)) e is)
@@ -53,16 +54,16 @@ module _ (laws : Below) (u : Tree) (r : Repo) (l : Loaded) (s : Stands u r) (loa
       by (Err e) accepted made = absurd made
       by (Ok next) accepted made = record { next = next; accepted = accepted; as_step = made; ready = ready next.0 }
 
-  import-step : (changes : List NewChange) (step_is : Step) → IsValid (Import changes) → HasWhatItNeeds u r (Import changes) → ImportComesTo u l changes (Ok step_is) → IsStepFor u r (Import changes) step_is
-  import-step changes step_is valid has comes = by (step r (Import changes)) refl (laws.imported u r l changes (Ok step_is) s loads valid has comes)
+  import-step : (changes : List NewChange) (step_is : Step) → IsValid (Import changes) → AreOfBytes changes → ListsPaths u r → ImportComesTo u l changes (Ok step_is) → IsStepFor u r (Import changes) step_is
+  import-step changes step_is valid bytes lists comes = by (step r (Import changes)) refl (laws.imported u r l changes (Ok step_is) s loads valid bytes lists comes)
     where
       by : (stepped : Result Next Refusal) → step r (Import changes) ≡ stepped → ImportAnswersAs u r changes (Ok step_is) stepped → IsStepFor u r (Import changes) step_is
       by (Err e) is made = absurd made
       by (Ok next) is made = record { next = next; accepted = is; as_step = made.0; ready = made.1 }
 
-  pub planned-step : (command : Command) (step_is : Step) → IsValid command → HasWhatItNeeds u r command → ComesTo u l command (Ok step_is) → IsStepFor u r command step_is
-  planned-step (Commit n) step_is valid has comes = commit-step n step_is valid has comes.0
-  planned-step (Import changes) step_is valid has comes = import-step changes step_is valid has comes
-  planned-step (Move name to force) step_is valid has comes = step-for (Move name to force) step_is (planned l (move_of l name to force)) (λ next. tt) comes (laws.moved u r l name to force s loads)
-  planned-step (Mark mark name) step_is valid has comes = step-for (Mark mark name) step_is (planned l (mark_of l mark name)) (λ next. tt) comes (laws.marked u r l mark name s loads)
-  planned-step (Unmark mark) step_is valid has comes = step-for (Unmark mark) step_is (planned l (unmark_of l mark)) (λ next. tt) comes (laws.unmarked u r l mark s loads)
+  pub planned-step : (command : Command) (step_is : Step) → IsValid command → NamesBytes command → ListsPaths u r → ComesTo u l command (Ok step_is) → IsStepFor u r command step_is
+  planned-step (Commit n) step_is valid bytes lists comes = commit-step n step_is valid bytes lists comes.0
+  planned-step (Import changes) step_is valid bytes lists comes = import-step changes step_is valid bytes lists comes
+  planned-step (Move name to force) step_is valid bytes lists comes = step-for (Move name to force) step_is (planned l (move_of l name to force)) (λ next. tt) comes (laws.moved u r l name to force s loads)
+  planned-step (Mark mark name) step_is valid bytes lists comes = step-for (Mark mark name) step_is (planned l (mark_of l mark name)) (λ next. tt) comes (laws.marked u r l mark name s loads)
+  planned-step (Unmark mark) step_is valid bytes lists comes = step-for (Unmark mark) step_is (planned l (unmark_of l mark)) (λ next. tt) comes (laws.unmarked u r l mark s loads)

@@ -1,17 +1,20 @@
 -- A commit with nothing in its way is ready.
 use Rattle.std.proofs.Common.{◌≡◌, ◌⊎◌, ◌<◌, ◌≤◌, ℕ, List, [], ◌∷◌, ◌++◌, Bool, true, false, ◌||◌, length, inl, inr, refl, sym, ◌∙◌, ap, subst, arith, length-append}
-use Rattle.std.specs.Prelude.{◌^◌, None, OnOk, Some, Result, Ok, find}
+use Rattle.std.specs.Prelude.{◌+◌, ◌^◌, None, OnOk, Some, Result, Ok, cond, find, nat_lt}
 use Rattle.std.specs.List.{AllByRecursion, AllZip}
 use Rattle.hex.specs.Hex.{IsBytes}
+use Rattle.std.proofs.lemmas.Bool.Decides.{nat_tests}
 use Rattle.hgs_bytes.specs.Bytes.{among, same}
 use Rattle.hgs_bytes.specs.Text.{ascends}
 use Rattle.hgs_bytes.specs.Theorems.ByteLemmas.{same-eq, same-refl}
 use Rattle.hgs_files.specs.Tree.{Tree, bytes_at}
+use Rattle.hgs_index.specs.declared.kinds.Which.TheVariants as limits
 use Rattle.hgs_index.specs.Inline.{is_inline}
 use Rattle.hgs_index.specs.Revision.{Parents, Revision, standing, with_revision_at}
 use Rattle.hgs_model.specs.History.{History, changeset_revision, file_revision, filelog_with, history, manifest_revision, manifest_with, uses, with_changeset}
 use Rattle.hgs_model.specs.Repo.{Changeset, Repo, TreeFile, tree_paths}
 use Rattle.hgs_model.specs.Step.{copies_hold, new_changeset}
+use Rattle.hgs_loading.specs.Small.{most_fncache}
 use Rattle.hgs_model.specs.Valid.{new_paths as paths_of_files}
 use Rattle.hgs_model.specs.declared.command.Command.TheVariants.{Commit}
 use Rattle.hgs_model.specs.declared.command.NewChange.{NewChange}
@@ -21,6 +24,7 @@ use Rattle.hgs_ops.specs.Growth.{begins_inline, growing_chunks, is_part, new_pat
 use Rattle.hgs_ops.specs.Theorems.GrowLemmas.{places-one}
 use Rattle.hgs_ops.specs.Unhindered.{AreNewRevisions, HasRoom, HavePlaces, IsReady, IsUnhindered}
 use Rattle.hgs_ops.specs.Theorems.Touch.{bool, or-left, or-right}
+use Rattle.hgs_path.specs.declared.fncache.FncacheFault.{FncacheFault}
 use Rattle.hgs_path.specs.declared.name.Ext.{Ext}
 use Rattle.hgs_path.specs.declared.name.Ext.TheVariants.{I, D}
 use Rattle.hgs_path.specs.Fncache.{clashes, is_path_of, listing, lists}
@@ -28,17 +32,16 @@ use Rattle.hgs_path.specs.ListedNames.{listed_file, names_of}
 use Rattle.hgs_path.specs.StoreName.{listed_name, store_name}
 use Rattle.hgs_revlog.specs.Load.{most_data, most_revisions}
 use Rattle.hgs_stands.specs.Places.{changelog_data, changelog_index, fncache_path, manifest_data, manifest_index}
-use Rattle.hgs_stands.specs.Stands.{IsUsedName, Stands, has_inline_log}
+use Rattle.hgs_stands.specs.Stands.{Stands, has_inline_log}
 use Rattle.hgs_steps.specs.Loaded.{has_inline}
-use Rattle.hgs_stands.specs.Theorems.FilesLemmas.{name-used}
 use Rattle.hgs_steps.specs.Planned.{IsLoadedOf}
 use Rattle.hgs_steps.specs.Steps.{as_fault}
 use Rattle.hgs_steps.specs.declared.fault.PlanFault.{PlanFault}
 use Rattle.hgs_steps.specs.declared.loaded.Loaded.{Loaded}
 use Rattle.hgs_commit.specs.Changeset.{of_changelog, of_manifest}
-use Rattle.hgs_commit.specs.Commit.{ClashOn, OfTexts, OfTrees, copies_tested, trees_in}
+use Rattle.hgs_commit.specs.Commit.{ClashOn, OfTexts, OfTrees, copies_tested, long_list, trees_in}
 use Rattle.hgs_commit.specs.Files.{OfFile}
-use Rattle.hgs_commit.specs.Obstacles.{ClashBehind, Obstacle}
+use Rattle.hgs_commit.specs.Obstacles.{ClashBehind, Obstacle, passes}
 use Rattle.hgs_commit.specs.Texts.{OfLog}
 use Rattle.hgs_commit.specs.Tree.{new_paths as new_among_files}
 use Rattle.hgs_commit.specs.Trees.{OfGrown}
@@ -46,10 +49,12 @@ use Rattle.hgs_load.specs.declared.answer.ReadAnswer.{ReadAnswer}
 use Rattle.hgs_writer.specs.CommitsBelow.{Below}
 use Rattle.hgs_writer.specs.Growth.{IsGrownFileOf, IsWhole}
 use Rattle.hgs_writer.specs.Logs.{IsLogOf}
-use Rattle.hgs_writer.specs.Ready.{NeedsNoTest}
+use Rattle.hgs_legal.specs.ListsPaths.{ListsPaths}
+use Rattle.hgs_legal.specs.NothingClashes.{NothingClashes}
+use Rattle.hgs_writer.specs.BytePaths.{HasBytePaths}
 use Rattle.hgs_writer.specs.Trees.{AreTextsOf}
-use Rattle.hgs_writer.proofs.Basics.{never}
-use Rattle.hgs_writer.proofs.ClashLemmas.{clash-free, clashes-swap, new-among, none-clash}
+use Rattle.hgs_writer.proofs.Basics.{never, ok-is}
+use Rattle.hgs_writer.proofs.ClashLemmas.{clashes-swap, new-among, none-clash}
 use Rattle.hgs_writer.proofs.CopyLemmas.{copies-same}
 use Rattle.hgs_writer.proofs.FilelogLemmas.{listing-is}
 use Rattle.hgs_writer.proofs.FormLemmas.{separate-chunks, separate-entries}
@@ -97,12 +102,37 @@ all-among P (x ∷ xs) each = (each x (ap (λ b. b || among x xs) (same-refl x))
     more true b e = refl
     more false b e = e
 
+among-all : (P : List ℕ → Type 0) (xs : List (List ℕ)) → AllByRecursion P xs → (x : List ℕ) → among x xs ≡ true → P x
+among-all P [] all x there = never (sym there)
+among-all P (y ∷ xs) all x there = by (bool (same x y)) (among-all P xs all.1 x)
+  where
+    by : (same x y ≡ true) ⊎ (same x y ≡ false) → (among x xs ≡ true → P x) → P x
+    by (inl here) rec = subst P (sym (same-eq x y here)) all.0
+    by (inr away) rec = rec (ap (λ b. b || among x xs) (sym away) ∙ there)
+
+-- a list of filelogs that does not pass its limit is short
+list-short : (t : Tree) (l : Loaded) (lines : List ℕ) → IsLoadedOf t l → long_list l (length lines) ≡ [] → length (bytes_at t fncache_path) < 2 ^ 64
+list-short t l lines loads none = fits (nat_lt most_fncache (l.fncache_length + length lines)) refl none
+  where
+    within : (most k : ℕ) → nat_lt most k ≡ false → k ≤ most
+    within most k h = grind (arith, nat_tests, h)
+
+    fits : (b : Bool) → nat_lt most_fncache (l.fncache_length + length lines) ≡ b → (let os : List Obstacle = cond b (passes limits.Part ∷ []) [] in os) ≡ [] → length (bytes_at t fncache_path) < 2 ^ 64
+    fits true e h = cc
+    fits false e h = let few = within most_fncache (l.fncache_length + length lines) e in omega (arith, few, loads.fncache_length)
+
+-- What the laws of lists of filelogs that have only names of paths say.
+pub record ListLaws : Type 0 where
+  pub used : (t : Tree) (r : Repo) → Stands t r → ListsPaths t r → (path : List ℕ) → uses r.changesets path ≡ true → IsBytes path
+  pub listed : (t : Tree) (r next : Repo) → ListsPaths t r → NothingClashes t r next → (names : List (List ℕ)) → names_of (bytes_at t fncache_path) ≡ Ok names → (name path : List ℕ) (ext : Ext) → among name names ≡ true → among path (new_paths r next) ≡ true → listed_file name ≡ store_name path ext → listed_name path ext ≡ name
+
 -- ---- the commit
 
 module _ (laws : Below) (t : Tree) (r next : Repo) (l : Loaded) (s : Stands t r) (loads : IsLoadedOf t l) (plain_logs : has_inline l ≡ false) (form : has_inline l ≡ has_inline_log t) (changelog : IsLogOf t (of_changelog l.changelog) (history r.changesets).changelog) (manifest : IsLogOf t (of_manifest l.manifest) (history r.changesets).manifest) (n : NewChange) (parents : Parents)
     (ordered : ascends (paths_of_files n.files) ≡ true) (with_it : next.changesets ≡ r.changesets ++ new_changeset (history r.changesets) parents n ∷ []) (copies : copies_hold (history r.changesets) parents n.files ≡ Ok tt)
     (x : OfGrown × Parents) (files : AreFree t r l n parents x) (y : OfTexts × List Obstacle) (plain : y.1 ≡ []) (texts : AreTextsOf l (history r.changesets) (new_changeset (history r.changesets) parents n) y)
-    (unclashed : ClashOn l n (trees_in l n parents t) None None) (new : standing (history r.changesets).changelog (changeset_revision (history r.changesets) (new_changeset (history r.changesets) parents n)).text parents ≡ None) (needs : NeedsNoTest t r next) where
+    (unclashed : ClashOn l n (trees_in l n parents t) None None) (new : standing (history r.changesets).changelog (changeset_revision (history r.changesets) (new_changeset (history r.changesets) parents n)).text parents ≡ None)
+    (few : long_list l (length y.0.lines) ≡ []) (kept : ListsPaths t r) (named : HasBytePaths n) (list_laws : ListLaws) where
   abbrev h : History
   h = history r.changesets
 
@@ -121,12 +151,15 @@ module _ (laws : Below) (t : Tree) (r next : Repo) (l : Loaded) (s : Stands t r)
   used-next : (path : List ℕ) → uses next.changesets path ≡ (uses r.changesets path || among path (new_paths r next))
   used-next path = ap (λ (all : List Changeset). uses all path) with_it ∙ uses-push r.changesets c path ∙ ap (λ ps. uses r.changesets path || among path ps) (sym paths)
 
-  new-used : (path : List ℕ) → among path (new_paths r next) ≡ true → uses next.changesets path ≡ true
-  new-used path there = used-next path ∙ ap (λ b. uses r.changesets path || b) there ∙ or-true (uses r.changesets path)
+  new-bytes : (path : List ℕ) → among path (new_paths r next) ≡ true → IsBytes path
+  new-bytes path there = among-all IsBytes (paths_of_files n.files) named path (ap (among path) (sym (paths ∙ new-paths-are h parents n.files)) ∙ there)
+
+  used-bytes : (path : List ℕ) → uses next.changesets path ≡ true → IsBytes path
+  used-bytes path used = by (bool (uses r.changesets path))
     where
-      or-true : (b : Bool) → (b || true) ≡ true
-      or-true true = refl
-      or-true false = refl
+      by : (uses r.changesets path ≡ true) ⊎ (uses r.changesets path ≡ false) → IsBytes path
+      by (inl before) = list_laws.used t r s kept path before
+      by (inr unused) = new-bytes path (ap (λ b. b || among path (new_paths r next)) (sym unused) ∙ sym (used-next path) ∙ used)
 
   file : (path : List ℕ) → among path (new_paths r next) ≡ true → FileAt t h c path
   file path there = file-at t h c c.tree files.trees.trees.files.0 path files.all (new-there path there)
@@ -159,10 +192,10 @@ module _ (laws : Below) (t : Tree) (r next : Repo) (l : Loaded) (s : Stands t r)
       new-other unused = ap (λ b. b || among other (new_paths r next)) (sym unused) ∙ sym (used-next other) ∙ used
 
       path_bytes : IsBytes path
-      path_bytes = needs.bytes path (new-used path there)
+      path_bytes = new-bytes path there
 
       other_bytes : IsBytes other
-      other_bytes = needs.bytes other used
+      other_bytes = used-bytes other used
 
       by : (uses r.changesets path ≡ true) ⊎ (uses r.changesets path ≡ false) → (uses r.changesets other ≡ true) ⊎ (uses r.changesets other ≡ false) → clashes path other ≡ false
       by (inl a) (inl b) = s.revlogs.names path other a b
@@ -171,14 +204,10 @@ module _ (laws : Below) (t : Tree) (r next : Repo) (l : Loaded) (s : Stands t r)
       by (inr a) (inr b) = clash-of path other path_bytes other_bytes there a (inr (first-used other (new-other b) b))
 
   own-name : (names : List (List ℕ)) → names_of (bytes_at t fncache_path) ≡ Ok names → (name path : List ℕ) (ext : Ext) → among name names ≡ true → among path (new_paths r next) ≡ true → listed_file name ≡ store_name path ext → listed_name path ext ≡ name
-  own-name names read name path ext there new same_file = by (name-used t r names name s read there)
+  own-name = list_laws.listed t r next kept nothing
     where
-      by : IsUsedName t r.changesets name → listed_name path ext ≡ name
-      by (inl none) = needs.listed names read name path ext there new same_file (ap (bytes_at t) (sym same_file) ∙ none)
-      by (inr u) =
-          let free = no-clash path u.0 new (used-next u.0 ∙ ap (λ b. b || among u.0 (new_paths r next)) u.2) in
-          let one = clash-free path u.0 ext u.1 laws.kinds free (sym (laws.file u.0 u.1) ∙ ap listed_file u.3 ∙ same_file) in
-          (λ i. listed_name (sym one.0 i) (sym one.1 i)) ∙ u.3
+      nothing : NothingClashes t r next
+      nothing names read path there unused other other_bytes is = clash-of path other (new-bytes path there) other_bytes there unused (inl (ap (λ (list : List ℕ → Ext → Bool). is_path_of list other) (listing-is t r l s loads ∙ ap lists (ok-is {E = FncacheFault} s.fncache.names names (sym s.fncache.text ∙ read))) ∙ is))
 
   -- ---- revisions
 
@@ -231,7 +260,7 @@ module _ (laws : Below) (t : Tree) (r next : Repo) (l : Loaded) (s : Stands t r)
   shorts : AreShort t r next
   shorts = record {
     filelogs = subst (λ (k : History). AllByRecursion (AreShortFiles t h.filelog k.filelog) (new_paths r next)) (sym logs) (subst (AllByRecursion (AreShortFiles t h.filelog (filelog_with h c))) (sym paths) (all-short t h c c.tree files.trees.trees.files.0 files.all));
-    list = needs.list;
+    list = list-short t l y.0.lines loads few;
     manifest = (short (length (bytes_at t manifest_index)) manifest-small.0, short (length (bytes_at t manifest_data)) manifest-small.1);
     changelog = (short (length (bytes_at t changelog_index)) changelog-small.0, short (length (bytes_at t changelog_data)) changelog-small.1);
   }
@@ -249,4 +278,4 @@ module _ (laws : Below) (t : Tree) (r next : Repo) (l : Loaded) (s : Stands t r)
   }
 
   pub ready : IsReady t r (Commit n) next
-  ready = (unhindered, record { paths = all-among IsBytes (new_paths r next) (λ path there. needs.bytes path (new-used path there)); sizes = journal-short t r next n shorts })
+  ready = (unhindered, record { paths = all-among IsBytes (new_paths r next) new-bytes; sizes = journal-short t r next n shorts })

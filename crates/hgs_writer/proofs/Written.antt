@@ -36,7 +36,8 @@ use Rattle.hgs_transaction.specs.Assembled.{IsPlanOf}
 use Rattle.hgs_transaction.specs.OfTransaction.{ArePartsOf}
 use Rattle.hgs_transaction.specs.declared.assemble.Plan.{Plan}
 use Rattle.hgs_transaction.specs.declared.parts.Parts.{Parts}
-use Rattle.hgs_writer.specs.Alone.{HasWhatItNeeds, IsBarred}
+use Rattle.hgs_legal.specs.ListsPaths.{ListsPaths}
+use Rattle.hgs_writer.specs.Alone.{IsBarred}
 use Rattle.hgs_writer.specs.Begun.{IsRefused, has_no_locks}
 use Rattle.hgs_writer.specs.Begun as begun
 use Rattle.hgs_writer.specs.Below.{Below}
@@ -46,7 +47,7 @@ use Rattle.hgs_writer.specs.Written.{IsCarriedOut, IsWrittenFor, has_no_plan, ha
 use Rattle.hgs_writer.specs.declared.plan.Planned.{Planned}
 use Rattle.hgs_writer.specs.Turns.{IsAtRest, IsTurnOf, LeadsAs, LeadsOn, Order}
 use Rattle.hgs_writer.proofs.Carried.{Comes, comes}
-use Rattle.hgs_writer.proofs.CommitLemmas.{has-under-locks}
+use Rattle.hgs_writer.proofs.CommitLemmas.{lists-under-locks}
 use Rattle.hgs_writer.proofs.Planned.{planned-step}
 use Rattle.hgs_writer.proofs.PlanLists.{lists-are}
 use Rattle.hgs_writer.proofs.Refused.{released, turned-away}
@@ -142,13 +143,13 @@ refused-leads s rested o who command answer done (begun.has_no_plan fault lockin
 -- ---- the whole
 
 module _ (laws : Below) (listed : AreListed) (s : State) (rested : IsAtRest None s) (stands : Stands s.files (current s)) where
-  carried-leads : (command : Command) (who : List ℕ) (answer : Told) (planned : Planned) (locking carrying : List Op) → IsValid command → HasWhatItNeeds s.files (current s) command → AreLocked who s.files locking → IsPlannedFor command (after_all locking s.files) planned
+  carried-leads : (command : Command) (who : List ℕ) (answer : Told) (planned : Planned) (locking carrying : List Op) → IsValid command → ListsPaths s.files (current s) → AreLocked who s.files locking → IsPlannedFor command (after_all locking s.files) planned
       → IsCarriedOut (after_all locking s.files) planned answer carrying → LeadsAs s (locking ++ carrying) (record { who = who; command = command; changeset = Some (planned.rev, planned.node) }) answer.outcome
-  carried-leads command who answer planned locking carrying valid has locks plan c =
+  carried-leads command who answer planned locking carrying valid lists locks plan c =
       let u = after_all locking s.files in
       let r = current s in
       let o : Order = record { who = who; command = command; changeset = Some (planned.rev, planned.node) } in
-      let made = planned-step laws u r plan.loaded (laws.stands s.files r who locking locks stands) plan.is_loaded command plan.step valid (has-under-locks laws s.files who locking locks r command has) plan.comes in
+      let made = planned-step laws u r plan.loaded (laws.stands s.files r who locking locks stands) plan.is_loaded command plan.step valid plan.bytes (lists-under-locks laws s.files who locking locks r lists) plan.comes in
       let next = made.next in
       let x : Turn = turn_of s.files r command who next.0 next.1 in
       let is : IsTurnOf o x = record { who = refl; command = refl; told = (plan.rev ∙ made.as_step.rev, ap (λ n. n.0) plan.node ∙ made.as_step.node) } in
@@ -156,11 +157,11 @@ module _ (laws : Below) (listed : AreListed) (s : State) (rested : IsAtRest None
       (laws.ready s.files r next.0 command who locking locks made.ready) (laws.parts s.files r next.0 command who plan.step.parts locking locks made.as_step.parts) plan.plan locks c.carried in
       subst (LeadsAs s (locking ++ carrying) o) (sym c.outcome) (by-answer s rested o x is (locking ++ carrying) c.ended planned.rev planned.node came)
 
-  pub written : (command : Command) (who : List ℕ) (answer : Told) (changeset : Option (ℕ × Node)) (done : List Op) → IsValid command → HasWhatItNeeds s.files (current s) command → IsWrittenFor who command s.files answer changeset done
+  pub written : (command : Command) (who : List ℕ) (answer : Told) (changeset : Option (ℕ × Node)) (done : List Op) → IsValid command → ListsPaths s.files (current s) → IsWrittenFor who command s.files answer changeset done
       → LeadsAs s done (record { who = who; command = command; changeset = changeset }) answer.outcome
-  written command who answer _ _ valid has (has_no_plan done refused) = refused-leads s rested (record { who = who; command = command; changeset = None }) who command answer done refused
-  written command who answer _ _ valid has (has_plan planned locking carrying done locks plan c whole) =
-      subst (λ l. LeadsAs s l (record { who = who; command = command; changeset = Some (planned.rev, planned.node) }) answer.outcome) (sym whole) (carried-leads command who answer planned locking carrying valid has locks plan c)
+  written command who answer _ _ valid lists (has_no_plan done refused) = refused-leads s rested (record { who = who; command = command; changeset = None }) who command answer done refused
+  written command who answer _ _ valid lists (has_plan planned locking carrying done locks plan c whole) =
+      subst (λ l. LeadsAs s l (record { who = who; command = command; changeset = Some (planned.rev, planned.node) }) answer.outcome) (sym whole) (carried-leads command who answer planned locking carrying valid lists locks plan c)
 
 -- ---- beside a journal
 

@@ -9,6 +9,7 @@ use Rattle.hgs_files.specs.Tree.{Tree, after_all}
 use Rattle.hgs_index.specs.declared.kinds.Which.{Which}
 use Rattle.hgs_index.specs.declared.kinds.Which.TheVariants.{Bookmarks, Inline}
 use Rattle.hgs_index.specs.declared.node.Node.{Node}
+use Rattle.hgs_legal.specs.ListsPaths.{ListsPaths}
 use Rattle.hgs_legal.specs.Pieces.{LeavesJournal, Piece}
 use Rattle.hgs_model.specs.Repo.{Repo}
 use Rattle.hgs_model.specs.Step.{Next, step}
@@ -24,20 +25,14 @@ use Rattle.hgs_stands.specs.Stands.{Stands, has_inline_log}
 use Rattle.hgs_steps.specs.Planned.{passes_limit}
 use Rattle.hgs_writer.specs.Commits.{CanBeRead}
 use Rattle.hgs_writer.specs.Free.{IsFree}
-use Rattle.hgs_writer.specs.Imports.{AreReadWithin, NeedNoTests, SomeRecord}
-use Rattle.hgs_writer.specs.Ready.{NeedsNoTest}
-
--- Where a commit or a record of an import is accepted, the tree has what it needs of it that no test tells. A phase or bookmark command needs nothing.
-abbrev pub HasWhatItNeeds : Tree → Repo → Command → Type 0
-HasWhatItNeeds t r (Commit n) = (next : Next) → step r (Commit n) ≡ Ok next → NeedsNoTest t r next.0
-HasWhatItNeeds t r (Import changes) = NeedNoTests t r changes
-HasWhatItNeeds t r command = Unit {0}
+use Rattle.hgs_writer.specs.Imports.{AreReadWithin, SomeRecord}
 
 -- A record can hold the commit, or records the changesets of the import, and the trees and the filelogs that it reads are within the
--- limits, of an import for each record. Another command reads no more than what is loaded for each.
+-- limits, of an import for each record, where the list of filelogs has only names of paths. Another command reads no more than what is loaded
+-- for each.
 abbrev pub ReadsWithin : Tree → Repo → Command → Type 0
 ReadsWithin t r (Commit n) = IsNewChange n × CanBeRead t r
-ReadsWithin t r (Import changes) = AreNewChanges changes × AreReadWithin t r changes
+ReadsWithin t r (Import changes) = AreNewChanges changes × ListsPaths t r × AreReadWithin t r changes
 ReadsWithin t r command = Unit {0}
 
 -- The command was accepted, the tree stands for the next repository, and its changeset is answered.

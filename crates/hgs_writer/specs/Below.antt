@@ -28,7 +28,9 @@ use Rattle.hgs_writer.specs.Commits.{AnswersAs as CommitAnswersAs}
 use Rattle.hgs_commit.specs.Commit.{commit_in}
 use Rattle.hgs_bytes.specs.Bytes.{same}
 use Rattle.hgs_ops.specs.Unhindered.{IsReady}
-use Rattle.hgs_writer.specs.Imports.{ComesToNothing, ImportAnswersAs, NeedNoTests, SomeRecord}
+use Rattle.hgs_legal.specs.ListsPaths.{ListsPaths}
+use Rattle.hgs_writer.specs.BytePaths.{AreOfBytes}
+use Rattle.hgs_writer.specs.Imports.{ComesToNothing, ImportAnswersAs, SomeRecord}
 use Rattle.hgs_writer.specs.Made.{IsPieceOf}
 use Rattle.hgs_writer.specs.Records.{ImportComesTo}
 use Rattle.hgs_stands.specs.Open.{IsOpen}
@@ -60,7 +62,7 @@ pub record Below : Type 0 where
   pub marked : (t : Tree) (r : Repo) (l : Loaded) (mark name : List ℕ) → Stands t r → IsLoadedOf t l → AnswersAs t r (Mark mark name) (planned l (mark_of l mark name)) (step r (Mark mark name))
   pub unmarked : (t : Tree) (r : Repo) (l : Loaded) (mark : List ℕ) → Stands t r → IsLoadedOf t l → AnswersAs t r (Unmark mark) (planned l (unmark_of l mark)) (step r (Unmark mark))
   pub committed : (t : Tree) (r : Repo) (l : Loaded) (n : NewChange) (clash : Option (List ℕ)) → Stands t r → IsLoadedOf t l → IsNewChange n → CommitAnswersAs t r l n clash (commit_in clash l n t) (step r (Commit n))
-  pub imported : (t : Tree) (r : Repo) (l : Loaded) (changes : List NewChange) (result : Result Step CommitFault) → Stands t r → IsLoadedOf t l → AreNewChanges changes → NeedNoTests t r changes → ImportComesTo t l changes result → ImportAnswersAs t r changes result (step r (Import changes))
+  pub imported : (t : Tree) (r : Repo) (l : Loaded) (changes : List NewChange) (result : Result Step CommitFault) → Stands t r → IsLoadedOf t l → AreNewChanges changes → AreOfBytes changes → ListsPaths t r → ImportComesTo t l changes result → ImportAnswersAs t r changes result (step r (Import changes))
   pub refused : (t : Tree) (r : Repo) (changes : List NewChange) (e : Refusal) → SomeRecord (ComesToNothing (Refused (refused_for e))) t r changes → step r (Import changes) ≡ Err e
   pub laid_alike : (t u : Tree) (r next : Repo) (n : NewChange) → ((path : List ℕ) → is_loose strays path ≡ false → u path ≡ t path) → (path : List ℕ) → is_loose strays path ≡ false → after_all (laid u r n next) u path ≡ after_all (laid t r n next) t path
   -- files

@@ -24,8 +24,9 @@ use Rattle.hgs_steps.specs.declared.loaded.Loaded.{Loaded}
 use Rattle.hgs_steps.specs.declared.step.Step.{Step}
 use Rattle.hgs_commit.specs.Commit.{ClashBy}
 use Rattle.hgs_commit.specs.declared.fault.CommitFault.{CommitFault}
+use Rattle.hgs_legal.specs.ListsPaths.{ListsPaths}
+use Rattle.hgs_writer.specs.BytePaths.{HasBytePaths}
 use Rattle.hgs_writer.specs.Free.{IsFree}
-use Rattle.hgs_writer.specs.Ready.{NeedsNoTest}
 
 -- Each changeset has as few files as may be read, and each filelog is within the limits of a revlog.
 pub record CanBeRead (t : Tree) (r : Repo) : Type 0 where
@@ -46,10 +47,11 @@ Hinders HasRoom clash (InTheWay path) = HasRoom → ⊥
 Hinders HasRoom clash (Collision path rev) = HasRoom → ⊥
 Hinders HasRoom clash Memory = ⊥
 
--- The step is the repository's; and where it was told whether names clash, the tree is ready for it, if it has what needs no test.
+-- The step is the repository's; and where it was told whether names clash, the tree is ready for it, if its list of filelogs has only
+-- names of paths, and the commit's paths are bytes.
 pub record IsCommitOf (IsTold : Type 0) (t : Tree) (r : Repo) (n : NewChange) (next : Next) (step : Step) : Type 0 where
   pub as_step : IsStepOf t r (Commit n) next step
-  pub ready : IsTold → NeedsNoTest t r next.0 → IsReady t r (Commit n) next.0
+  pub ready : IsTold → ListsPaths t r → HasBytePaths n → IsReady t r (Commit n) next.0
 
 abbrev pub AnswersWith : Type 0 → Tree → Repo → NewChange → Option (List ℕ) → Result Step CommitFault → Result Next Refusal → Type 0
 AnswersWith IsTold t r n clash (Err (CommitFault.Unread why)) answer = IsLimit why × (CanBeRead t r → ⊥)

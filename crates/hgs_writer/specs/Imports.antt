@@ -23,22 +23,11 @@ use Rattle.hgs_steps.specs.declared.step.Step.{Step}
 use Rattle.hgs_writer.specs.Commits.{CanBeRead, Hinders, IsLimit}
 use Rattle.hgs_writer.specs.Free.{IsFree}
 use Rattle.hgs_writer.specs.Limits.{LoadsWithin}
-use Rattle.hgs_writer.specs.Ready.{HasOwnDigests, NeedsNoTest}
 
--- Each record that is accepted has, of the tree into which those before it are laid, what it needs that no test tells.
-abbrev pub NeedNoTests : Tree → Repo → List NewChange → Type 0
-NeedNoTests t r [] = Unit {0}
-NeedNoTests t r (n ∷ changes) = (next : Next) → step r (Commit n) ≡ Ok next → NeedsNoTest t r next.0 × NeedNoTests (after_all (laid t r n next.0) t) next.0 changes
-
--- Each has it where no other name in the list has the digest of the name of a new path's file.
-abbrev pub HaveOwnDigests : Tree → Repo → List NewChange → Type 0
-HaveOwnDigests t r [] = Unit {0}
-HaveOwnDigests t r (n ∷ changes) = (next : Next) → step r (Commit n) ≡ Ok next → HasOwnDigests t r next.0 × HaveOwnDigests (after_all (laid t r n next.0) t) next.0 changes
-
--- Each record has that too, and what is read for it is within the limits.
+-- What is read for each record is within the limits, in the tree into which those before it, which are accepted, are laid.
 abbrev pub AreReadWithin : Tree → Repo → List NewChange → Type 0
 AreReadWithin t r [] = Unit {0}
-AreReadWithin t r (n ∷ changes) = LoadsWithin t r × CanBeRead t r × ((next : Next) → step r (Commit n) ≡ Ok next → NeedsNoTest t r next.0 × AreReadWithin (after_all (laid t r n next.0) t) next.0 changes)
+AreReadWithin t r (n ∷ changes) = LoadsWithin t r × CanBeRead t r × ((next : Next) → step r (Commit n) ≡ Ok next → AreReadWithin (after_all (laid t r n next.0) t) next.0 changes)
 
 -- This holds of one of the records, on the tree into which those before it are laid; these are accepted.
 abbrev pub SomeRecord : (Tree → Repo → NewChange → Type 0) → Tree → Repo → List NewChange → Type 0

@@ -13,7 +13,7 @@ pub mod Files
 pub mod NewTexts
 pub mod Trees
 pub mod Growth
-pub mod Ready
+pub mod BytePaths
 pub mod Commits
 pub mod StepsBelow
 pub mod Free

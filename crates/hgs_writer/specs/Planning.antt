@@ -19,6 +19,7 @@ use Rattle.hgs_steps.specs.declared.fault.PlanFault.TheVariants.{Memory}
 use Rattle.hgs_steps.specs.declared.loaded.Loaded.{Loaded}
 use Rattle.hgs_steps.specs.declared.step.Step.{Step}
 use Rattle.hgs_transaction.specs.Assembled.{IsPlanOf}
+use Rattle.hgs_writer.specs.BytePaths.{NamesBytes}
 use Rattle.hgs_writer.specs.Records.{CommitComesTo, ImportComesTo}
 use Rattle.hgs_writer.specs.declared.plan.Planned.{Planned}
 
@@ -50,7 +51,7 @@ ComesTo t l (Mark name rev) result = GivesStep result (planned l (mark_of l name
 ComesTo t l (Unmark name) result = GivesStep result (planned l (unmark_of l name))
 
 -- The plan is put together of the parts of the command's step, by what was loaded of the tree: all that is read before is read, and
--- nothing of it refused.
+-- nothing of it refused. The command's paths are bytes.
 pub record IsPlannedFor (command : Command) (t : Tree) (p : Planned) : Type 0 where
   pub read : Read
   pub is_read : loaded_in t ≡ Ok read
@@ -59,6 +60,7 @@ pub record IsPlannedFor (command : Command) (t : Tree) (p : Planned) : Type 0 wh
   pub is_loaded : IsLoadedOf t loaded
   pub step : Step
   pub comes : ComesTo t loaded command (Ok step)
+  pub bytes : NamesBytes command
   pub plan : IsPlanOf step.parts p.plan
   pub rev : p.rev ≡ step.rev
   pub node : p.node ≡ step.node
@@ -66,7 +68,7 @@ pub record IsPlannedFor (command : Command) (t : Tree) (p : Planned) : Type 0 wh
 -- Nothing is planned: what is read before is refused, or it is not and the command is by what was loaded, or there is no memory.
 pub data IsNotPlannedFor (command : Command) (t : Tree) : CommitFault → Type 0 where
   is_unread : (e : ReadAnswer) → MatchBool (is_of_outside e) ⊤ (loaded_in t ≡ Err e) → IsNotPlannedFor command t (Unread e)
-  is_refused : (read : Read) (l : Loaded) (fault : CommitFault) → loaded_in t ≡ Ok read → IsLoadedFrom read l → IsLoadedOf t l → ComesTo t l command (Err fault) → IsNotPlannedFor command t fault
+  is_refused : (read : Read) (l : Loaded) (fault : CommitFault) → loaded_in t ≡ Ok read → IsLoadedFrom read l → IsLoadedOf t l → ComesTo t l command (Err fault) → NamesBytes command → IsNotPlannedFor command t fault
   has_no_memory : IsNotPlannedFor command t (Refused Memory)
 
 -- what a command is planned to

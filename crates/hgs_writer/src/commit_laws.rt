@@ -28,30 +28,29 @@ ghost use Rattle.hgs_steps.specs.Steps.{as_fault};
 ghost use Rattle.hgs_steps.specs.declared.loaded.Loaded.{Loaded};
 ghost use Rattle.hgs_commit.specs.Appended.{append_some as append_to};
 ghost use Rattle.hgs_commit.specs.Changeset.{of_changelog, of_manifest};
-ghost use Rattle.hgs_commit.specs.Commit.{ClashOn, OfTexts, commit_in, grown_in, parent_files, planned, refusal_with, step_on, tested, texts_in, trees_in};
+ghost use Rattle.hgs_commit.specs.Commit.{ClashOn, OfTexts, commit_in, grown_in, long_list, parent_files, planned, refusal_with, step_on, tested, texts_in, trees_in};
 ghost use Rattle.hgs_commit.specs.Files.{filelog_in, kept_in, parents_by};
 ghost use Rattle.hgs_commit.specs.Obstacles.{Met, Obstacle, noted, nothing_met};
 ghost use Rattle.hgs_commit.specs.Texts.{OfLog, OfText, changes_of, new_text_in};
 ghost use Rattle.hgs_commit.specs.Trees.{OfGrown};
 ghost use Rattle.hgs_writer.specs.CommitsBelow.{Below};
+ghost use Rattle.hgs_legal.specs.ListsPaths.{ListsPaths};
+ghost use Rattle.hgs_writer.specs.BytePaths.{HasBytePaths};
 ghost use Rattle.hgs_writer.specs.Commits.{AnswersAs};
 ghost use Rattle.hgs_writer.specs.StepsBelow.{StepsBelow};
 ghost use Rattle.hgs_writer.specs.Files.{files_at, told_at};
 ghost use Rattle.hgs_writer.specs.Growth.{AreAppends, AreGrownFilesOf, IsWhole};
 ghost use Rattle.hgs_writer.specs.Logs.{IsLogOf};
 ghost use Rattle.hgs_writer.specs.NewTexts.{IsTextOf, growth_by};
-ghost use Rattle.hgs_writer.specs.Ready.{HasOwnDigests, NeedsNoTest};
 ghost use Rattle.hgs_writer.specs.Trees.{AreBelow, AreTextsOf, IsTreeOf};
 
 use hgs_commit::laws::empty_entries;
 use hgs_index::laws::held_index_length;
+use hgs_legal::list_laws::listed_paths_need_no_test;
 use hgs_loading::laws::indexes_are_read_whole;
 use hgs_model::history_laws::used_paths_have_revisions;
 use hgs_model::laws::step_keeps_repositories;
-use hgs_path::laws::{
-    filelogs_have_their_own_names, listed_names_differ, listed_names_name_files,
-    names_of_one_file_collide,
-};
+use hgs_path::laws::{filelogs_have_their_own_names, listed_names_differ, listed_names_name_files};
 use hgs_revlog::laws::{
     either_form, entries_of_revisions, inline_index, loaded_entries, new_revision, whole_index,
 };
@@ -166,31 +165,24 @@ pub fn filelogs_of_commits_grow()
     loaded_logs_are_the_repositorys();
 }
 
-/// A commit that nothing keeps from being written, neither an inline log, is ready: by its tests, by what was loaded, and by what
-/// needs no test.
+/// A commit of paths that are bytes, and that nothing keeps from being written, neither an inline log nor a long list, is ready where the
+/// list of filelogs has only names of paths: by its tests, and by what was loaded.
 pub fn free_commits_are_ready()
     ensures { (t : Tree) (r next : Repo) (l : Loaded) (n : NewChange) (parents : Parents) (x : OfGrown × Parents) (y : OfTexts) → Stands t r → IsLoadedOf t l → ascends (new_paths n.files) ≡ true → AreBelow (length r.changesets) parents → next.changesets ≡ r.changesets ++ new_changeset (history r.changesets) parents n ∷ [] → copies_hold (history r.changesets) parents n.files ≡ Ok tt →
-        has_inline l ≡ false → grown_in l n parents t ≡ Ok (x, []) → texts_in l n parents x.0 x.1 t ≡ Ok (y, []) → ClashOn l n (trees_in l n parents t) None None → standing (history r.changesets).changelog (changeset_revision (history r.changesets) (new_changeset (history r.changesets) parents n)).text parents ≡ None → NeedsNoTest t r next → IsReady t r (Commit n) next }
+        has_inline l ≡ false → grown_in l n parents t ≡ Ok (x, []) → texts_in l n parents x.0 x.1 t ≡ Ok (y, []) → ClashOn l n (trees_in l n parents t) None None → standing (history r.changesets).changelog (changeset_revision (history r.changesets) (new_changeset (history r.changesets) parents n)).text parents ≡ None → long_list l (length y.lines) ≡ [] → ListsPaths t r → HasBytePaths n → IsReady t r (Commit n) next }
 {
     laws_below();
     laws_of_steps();
     loaded_logs_are_the_repositorys();
     trees_are_the_repositorys();
     texts_of_commits_are_the_repositorys();
+    listed_paths_need_no_test();
 }
 
 /// Where a commit is refused for nothing that was met, nothing was met, and no clash was told.
 pub fn met_obstacles_refuse()
     ensures { (a b c d e : List Obstacle) (clash : Option (List ℕ)) → refusal_with (noted (noted (noted (noted (noted nothing_met a) b) c) d) e) clash ≡ Ok tt → (a ≡ []) × (b ≡ []) × (c ≡ []) × (d ≡ []) × (e ≡ []) × (clash ≡ None) }
 {}
-
-/// What needs no test is there where no other name in the list has the digest of the name of a new path's file.
-pub fn own_digests_need_no_test()
-    ensures { (t : Tree) (r next : Repo) → HasOwnDigests t r next → NeedsNoTest t r next }
-{
-    names_of_one_file_collide();
-    listed_names_name_files();
-}
 
 /// A commit is answered over such a tree as the repository answers it: with the same refusal, or where it is accepted with the
 /// step to the next repository, for which the tree then is ready, unless something was met that keeps it from being written. What

@@ -9,6 +9,7 @@ ghost use Rattle.hgs_files.specs.Stop.{IsStopped};
 ghost use Rattle.hgs_files.specs.Tree.{Tree, after_all, bytes_at};
 ghost use Rattle.hgs_index.specs.declared.node.Node.{Node};
 ghost use Rattle.hgs_journal.specs.Names.{journal_path};
+ghost use Rattle.hgs_legal.specs.ListsPaths.{ListsOnlyPaths, ListsPaths};
 ghost use Rattle.hgs_legal.specs.Pieces.{Pieces};
 ghost use Rattle.hgs_loading.specs.Store.{Loaded as LoadedOf, loaded_in};
 ghost use Rattle.hgs_machine.specs.Locks.{AreLocked};
@@ -33,7 +34,7 @@ ghost use Rattle.hgs_steps.specs.Steps.{Accepted, planned};
 ghost use Rattle.hgs_transaction.specs.Assembled.{IsPlanOf};
 ghost use Rattle.hgs_transaction.specs.OfTransaction.{ArePartsOf};
 ghost use Rattle.hgs_transaction.specs.declared.parts.Parts.{Parts};
-ghost use Rattle.hgs_writer.specs.Alone.{IsAnswered, IsBarred, IsFinished, IsHeld, HasWhatItNeeds, IsOutcomeOf, IsStopOf, ReadsWithin};
+ghost use Rattle.hgs_writer.specs.Alone.{IsAnswered, IsBarred, IsFinished, IsHeld, IsOutcomeOf, IsStopOf, ReadsWithin};
 ghost use Rattle.hgs_writer.specs.Below.{Below};
 ghost use Rattle.hgs_writer.specs.Limits.{LoadsWithin};
 ghost use Rattle.hgs_writer.specs.Planning.{IsLoadedFrom};
@@ -48,11 +49,13 @@ use crate::piece_laws::{
 };
 use hgs_index::laws::held_index_length;
 use hgs_legal::laws::{fronts_are_pieces, pieces_end};
+use hgs_legal::list_laws::pieces_keep_lists;
 use hgs_loading::laws::indexes_are_read_whole;
-use hgs_ops::laws::strays_hinder_nothing;
+use hgs_ops::laws::{strays_are_apart, strays_hinder_nothing};
 use hgs_path::laws::filelogs_have_their_own_names;
 use hgs_revlog::laws::{entries_of_revisions, whole_index};
 use hgs_shown::laws::older_parts_stay;
+use hgs_stands::laws::{files_of_standing_trees, open_trees_lead_back, stands_for_one};
 use hgs_steps::laws::{bookmark_commands_agree, phase_commands_agree};
 
 /// The plan of a phase or bookmark command can be carried out from any tree: it replaces one file.
@@ -84,16 +87,22 @@ pub fn stores_are_loaded()
     indexes_are_read_whole();
 }
 
-/// A call that was alone, whatever it answers, where the tree has what a commit needs of it that no test tells: the tree stands
-/// for what the answer says, and what was done is a piece of a legal log. Wherever it is stopped the tree stands for the
-/// repository before or is open for it, or, where what was done leads on, it stands for the next one.
+/// A call that was alone, whatever it answers, where the list of filelogs has only names of paths: the tree stands for what the
+/// answer says, its list has again only names of paths, and what was done is a piece of a legal log. Wherever it is stopped the tree
+/// stands for the repository before or is open for it, or, where what was done leads on, it stands for the next one.
 pub fn calls_leave_what_they_answer()
-    ensures answered { (t : Tree) (r : Repo) (command : Command) (who : List ℕ) (answer : Answer) (done : List Op) → Stands t r → IsValid command → HasWhatItNeeds t r command → IsWritten who command t answer done → IsAnswered r (step r command) answer.outcome (after_all done t) }
-    ensures pieces { (t : Tree) (r : Repo) (command : Command) (who : List ℕ) (answer : Answer) (done : List Op) → Stands t r → IsValid command → HasWhatItNeeds t r command → IsWritten who command t answer done → Pieces t r done }
-    ensures stops { (t : Tree) (r : Repo) (command : Command) (who : List ℕ) (answer : Answer) (done d : List Op) → Stands t r → IsValid command → HasWhatItNeeds t r command → IsWritten who command t answer done → IsStopped done d → IsStopOf t r (step r command) d }
+    ensures answered { (t : Tree) (r : Repo) (command : Command) (who : List ℕ) (answer : Answer) (done : List Op) → Stands t r → IsValid command → ListsPaths t r → IsWritten who command t answer done → IsAnswered r (step r command) answer.outcome (after_all done t) }
+    ensures lists { (t : Tree) (r : Repo) (command : Command) (who : List ℕ) (answer : Answer) (done : List Op) → Stands t r → IsValid command → ListsPaths t r → IsWritten who command t answer done → ListsOnlyPaths (after_all done t) }
+    ensures pieces { (t : Tree) (r : Repo) (command : Command) (who : List ℕ) (answer : Answer) (done : List Op) → Stands t r → IsValid command → ListsPaths t r → IsWritten who command t answer done → Pieces t r done }
+    ensures stops { (t : Tree) (r : Repo) (command : Command) (who : List ℕ) (answer : Answer) (done d : List Op) → Stands t r → IsValid command → ListsPaths t r → IsWritten who command t answer done → IsStopped done d → IsStopOf t r (step r command) d }
 {
     pieces_end();
     fronts_are_pieces();
+    pieces_keep_lists();
+    stands_for_one();
+    files_of_standing_trees();
+    open_trees_lead_back();
+    strays_are_apart();
     laws_below();
 }
 
@@ -150,10 +159,10 @@ pub fn locks_and_journals_bar()
     refusals_are_for_files();
 }
 
-/// A command that is done over a clean tree that has what it needs: the repository accepts it, its changeset is answered, and the
-/// tree stands for the next repository, clean where all was swept.
+/// A command that is done over a clean tree whose list of filelogs has only names of paths: the repository accepts it, its changeset is
+/// answered, and the tree stands for the next repository, with such a list again, and clean where all was swept.
 pub fn done_calls_lead_on()
-    ensures { (t : Tree) (r : Repo) (command : Command) (who : List ℕ) (answer : Answer) (done : List Op) (rev : ℕ) (node : Node) → IsClean t r → IsValid command → HasWhatItNeeds t r command → IsWritten who command t answer done → answer.outcome ≡ Done rev node → (next : Next) × (step r command ≡ Ok next) × (rev ≡ next.1.rev) × (node.0 ≡ next.1.node) × Stands (after_all done t) next.0 × (answer.swept ≡ true → IsClean (after_all done t) next.0) }
+    ensures { (t : Tree) (r : Repo) (command : Command) (who : List ℕ) (answer : Answer) (done : List Op) (rev : ℕ) (node : Node) → IsClean t r → IsValid command → ListsPaths t r → IsWritten who command t answer done → answer.outcome ≡ Done rev node → (next : Next) × (step r command ≡ Ok next) × (rev ≡ next.1.rev) × (node.0 ≡ next.1.node) × Stands (after_all done t) next.0 × ListsPaths (after_all done t) next.0 × (answer.swept ≡ true → IsClean (after_all done t) next.0) }
 {
     calls_leave_what_they_answer();
     calls_clean_up();

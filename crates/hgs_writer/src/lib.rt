@@ -10,6 +10,7 @@ pub mod import_laws;
 mod joined;
 pub mod laws;
 pub mod loaded;
+mod paths;
 pub mod piece_laws;
 pub mod plan;
 pub mod turn_laws;

@@ -78,10 +78,12 @@ pub fn turned_away_writers_keep_open_trees()
     undo_leads_back();
 }
 
-/// Where the locks were taken, the tree under them has the other files that it had, and stands for what it stood for before;
+/// Where the locks were taken, the tree under them has the other files that it had, and stands for what it stood for before; it has them
+/// too where they were not, and all was swept;
 /// the parts of a transaction of it are those of the tree without the locks, and what hinders none there hinders none here.
 pub fn locks_do_not_matter()
     ensures others { (t : Tree) (who : List ℕ) (locking : List Op) (path : List ℕ) → AreLocked who t locking → same path wlock_path ≡ false → same path lock_path ≡ false → after_all locking t path ≡ t path }
+    ensures turned_away { (t : Tree) (who : List ℕ) (why : LockRefusal) (log : List Op) (path : List ℕ) → IsTurnedAway who t why true log → same path wlock_path ≡ false → same path lock_path ≡ false → after_all log t path ≡ t path }
     ensures stands { (t : Tree) (r : Repo) (who : List ℕ) (locking : List Op) → AreLocked who t locking → Stands t r → Stands (after_all locking t) r }
     ensures parts { (t : Tree) (r next : Repo) (command : Command) (who : List ℕ) (p : Parts) (locking : List Op) → AreLocked who t locking → ArePartsOf (after_all locking t) r command next p → ArePartsOf t r command next p }
     ensures ready { (t : Tree) (r next : Repo) (command : Command) (who : List ℕ) (locking : List Op) → AreLocked who t locking → IsReady (after_all locking t) r command next → IsReady t r command next }

@@ -17,6 +17,7 @@ ghost use Rattle.hgs_writer.specs.Planning.{ComesTo, GivesStep, IsLoadedFrom, Pl
 use crate::import::import;
 use crate::laws::{changelogs_are_counted, commits_are_sound, steps_are_sound, stores_are_loaded};
 use crate::loaded::loaded_of;
+use crate::paths::command_names_bytes;
 use hgs_commit::commit::commit;
 use hgs_commit::fault::CommitFault;
 use hgs_files::files::Reads;
@@ -163,6 +164,7 @@ pub fn plan<R: Reads>(
 {
     plans_can_be_carried_out();
     stores_are_loaded();
+    command_names_bytes(command);
     let store = match history(alloc, files) {
         Ok(store) => store,
         Err(refusal) => return Err(CommitFault::Unread(refusal)),

@@ -11,7 +11,8 @@ ghost use Rattle.hgs_model.specs.Repo.{Repo};
 ghost use Rattle.hgs_model.specs.Valid.{IsValid};
 ghost use Rattle.hgs_model.specs.declared.command.Command.{Command};
 ghost use Rattle.hgs_stands.specs.Stands.{Stands};
-ghost use Rattle.hgs_writer.specs.Alone.{HasWhatItNeeds, IsBarred};
+ghost use Rattle.hgs_legal.specs.ListsPaths.{ListsPaths};
+ghost use Rattle.hgs_writer.specs.Alone.{IsBarred};
 ghost use Rattle.hgs_writer.specs.Below.{Below};
 ghost use Rattle.hgs_writer.specs.Written.{IsWrittenFor};
 ghost use Rattle.hgs_writer.specs.Turns.{IsAtRest, LeadsAs, LeadsOn};
@@ -43,12 +44,12 @@ pub fn states_at_rest_have_one_number()
     ensures { (s : State) → IsAtRest None s → (b_of s ≡ n_of s) × (w_of s ≡ n_of s) × (acknowledged_of s ≡ n_of s) }
 {}
 
-/// A call over a tree that stands for a repository, and has what its command needs of it, goes on from any state that has these
+/// A call over a tree that stands for a repository, and lists only names of paths, goes on from any state that has these
 /// files and in which no writer is at work. Where it is `Done` it publishes the transaction of its own command, with its bytes in
 /// the locks and the changeset that it tells, and no other; where it is unfinished it has published that, or none, as it says;
 /// and with every other answer it publishes none.
 pub fn calls_publish_their_own_turns()
-    ensures { (s : State) (command : Command) (who : List ℕ) (answer : Answer) (changeset : Option (ℕ × Node)) (done : List Op) → IsAtRest None s → Stands s.files (current s) → IsValid command → HasWhatItNeeds s.files (current s) command → IsWrittenFor who command s.files answer changeset done →
+    ensures { (s : State) (command : Command) (who : List ℕ) (answer : Answer) (changeset : Option (ℕ × Node)) (done : List Op) → IsAtRest None s → Stands s.files (current s) → IsValid command → ListsPaths s.files (current s) → IsWrittenFor who command s.files answer changeset done →
         LeadsAs s done (record { who = who; command = command; changeset = changeset }) answer.outcome }
 {
     laws_below();

@@ -6,8 +6,8 @@ use Rattle.hgs_history.specs.History.{ArePublished}
 use Rattle.hgs_history.proofs.laws.results_list_what_is_published.Goals as goal
 
 pub returns : goal.returns
-returns c = λ x r calls last states result makes is stands first shares needs.
-    let found = c.sessions_publish_what_they_list.ensures x r calls last makes stands first shares needs in
+returns c = λ x r calls last states result makes is stands first shares lists.
+    let found = c.sessions_publish_what_they_list.ensures x r calls last makes stands first shares lists in
     let h = found.0 in (
       h,
       found.1,

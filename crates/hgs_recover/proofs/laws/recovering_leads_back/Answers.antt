@@ -1,9 +1,9 @@
 use Rattle.hgs_recover.proofs.Below.{Below}
-use Rattle.hgs_recover.proofs.Recovers.{open-clean, open-found, open-left, open-restored, open-stopped}
+use Rattle.hgs_recover.proofs.Recovers.{covered-restored, open-clean, open-found, open-left, open-restored, open-stopped}
 use Rattle.hgs_recover.proofs.laws.recovering_leads_back.Goals as goal
 
 pub returns : goal.returns
-returns c = record { found = open-found below; leads = open-restored below; swept = open-clean below; stops = open-stopped below; left = open-left below }
+returns c = record { found = open-found below; leads = open-restored below; restores = covered-restored below; swept = open-clean below; stops = open-stopped below; left = open-left below }
   where
     below : Below
     below = record {

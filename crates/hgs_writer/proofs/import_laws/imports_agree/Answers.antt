@@ -5,7 +5,7 @@ use Rattle.hgs_writer.proofs.import_laws.imports_agree.Goals as goal
 
 pub returns : goal.returns
 returns c = record {
-  agree = λ t r l changes result s h valid needs comes. import-answers laws laid_laws c.records_laid_are_an_import.ensures.ready t r l changes result s h valid needs comes;
+  agree = λ t r l changes result s h valid bytes lists comes. import-answers laws laid_laws c.records_laid_are_an_import.ensures.ready t r l changes result s h valid bytes lists comes;
   refused = λ t r changes e why. refused-import laws t r changes e why;
 }
   where
@@ -13,6 +13,7 @@ returns c = record {
     laws = record {
       committed = c.commits_agree.ensures;
       stands = c.records_laid_are_an_import.ensures.stands;
+      lists = c.laid_commits_keep_lists.ensures;
       loads = c.standing_trees_are_read.ensures;
       one = c.imports_are_commits.ensures.one;
       more = c.imports_are_commits.ensures.more;

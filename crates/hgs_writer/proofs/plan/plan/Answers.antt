@@ -21,7 +21,7 @@ returns-in-Err-step_of-clause-found g c = λ alone.
     let fault = c.in-Err-step_of.fault in
     told-both (λ t. loaded_in t ≡ Ok (view_store store)) (λ t. ComesTo t loaded c.args.command.now (Err fault)) (λ t. Plans c.args.command.now t (Err fault)) (g.R.Reads.seen c.history.new.files) (g.R.Reads.seen c.step_of.new.files) (g.R.Reads.start c.history.new.files) (g.R.Reads.start c.step_of.new.files)
     (c.in-Err-step_of.ensures.still alone) c.in-Err-step_of.ensures.same_start
-    (λ t is comes. is_refused (view_store store) loaded fault is c.loaded_of-loaded.ensures (c.stores_are_loaded.ensures t (view_store store) loaded is c.loaded_of-loaded.ensures) comes) (c.in-Ok.ensures.found alone) (c.in-Err-step_of.ensures.comes alone)
+    (λ t is comes. is_refused (view_store store) loaded fault is c.loaded_of-loaded.ensures (c.stores_are_loaded.ensures t (view_store store) loaded is c.loaded_of-loaded.ensures) comes c.command_names_bytes.ensures) (c.in-Ok.ensures.found alone) (c.in-Err-step_of.ensures.comes alone)
 
 pub returns-in-Ok-assemble-clause-found : goal.returns-in-Ok-assemble-clause-found
 returns-in-Ok-assemble-clause-found g c = λ alone.
@@ -39,6 +39,7 @@ returns-in-Ok-assemble-clause-found g c = λ alone.
       is_loaded = c.stores_are_loaded.ensures t (view_store store) loaded is c.loaded_of-loaded.ensures;
       step = step;
       comes = comes;
+      bytes = c.command_names_bytes.ensures;
       plan = c.in-Ok-assemble.ensures;
       rev = refl;
       node = refl;
