@@ -21,18 +21,21 @@ import time
 from log import write_store
 
 TOP = os.path.dirname(os.path.dirname(os.path.abspath(__file__)))
-LIKE = "hgs_run_examples"
+NAMES = "core hgs_files hgs_mem hgs_hub hgs_reader hgs_verify hgs_run"
 COUNT = 100_000
 PART = 100
 
 
 def build(folder):
-    """The program, built in this folder over what the examples of runs stand on."""
+    """The program, built in this folder over the crates that it names and what they stand on."""
     with open(f"{TOP}/crates.txt") as file:
         stands_on = dict(line.split(":", 1) for line in file if not line.startswith("#"))
-    below, left = set(), [LIKE]
+    below, left = set(), NAMES.split()
     while left:
-        left += [name for name in stands_on[left.pop()].split() if name in stands_on and name not in below and not below.add(name)]
+        name = left.pop()
+        if name in stands_on and name not in below:
+            below.add(name)
+            left += stands_on[name].split()
     for crate in below:
         shutil.copytree(f"{TOP}/crates/{crate}", f"{folder}/crates/{crate}")
     os.makedirs(f"{folder}/crates/tail_bench/src")
@@ -40,7 +43,7 @@ def build(folder):
     shutil.copy(f"{TOP}/HANDLES", folder)
     with open(f"{folder}/crates.txt", "w") as file:
         file.writelines(f"{name}:{names}" for name, names in stands_on.items() if name in below)
-        file.write(f"tail_bench:{stands_on[LIKE]}")
+        file.write(f"tail_bench: {NAMES}\n")
     subprocess.run(["rt", "run"], cwd=f"{folder}/crates/tail_bench", check=True, stdout=subprocess.DEVNULL)
     return f"{folder}/crates/tail_bench/out/tail_bench"
 

@@ -1,6 +1,7 @@
 #!/usr/bin/env python3
 """Runs docs/ATOMIC.md: makes the commit of its table, with the program killed before each call, and compares with the table what stands in
 the files, how many changesets a reader sees, and how many there are when recovered. Each call of the commit that changes a file has a row.
+Before the journal has its name nothing is there to be undone, and Mercurial, where it is there, sees no journal; behind that it does.
 
 Without a C compiler all is skipped. The last line is 'N passed, M failed' or 'N passed, M failed, K skipped'.
 """
@@ -13,9 +14,11 @@ import tempfile
 
 sys.dont_write_bytecode = True
 from checks import HERE, built_program, built_shim
-from stops import World, answers, stopped
+from stops import JOURNAL, LOOSE, World, answers, stopped
 
 FIRST = b"commit\nuser Ada\ndate 0 0\ndesc 5\nfirst\nfile - 6 greeting\nhello\n\nend\n"
+NEW_JOURNAL = "store/journal.new.journal"
+ANSWER = 0, b"1:e36fc1b742f444a46e257070ad1243a703e72d85\n"
 SECOND = b"commit\nparent tip\nuser Ada\ndate 60 0\ndesc 6\nsecond\nfile - 6 greeting\nhello\n\nfile - 4 note\nok.\n\nend\n"
 
 
@@ -62,6 +65,32 @@ def try_row(world, what, row):
     world.check(f"{what}: {row.recovered} are recovered", count(world) == row.recovered and not world.has_locks())
 
 
+def stopped_without_locks(world, base, kind):
+    """What the commit leaves that is stopped before this call, but for its locks."""
+    stopped(world, base, ["commit"], SECOND, kind)
+    world.check(f"before {kind}: its locks stand", world.has_locks() and answers(world, ["commit"], SECOND)[0] == 10)
+    for lock in LOOSE:
+        os.remove(os.path.join(world.folder, ".hg", lock))
+
+
+def mercurial_recovers(world):
+    """The status and the first line of `hg recover`, none where there is no Mercurial."""
+    ended = world.mercurial("recover", "--no-verify")
+    return ended and (ended[0], ended[1].split(b"\n")[0])
+
+
+def try_name_of_journal(world, base, journal, after):
+    """The commit is stopped right before its journal gets its name, and right behind that."""
+    stopped_without_locks(world, base, "rename store/journal")
+    world.check("the journal's text is written, and has not its name", world.state().get(NEW_JOURNAL) == journal and not world.has_journal())
+    world.check("Mercurial finds nothing wrong there", world.is_right())
+    world.check("nor anything to recover", mercurial_recovers(world) in (None, (1, b"no interrupted transaction available")))
+    world.check("the next commit just works", answers(world, ["commit"], SECOND) == ANSWER and world.state() == after)
+    stopped_without_locks(world, base, "make store/data/note.i")
+    world.check("the journal has its name", world.state().get(JOURNAL) == journal and NEW_JOURNAL not in world.state())
+    world.check("so the next commit is turned away", answers(world, ["commit"], SECOND)[0] == 11)
+
+
 def main():
     if not shutil.which("cc"):
         print("0 passed, 0 failed, 1 skipped")
@@ -85,8 +114,10 @@ def main():
             if number:
                 try_row(world, f"behind {number}", rows[number - 1])
         world.lay(base)
-        world.check("it is answered", answers(world, ["commit"], SECOND) == (0, b"1:e36fc1b742f444a46e257070ad1243a703e72d85\n"))
+        world.check("it is answered", answers(world, ["commit"], SECOND) == ANSWER)
         try_row(world, "at its end", rows[-1])
+        try_name_of_journal(world, base, journal, world.state())
+    world.passed -= world.skipped
     print(world)
     return world.failed != 0
 

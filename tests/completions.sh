@@ -1,5 +1,5 @@
 #!/usr/bin/env bash
-# What bash, zsh and fish complete, each asked in its own shell over a repository with a bookmark and a path with a space.
+# What bash, zsh and fish complete, each asked in its own shell, as README.md has it, over a repository with a bookmark and a path with a space.
 # zsh and fish are installed where they are missing and can be, else their rows are skipped.
 # The last line is 'N passed, M failed', with the number skipped behind it.
 set -u
@@ -24,15 +24,18 @@ with_shell() {
     command -v "$1" >/dev/null
 }
 
+# The line of README.md that has this shell complete.
+line_for() { sed -n "s/^    $1\$ //p" "$here/../README.md"; }
+
 # Each prints what may stand behind these words, one a line.
 in_bash() {
-    bash -c '. "$0/hg_store.bash"; COMP_WORDS=(hg_store "$@" ""); COMP_CWORD=$(($# + 1)); _hg_store; printf "%s\n" "${COMPREPLY[@]}"' "$completions" "$@"
+    bash -c 'here=$PWD && cd "$0/.." && eval "$1" && cd "$here"; shift; COMP_WORDS=(hg_store "$@" ""); COMP_CWORD=$(($# + 1)); _hg_store; printf "%s\n" "${COMPREPLY[@]}"' "$completions" "$(line_for bash)" "$@"
 }
 in_zsh() {
     zsh -f -c 'compadd() { print -rl -- "${(@P)2}"; }; words=(hg_store "$@" ""); CURRENT=$#words; . $0/_hg_store' "$completions" "$@"
 }
 in_fish() {
-    fish --no-config -c 'source $argv[1]/hg_store.fish; complete -C "hg_store $argv[2..] " | string replace -r "\t.*" ""' "$completions" "$@"
+    fish --no-config -c 'set here $PWD; cd $argv[1]/..; eval $argv[2]; cd $here; complete -C "hg_store $argv[3..] " | string replace -r "\t.*" ""' "$completions" "$(line_for fish)" "$@"
 }
 
 commands='--help --version bookmark bookmarks branches cat commit files gen heads import init log parents phase play recover revset session verify'
@@ -61,7 +64,8 @@ for shell in bash zsh fish; do
 done
 
 if command -v zsh >/dev/null; then
-    check "zsh: its completion is found" zsh -f -c 'fpath=($0 $fpath); autoload -Uz compinit && compinit -D -u && [[ $_comps[hg_store] == _hg_store ]]' "$completions"
+    # of whose folders it asks nothing here: they may be another user's
+    check "zsh: its completion is found" env HOME="$work" zsh -f -c 'cd $0/.. && eval "$1 -u" && [[ $_comps[hg_store] == _hg_store ]]' "$completions" "$(line_for zsh)"
 else
     skipped=$((skipped + 1))
 fi

@@ -1,7 +1,8 @@
 /* Stands between the program and the system (LD_PRELOAD). It numbers the calls on files, standard input and standard output, from 1, and
  * notes each in the file CALLS_NOTED: its number, its name, the bytes that it writes, and its path; `absent` is the removal of a file that does
- * not stand. Each call that CALLS_FAILING names, as `NUMBER ERROR BYTES` with commas between, fails with that error, a write after so many of its
- * bytes are done; where the error is 0, the program is killed there. */
+ * not stand. Behind a read stands one line more, `given`, with the bytes that it gave. Each call that CALLS_FAILING names, as `NUMBER ERROR BYTES`
+ * with commas between, fails with that error, a write after so many of its bytes are done; where the error is 0, the program is killed there,
+ * and where it is -1, it is stopped until it is told to go on, and the call is done. */
 #define _GNU_SOURCE
 #include <dlfcn.h>
 #include <errno.h>
@@ -41,6 +42,10 @@ static int fails(const char *name, int fd, const void *data, long length, const 
     note(name, length, path);
     for (; rest && sscanf(rest, "%d %d %ld", &number, &error, &bytes) == 3; rest = strchr(rest, ',') ? strchr(rest, ',') + 1 : 0) {
         if (number != calls) continue;
+        if (error < 0) {
+            kill(getpid(), SIGSTOP);
+            continue;
+        }
         if (data && bytes > 0) syscall(SYS_write, fd, data, bytes < length ? bytes : length);
         if (!error) kill(getpid(), SIGKILL);
         errno = error;
@@ -72,7 +77,17 @@ int openat(int folder, const char *path, int flags, ...) {
     return OPENS(path, flags) ? -1 : opened(REAL(openat)(folder, path, flags, mode), path);
 }
 
-ssize_t read(int fd, void *into, size_t most) { return fails("read", -1, 0, 0, path_of(fd)) ? -1 : REAL(read)(fd, into, most); }
+/* a read of a file, at a place or on, and of the input; behind it is noted how many bytes it gave */
+static ssize_t given(ssize_t count, int fd) {
+    if (count >= 0) note("given", count, path_of(fd));
+    return count;
+}
+
+ssize_t read(int fd, void *into, size_t most) { return fails("read", -1, 0, 0, path_of(fd)) ? -1 : given(REAL(read)(fd, into, most), fd); }
+
+ssize_t pread(int fd, void *into, size_t most, off_t from) {
+    return fails("read", -1, 0, 0, path_of(fd)) ? -1 : given(REAL(pread)(fd, into, most, from), fd);
+}
 
 ssize_t write(int fd, const void *data, size_t length) {
     if (fd == 2) return REAL(write)(fd, data, length);

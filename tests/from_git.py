@@ -1,6 +1,7 @@
 #!/usr/bin/env python3
 """Makes repositories of random git histories by bin/from_git, and compares: Mercurial finds nothing wrong, each tree is git's byte by byte,
-and so are parents, authors, dates, messages, branches and tags. What cannot be held is refused by its name, and nothing is left.
+and so are parents, authors, dates, messages, branches and tags. What cannot be held is refused by its name, and nothing is left. The example of README.md
+is run as it stands there.
 
     tests/from_git.py [COMMITS]      (2,000 where nothing is said)
 
@@ -10,6 +11,7 @@ K skipped'.
 
 import os
 import random
+import re
 import shutil
 import subprocess
 import sys
@@ -17,6 +19,7 @@ import tempfile
 
 sys.dont_write_bytecode = True
 from checks import HERE, Checks, built_program
+from progress import Ran
 
 FROM_GIT = os.path.join(HERE, "..", "bin", "from_git")
 ENV = dict(os.environ, GIT_CONFIG_GLOBAL="/dev/null", GIT_CONFIG_NOSYSTEM="1", HGRCPATH="/dev/null", HGPLAIN="1", HGENCODING="UTF-8", HG_STORE_TOLD="yes", TZ="UTC")
@@ -161,10 +164,14 @@ def try_history(checks, work, seed, count):
     source, made = os.path.join(work, "source"), os.path.join(work, "made")
     run("git", "init", "--quiet", "--initial-branch=main", source)
     git(source, "fast-import", "--quiet", given=History(random.Random(seed)).stream(count))
-    ended = run(FROM_GIT, source, made, check=False)
-    checks.check(f"seed {seed} is made: {ended.stderr.decode()}", ended.returncode == 0)
-    if ended.returncode:
+    ended = Ran(FROM_GIT, work, [source, made], b" ", True)
+    checks.check(f"seed {seed} is made: {ended.said.decode()}", ended.status == 0)
+    if ended.status:
         return
+    if count >= 2000:
+        # which of the lines are drawn is the clock's affair: its own, and those of the import
+        is_told = re.fullmatch(rb"(\r\x1b\[K[a-z]+: [^\r]*)+(\r\x1b\[K)+", ended.said)
+        checks.check(f"seed {seed}: a terminal is told how far it is, which is taken away: {ended.said}", is_told)
     commits, changesets = said_by_git(source), said_by_hg(made)
     # each message has the number of its commit
     by_message = {said: number for number, (_, said) in enumerate(changesets)}
@@ -258,6 +265,17 @@ def try_refusals(checks, work):
     refused("a folder that stands", "stands already", small(work, one))
 
 
+def try_example(checks, work):
+    """The example of README.md: the commands behind '$ ', and what they write."""
+    with open(os.path.join(HERE, "..", "README.md"), encoding="utf-8") as document:
+        lines = re.search(r"^From git:.*\n\n((?:    .*\n)+)", document.read(), re.MULTILINE)[1].replace("    ", "").splitlines(True)
+    commands = "".join(line[2:] for line in lines if line.startswith("$ "))
+    known = {f"GIT_{who}_{what}": "ada" for who in ("AUTHOR", "COMMITTER") for what in ("NAME", "EMAIL")}
+    env = dict(ENV, **known, PATH=f"{os.path.dirname(FROM_GIT)}:{ENV['PATH']}")
+    ended = subprocess.run(["bash", "-c", commands], cwd=work, env=env, stdout=subprocess.PIPE, stderr=subprocess.STDOUT, check=False)
+    checks.check(f"the example of README.md: {ended.stdout.decode()}", ended.stdout.decode() == "".join(line for line in lines if not line.startswith("$ ")))
+
+
 def main():
     checks = Checks()
     if not with_tools():
@@ -265,6 +283,7 @@ def main():
     else:
         built_program()
         with tempfile.TemporaryDirectory() as work:
+            try_example(checks, tempfile.mkdtemp(dir=work))
             try_refusals(checks, tempfile.mkdtemp(dir=work))
             for seed in (1, 2):
                 try_history(checks, work, seed, 60)

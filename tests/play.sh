@@ -49,8 +49,8 @@ faulty 17 'play 1\nwrite\nend\n '
 faulty 11 'play 1\nend\nfinish\n'
 faulty 13 'play 1\nwrite\n'
 
-# A second commit in pieces of one byte, a load behind each. It writes 611 bytes up to its publication: its backup of dirstate 58, the
-# new dirstate 76, the list of backups 43, the journal 87, the new filelog 67, the list of filelogs 9, the manifest 87 and 64,
+# A second commit in pieces of one byte, a load behind each. It does 611 of these, and a rename, up to its publication: its backup of dirstate 58, the
+# new dirstate 76, the list of backups 43, the journal 87, its rename, the new filelog 67, the list of filelogs 9, the manifest 87 and 64,
 # the changelog 56 and 64. The last of them shows it, and nothing before that does.
 {
     printf 'play 1\nbegin commit\ncommit\nuser test\ndate 0 0\ndesc 1\na\nfile - 2 a\na\n\nend\nfinish\n'
@@ -61,7 +61,7 @@ faulty 13 'play 1\nwrite\n'
 "$program" play <"$folder/pieces" >"$folder/out" 2>/dev/null
 status=$?
 { grep '^loaded' "$folder/out" | uniq -c | tr -s ' '; grep '^answer' "$folder/out"; } >"$folder/got"
-printf ' %s\n' '610 loaded 1' '30 loaded 2' >"$folder/wanted"
+printf ' %s\n' '611 loaded 1' '29 loaded 2' >"$folder/wanted"
 printf 'answer 0 %s\n' 0:cb9a9f314b8b07ba71012fcdbc544b5a4d82ff5b 1:37bdf19219c0e69b87d6371fabfaf5c3a63794d9 >>"$folder/wanted"
 judge 'a commit in pieces of one byte' 0 "$folder/wanted"
 
@@ -77,7 +77,7 @@ judge 'play more' 28 "$folder/wanted"
     head -c 200000 /dev/zero | tr '\0' x
     printf '\nend\n'
     # the operations before the data of the file
-    printf 'write\nwrite\nwrite\nwrite\n'
+    printf 'write\nwrite\nwrite\nwrite\nwrite\n'
     yes 'write 1' | head -n 100000
     printf 'finish\nload 0\nend\n'
 } >"$folder/long"
@@ -85,7 +85,7 @@ before=$(date +%s%N)
 "$program" play <"$folder/long" >"$folder/got" 2>/dev/null
 status=$?
 after=$(date +%s%N)
-if [ "$status" = 0 ] && [ "$(grep -c '^wrote$' "$folder/got")" = 100004 ] && [ "$(tail -n 1 "$folder/got")" = 'loaded 1' ]; then
+if [ "$status" = 0 ] && [ "$(grep -c '^wrote$' "$folder/got")" = 100005 ] && [ "$(tail -n 1 "$folder/got")" = 'loaded 1' ]; then
     passed=$((passed + 1))
 else
     failed=$((failed + 1))

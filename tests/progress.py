@@ -1,6 +1,6 @@
 #!/usr/bin/env python3
 """Long work says where it is on a terminal, and nothing in a pipe: `commit`, `import` and `gen`, each halted or given its input late, so that it
-takes longer than a second. What is written is the same.
+takes longer than a second. What is written is the same. The lines that README.md shows are drawn, but for their numbers.
 
     tests/progress.py
 
@@ -18,7 +18,7 @@ import threading
 import time
 
 sys.dont_write_bytecode = True
-from checks import Checks, built_program
+from checks import HERE, Checks, built_program
 
 FILES = 2_000
 # a pause of the program that is told of
@@ -84,7 +84,7 @@ def is_told(said, line):
 
 
 def told(checks, what, run, line):
-    """Halts runs after one pause and another, until one is told of: when it is at work is the system's affair."""
+    """Halts runs after one pause and another, until one is told of: when it is at work is the system's affair. What that one said."""
     said = []
     for pause in [0.01 * 1.5**number for number in range(14)]:
         with tempfile.TemporaryDirectory() as folder:
@@ -96,6 +96,17 @@ def told(checks, what, run, line):
     checks.check(f"{what}: a terminal is told: {said}", is_told(said[-1], line))
     with tempfile.TemporaryDirectory() as folder:
         checks.check(f"{what}: a pipe is told nothing", run(folder, False, pause).said == b"")
+    return said[-1]
+
+
+def forms(lines):
+    """Lines but for their numbers."""
+    return {re.sub(rb"\d+", b"N", line) for line in lines}
+
+
+def lines_of_readme():
+    with open(os.path.join(HERE, "../README.md"), "rb") as document:
+        return re.findall(rb"`((?:commit|import|gen): [^`]*)`", document.read())
 
 
 def main():
@@ -127,9 +138,11 @@ def main():
 
     inputs("commit", b"commit\n" + record(b"a"))
     inputs("import", b"commit\n" + record(b"a") + b"end import\n")
-    told(checks, "commit", commit, rb"commit: \d+ files written")
+    said = told(checks, "commit", commit, rb"commit: \d+ files written")
     told(checks, "commit of files that stand", commit_again, rb"commit: \d+ files read")
-    told(checks, "gen", gen, rb"gen: \d+ of 200 changesets")
+    said += told(checks, "gen", gen, rb"gen: \d+ of 200 changesets")
+    shown = lines_of_readme()
+    checks.check(f"the lines that README.md shows: {shown}", shown and forms(shown) <= forms(said.split(b"\r\x1b[K")))
     with tempfile.TemporaryDirectory() as folder:
         begun(folder)
         short = b"commit\nuser test\ndate 0 0\ndesc 1\na\nfile - 1 a\na\nend\n"

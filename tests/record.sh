@@ -1,11 +1,12 @@
 #!/usr/bin/env bash
 # Folders that bin/record records, that the program commits and bin/checkout lays out again: each comes out as it was. What cannot
-# be recorded is refused by name, with nothing printed. The example of a commit by hand in README.md is run as it stands there.
+# be recorded is refused by name, with nothing printed. The examples of a commit by hand and of a crash in README.md are run as they stand there.
 # The last line is 'N passed, M failed'.
 set -u
 here=$(cd "$(dirname "$0")" && pwd)
 "$here/../bin/hg_store" --build >/dev/null || exit 1
 PATH=$(cd "$here/../bin" && pwd):$PATH
+export HG_STORE_TOLD=yes # the examples show what stands on standard error
 
 work=$(mktemp -d) || exit 1
 trap 'rm -rf "$work"' EXIT
@@ -133,12 +134,15 @@ cd ..
 check "two messages for three folders" refused "one message for all folders, or one for each" record -m a -m b tree tree tree
 check "a copy among folders" refused "a copy is said of one folder" record -m a --copy a:b tree tree
 
-# The example of README.md: the commands behind '$ ', and what they write.
-sed -n '/^By hand:/,/^[A-Z#`]/p' "$here/../README.md" | sed -n 's/^    //p' >"$work/example"
-sed -n 's/^\$ //p' "$work/example" >"$work/commands"
-sed '/^\$ /d' "$work/example" >"$work/wanted"
+# Examples of README.md, each behind the line that begins so: the commands behind '$ ', and what they write. They are run one after another in one folder.
+example() { # FIRST WORDS
+    sed -n "/^$1/,/^[A-Z#\`]/p" "$here/../README.md" | sed -n 's/^    //p' >"$work/example"
+    sed -n 's/^\$ //p' "$work/example" >"$work/commands"
+    [ -s "$work/commands" ] && (cd "$work/by-hand" && bash ../commands 2>&1) | diff <(sed '/^\$ /d' "$work/example") -
+}
 mkdir "$work/by-hand"
-check "the example of README.md" bash -c 'cd "$0" && [ -s ../commands ] && bash -e ../commands 2>&1 | diff ../wanted -' "$work/by-hand"
+check "the example of a commit in README.md" example 'By hand:'
+check "and that of a crash" example 'After a crash:'
 
 # The demonstration, with the nodes that Mercurial gives these changesets.
 shown() { demo | grep -qxF "$1"; }

@@ -20,22 +20,24 @@ import tempfile
 
 sys.dont_write_bytecode = True
 from checks import Checks, built_program, built_shim, bytes_of, hint_of, lay
+from stores import BEFORE, OPEN
 
 WORKERS = 4
 CHANGES = {"make", "write", "rename", "remove", "absent", "cut", "mkdir", "chmod", "sync"}
 FOLDERS = {"", "store", "store/data"}
 LOOSE = {"wlock", "store/lock"}
+REPLACED = {"bookmarks", "dirstate", "store/phaseroots"}
 JOURNAL = "store/journal"
 LEFT_OVER = b"leftover files remain\n"
-KILLED = 0
+KILLED, PAUSED = 0, -1
 
 
 class Call:
-    """A call of a run: its number, name, file below .hg, and how many bytes it writes."""
+    """A call of a run: its number, name, file below .hg, how many bytes it writes, and how many it is given."""
 
     def __init__(self, line, before):
         number, self.name, length, path = line.rstrip("\n").split(" ", 3)
-        self.number, self.length = int(number), int(length)
+        self.number, self.length, self.given = int(number), int(length), 0
         self.path = path.removeprefix(".hg").removeprefix("/")
         # a folder is looked at for the mode of a file that was just made in it, and else for the folders that are to last
         if self.name == "look" and self.path in FOLDERS:
@@ -86,15 +88,28 @@ class World(Checks):
         if os.path.exists(self.noted):
             os.remove(self.noted)
         ended = self.run_in(words, given, dict(os.environ, LD_PRELOAD=self.shim, CALLS_NOTED=self.noted, CALLS_FAILING=",".join(fails)))
+        return ended, self.noted_calls()
+
+    def noted_calls(self):
         calls = []
         with open(self.noted, encoding="utf-8") as noted:
             for line in noted:
-                calls.append(Call(line, calls[-1] if calls else None))
-        return ended, calls
+                call = Call(line, calls[-1] if calls else None)
+                if call.name == "given":
+                    calls[-1].given = call.length
+                else:
+                    calls.append(call)
+        return calls
 
     def state(self):
         """The files with a byte, but the locks: names and contents."""
         return {path: data for path, data in bytes_of(self.folder).items() if path not in LOOSE}
+
+    def names_beside(self, files):
+        """The files that stand beside these: locks and such without a byte too, but for those that may as well be empty."""
+        root = os.path.join(self.folder, ".hg")
+        found = {os.path.relpath(os.path.join(above, name), root) for above, _, names in os.walk(root) for name in names}
+        return found - REPLACED - set(files)
 
     def has_locks(self):
         return any(os.path.lexists(os.path.join(self.folder, ".hg", lock)) for lock in LOOSE)
@@ -108,14 +123,18 @@ class World(Checks):
         shutil.copytree(self.folder, kept)
         return kept
 
-    def is_right(self):
-        """Whether Mercurial, where it is there, finds nothing wrong."""
+    def mercurial(self, *words):
+        """The status and what is written of a command of Mercurial's, none where there is no Mercurial."""
         if not shutil.which("hg"):
             self.skipped += 1
-            return True
+            return None
         env = dict(os.environ, HGRCPATH="/dev/null", HGPLAIN="1")
-        ended = subprocess.run(["hg", "verify", "--quiet"], cwd=self.folder, env=env, stdout=subprocess.PIPE, stderr=subprocess.STDOUT, check=False)
-        return ended.returncode == 0 and ended.stdout == b""
+        ended = subprocess.run(["hg", *words], cwd=self.folder, env=env, stdout=subprocess.PIPE, stderr=subprocess.STDOUT, check=False)
+        return ended.returncode, ended.stdout
+
+    def is_right(self):
+        """Whether Mercurial, where it is there, finds nothing wrong."""
+        return self.mercurial("verify", "--quiet") in (None, (0, b""))
 
     def recovers_to(self, what, wanted):
         """Recovers: a transaction is undone exactly where a journal stood, these files stand, no lock does, and nothing is found in them."""
@@ -160,12 +179,16 @@ def try_stops(world, base, words, given):
     world.check(f"{words}: what it leaves is right", world.is_right() and not world.has_locks())
     states.append(world.state())
     lines.append(answers(world, ["log"]))
-    end = ends_at(calls, words)
+    end, seen = ends_at(calls, words), 0
     for call, done in ((call, done) for call in calls if call.name in CHANGES for done in call.parts()):
         what = f"{words}, stopped at {call.number} {call} behind {done}"
         world.lay(base)
         ended = world.run(words, given, failing(call, KILLED, done))
         world.check(f"{what}: status {ended.returncode}", ended.returncode == -9)
+        # before anybody recovers a reader sees the lines before or those after, and once these, always these
+        said = answers(world, ["log"])
+        world.check(f"{what}: a reader sees {said}", said in lines[seen:])
+        seen = max(seen, lines.index(said)) if said in lines else seen
         if world.has_journal():
             opened = world.save(f"{os.path.basename(world.folder)}.open")
         world.recovers_to(what, states[call.number > end])
@@ -176,15 +199,27 @@ def try_stops(world, base, words, given):
 def try_failures(world, base, words, given):
     """Each failure of a command."""
     world.lay(base)
-    before = world.state()
+    before, lines = world.state(), [answers(world, ["log"])]
     whole, calls = world.note(base, words, given)
     after = world.state()
+    lines.append(answers(world, ["log"]))
     for call in calls:
         tries = [(errno.EIO, done) for done in call.parts()] + [(error, 0) for error in (errno.ENOSPC, errno.EINTR) if call.name in CHANGES]
         for error, done in tries:
             world.lay(base)
             ended = world.run(words, given, failing(call, error, done))
-            judge(world, f"{words}, {errno.errorcode[error]} at {call.number} {call} behind {done}", ended, whole, before, after)
+            what = f"{words}, {errno.errorcode[error]} at {call.number} {call} behind {done}"
+            said = answers(world, ["log"])
+            world.check(f"{what}: a reader sees {said}", said in lines_behind(ended, lines))
+            judge(world, what, ended, whole, before, after)
+
+
+def lines_behind(ended, lines):
+    """What a reader may see behind a run that ended so, of the lines before and those after."""
+    if ended.returncode == 17:
+        published = re.search(rb"published (\w+)", ended.stdout)
+        return {b"yes": lines[1:], b"no": lines[:1]}.get(published and published[1], lines)
+    return lines[1:] if ended.returncode in (0, 19) else lines[:1]
 
 
 def judge(world, what, ended, whole, before, after):
@@ -210,13 +245,19 @@ def judge(world, what, ended, whole, before, after):
         # of `init` its new text may be left, as docs/ANSWERS.md says
         kept = {path: data for path, data in state.items() if stands or path != "journal.new.requires"}
         world.check(f"{what}: status {status}, and other files stand, {sorted(state)}", kept == stands and not world.has_locks())
+        world.check(f"{what}: empty files stand, {world.names_beside(state)}", not world.names_beside(state))
+    else:
+        # what cannot be removed keeps no other
+        world.check(f"{what}: left over are {world.names_beside(stands)}", len(world.names_beside(stands)) <= 1)
     if not swept or state != stands:
         world.recovers_to(what, stands)
 
 
 def try_recovery(world, opened, before):
-    """Each stop and each failure of a recovery, and the recovery behind it."""
+    """Each stop and each failure of a recovery, and the recovery behind it. First come the calls whose failure leaves all as it is, then those that undo,
+    then those that sweep."""
     _, calls = world.note(opened, ["recover"])
+    ends = []
     for call in calls:
         for done in call.parts():
             what = f"recover at {call.number} {call} behind {done}"
@@ -229,7 +270,54 @@ def try_recovery(world, opened, before):
             lines = {0: b"transaction undone\n", 16: b"abort: file operation failed\n", 17: b"abort: recovery unfinished\n", 19: b""}
             world.check(f"{what} fails: {status}, {said}", status in lines and (status == 19 or said.removesuffix(LEFT_OVER) == lines[status]))
             world.check(f"{what} fails: {status}, and a journal", world.has_journal() == (status in (16, 17)))
+            is_left = said.endswith(LEFT_OVER)
+            world.check(f"{what} fails: left over are {world.names_beside(before)}", not is_left or len(world.names_beside(before)) <= 1)
+            ends += [("l" if is_left else "f")] if status in (0, 16) and (status or is_left) else ["u"] if status == 17 else []
             world.recovers_to(f"{what} fails", before)
+    world.check(f"the ends of recovering: {''.join(ends)}", re.fullmatch("f+u+l+", "".join(ends)))
+
+
+def try_by_hand(world):
+    """A transaction that was left open, laid by hand, with a backup that takes its file's place and a file that was not there: each call of its recovery stops and
+    fails. Then a stray that cannot be removed where nothing is open."""
+    shutil.rmtree(world.folder, ignore_errors=True)
+    lay(world.folder, OPEN)
+    opened = world.save("by_hand")
+    _, calls = world.note(opened, ["recover"])
+    world.check("the transaction by hand is undone", world.state() == BEFORE)
+    for call in calls:
+        for error in (KILLED, errno.EIO) if call.name in CHANGES else (errno.EIO,):
+            for done in call.parts():
+                world.lay(opened)
+                world.run(["recover"], b"", failing(call, error, done))
+                world.run(["recover"])
+                what = f"by hand, {call.number} {call} behind {done} with {error}"
+                world.check(f"{what}: other files stand, {sorted(world.state())}", world.state() == BEFORE and not world.has_locks())
+    stray = "journal.backup.dirstate"
+    shutil.rmtree(world.folder, ignore_errors=True)
+    lay(world.folder, {**BEFORE, stray: b"x"})
+    left = world.save("stray")
+    _, calls = world.note(left, ["recover"])
+    world.lay(left)
+    ended = world.run(["recover"], b"", failing(next(call for call in calls if str(call) == f"remove {stray}")))
+    world.check(f"a stray that stays: {ended.stdout}", (ended.returncode, ended.stdout) == (1, b"no interrupted transaction available\n" + LEFT_OVER))
+
+
+def try_each_recovery(world, base, before):
+    """Of the second commit each stop that leaves something, behind one byte of a write; then each stop of the recovery behind it."""
+    _, calls = world.note(base, ["commit"], NEXT)
+    for call in (call for call in calls if call.name in CHANGES and call.path != "output"):
+        world.lay(base)
+        world.run(["commit"], NEXT, failing(call, KILLED, min(1, call.length)))
+        if not world.has_journal():
+            continue
+        left = world.save(f"{os.path.basename(world.folder)}.left")
+        _, undoing = world.note(left, ["recover"])
+        for second in (second for second in undoing if second.name in CHANGES and second.path != "output"):
+            world.lay(left)
+            what = f"stopped at {call.number} {call}, and its recovery at {second.number} {second}"
+            world.check(f"{what}: is called", world.run(["recover"], b"", failing(second, KILLED)).returncode == -9)
+            world.recovers_to(what, before)
 
 
 # ---- each failure of one commit, by its kind
@@ -259,13 +347,14 @@ FAILURES = [
     ("the creation of a lock", r"(make|mode|look|write) (wlock|store/lock)", UNDONE, "before"),
     ("the question for the length of the journal", r"(look|readlink) store/journal", UNDONE, "before"),
     ("a read of the loading", r"(look|readlink|open|read|seek) (bookmarks|dirstate|store/(phaseroots|fncache|00(changelog|manifest)\.[id]|data/[ab]\.i))", UNDONE, "before"),
-    ("the put of a backup, of a new text, of the list of backups or of the journal", r"(look|readlink|make|mode|write) (journal\.(backup|new)\.dirstate|store/journal(\.backupfiles)?)", UNDONE, "before"),
+    ("the put of a backup, of a new text, of the list of backups or of the journal's text", r"(look|readlink|make|mode|write) (journal\.(backup|new)\.dirstate|store/journal\.(backupfiles|new\.journal))", UNDONE, "before"),
+    ("the rename that gives the journal its name", r"rename store/journal", UNDONE, "before"),
     ("an append to a filelog, the list of filelogs, the manifest or the data of the changelog", r"(look|readlink|make|mode|write) store/(data/b\.i|fncache|00manifest\.[di]|00changelog\.d)", UNDONE, "before"),
     ("the append to the changelog's index, the last byte not done", r"(make|write) store/00changelog\.i", UNDONE, "before"),
     ("the same, all bytes done", r"write store/00changelog\.i whole", DONE, "after"),
     ("the rename of dirstate", r"rename dirstate", unfinished(b"yes"), "journal"),
     ("the removal of the journal", r"remove store/journal", unfinished(b"yes"), "journal"),
-    ("the removal of a stray that was written", r"(remove|absent) (store/journal\.backupfiles|journal\.(backup|new)\.dirstate)", LEAVES, "left"),
+    ("the removal of a stray that was written", r"(remove|absent) (store/journal\.(backupfiles|new\.journal)|journal\.(backup|new)\.dirstate)", LEAVES, "left"),
     ("the question for a stray that was not written", r"(look|readlink) (store/journal\.(backup|new)\.phaseroots|journal\.(backup|new)\.bookmarks|journal\.new\.requires|store/00changelog\.i\.a)", LEAVES, "left"),
     ("the removal of a lock", r"remove (store/lock|wlock)", LEAVES, "left"),
     ("the answer", r"write output", (19, None), "after"),
@@ -377,6 +466,67 @@ def stopped(world, base, words, given, kind):
     return call
 
 
+# The calls that change a file, of a first commit and of a bookmark that is set where bookmarks stand; and those of the recovery where the journal was not
+# removed yet. Strays that are absent are not shown.
+FIRST_CALLS = """make wlock, make store/lock, make store/journal.new.phaseroots, make journal.new.dirstate, make store/journal.backupfiles,
+make store/journal.new.journal, rename store/journal, make store/data/a.i, mkdir store/data, make store/data/a.i, make store/fncache,
+make store/00manifest.d, make store/00manifest.i, make store/00changelog.d, rename store/phaseroots, make store/00changelog.i,
+rename dirstate, remove store/journal, remove store/journal.backupfiles, remove store/lock, remove wlock"""
+FIRST_UNDONE = """remove store/00changelog.i, remove store/00changelog.d, remove store/00manifest.i, remove store/00manifest.d, remove store/fncache,
+remove store/data/a.i, remove store/phaseroots, remove dirstate, remove store/journal, remove store/journal.backupfiles, remove store/lock, remove wlock"""
+MARK_CALLS = """make wlock, make store/lock, make journal.backup.bookmarks, make journal.new.bookmarks, make store/journal.backupfiles,
+make store/journal.new.journal, rename store/journal, rename bookmarks, remove store/journal, remove store/journal.backupfiles,
+remove journal.backup.bookmarks, remove store/lock, remove wlock"""
+MARK_UNDONE = """make journal.new.bookmarks, rename bookmarks, remove store/journal, remove store/journal.backupfiles, remove journal.backup.bookmarks,
+remove store/lock, remove wlock"""
+
+
+def changing(calls):
+    return [str(call) for call in calls if call.name in ("make", "mkdir", "rename", "remove", "cut")]
+
+
+def try_order(world, empty, one):
+    """The two transactions, call by call."""
+    world.lay(empty)
+    world.run(["init"])
+    new = world.save("fresh")
+    world.lay(one)
+    world.run(["bookmark", "old", "0"])
+    marked = world.save("marked")
+    for base, words, given, wanted, undone in ((new, ["commit"], NEW, FIRST_CALLS, FIRST_UNDONE), (marked, ["bookmark", "new", "0"], b"", MARK_CALLS, MARK_UNDONE)):
+        _, calls = world.note(base, words, given)
+        world.check(f"{words} calls {changing(calls)}", changing(calls) == re.split(r",\s", wanted))
+        stopped(world, base, words, given, f"remove {JOURNAL}")
+        _, calls = world.note(world.save("unfinished"), ["recover"])
+        world.check(f"{words} is undone by {changing(calls)}", changing(calls) == re.split(r",\s", undone))
+
+
+def hinted(ended):
+    """The command that the hint of a refusal names first."""
+    return re.search(rb"`hg_store ([^`]*)`", ended.stderr)[1].decode().split()
+
+
+def try_hints(world, base, before):
+    """Whatever is left behind, the command that the next refusal's hint names sets right, as it stands there."""
+    first, second = (next(row for row in DOUBLES if row[3][0] == 17)[place] for place in (0, 2))
+    for what, status in (("the locks and no journal", 10), ("the locks and the journal", 10), ("the journal alone", 11), ("an unfinished transaction", 17)):
+        if status == 17:
+            _, calls = world.note(base, ["commit"], NEXT)
+            fail = failing(next(call for call in calls if str(call) == first), errno.EIO, 64)
+            again = failing(next(call for call in second_calls(world, base, fail) if str(call) == second))
+            world.lay(base)
+            ended = world.run(["commit"], NEXT, fail, again)
+        else:
+            stopped(world, base, ["commit"], NEXT, "rename store/journal" if "no journal" in what else "rename dirstate")
+            for lock in LOOSE if status == 11 else ():
+                os.remove(os.path.join(world.folder, ".hg", lock))
+            ended = world.run(["commit"], NEXT)
+        world.check(f"{what}: {ended.returncode}, {ended.stderr}", ended.returncode == status and hinted(ended) == ["recover"])
+        ended = world.run(hinted(ended))
+        world.check(f"{what}: then {ended.stdout}", ended.returncode in (0, 1) and world.state() == before and not world.has_locks())
+        world.check(f"{what}: and then the commit", answers(world, ["commit"], NEXT) == DONE)
+
+
 def try_answers(world, empty):
     """What each command writes behind a stop; gives the store of one commit, and the files of both."""
     world.lay(empty)
@@ -411,6 +561,7 @@ def try_answers(world, empty):
     world.check("a recovery that was stopped behind its first cut is begun again", answers(world, ["recover"]) == (0, b"transaction undone\n"))
     world.check("and then there is nothing to undo", answers(world, ["recover"]) == (1, b"no interrupted transaction available\n"))
     world.check("all is as before", world.state() == before)
+    try_hints(world, one, before)
     world.lay(one)
     world.check("the second commit", answers(world, ["commit"], NEXT) == (0, NEXT_ANSWER))
     return one, before, world.state()
@@ -449,6 +600,8 @@ def try_question(world, base, words):
         status, said = ended.returncode, ended.stdout
         front = said.removesuffix(UNDONE[1])
         is_known = status == 0 and said == whole.stdout or status == 16 and said != front and whole.stdout.startswith(front) or status == 19 and whole.stdout.startswith(said)
+        # a look at a folder, and what is asked ahead of each command, is done without
+        is_known &= status == {"read": 16, "write": 19}.get(call.name, status)
         world.check(f"{words}, {call.number} {call} fails: {status}, {said}", is_known and ended.stderr.endswith(hint_of(status)))
     world.check(f"{words} changes a file", world.state() == before)
 
@@ -503,12 +656,15 @@ def main():
         empty, base = bases(first)
         one, before, after = try_answers(first, empty)
         try_taken_back(first, empty)
+        try_order(first, empty, one)
         # with a new inline filelog and a new separate one
         second = record(b"second", b"two\n", e=b"", f=b"f" * 4097)
         tries = [
             (try_command, base, ["import"], second + record(b"third", b"three\n", g=b"g") + b"end import\n"),
             (try_command, base, ["commit"], second),
             (try_doubles, one, before),
+            (try_each_recovery, one, before),
+            (try_by_hand,),
             (try_stops, one, ["commit"], NEXT),
             (try_each_kind, one, before, after),
             (try_strace, one),

@@ -164,7 +164,7 @@ ROWS = [
     ({**INLINE, FILE: INLINE[FILE][:65] + b"x" + INLINE[FILE][66:]}, [f"{FILE} 0 3", f"{FILE} 0 5", f"{FILE} 1 5"], 2, 1),
     # the first chunk cut: no whole entry is left
     # cut in its first entry it is inline still, and with fewer bytes than the header has it is separate
-    *(({**INLINE, FILE: INLINE[FILE][:size]}, [f"{FILE} 0 5", f"{FILE} 0 17", f"{FILE} 1 5"], 2, 1) for size in (66, 63, 4)),
+    *(({**INLINE, FILE: INLINE[FILE][:size]}, [f"{FILE} 0 5", f"{FILE} 0 17", f"{FILE} 1 5"], 2, 1) for size in (66, *range(4, 64))),
     ({**INLINE, FILE: INLINE[FILE][:3]}, [f"{FILE} 0 5", f"{FILE} 0 17", f"{FILE} 1 5", f"{FILE_DATA} - 10"], 2, 1),
     # a stored length with its sign set, a flag of the header that none has, and another version
     ({**INLINE, FILE: INLINE[FILE][:8] + b"\x80" + INLINE[FILE][9:]}, [f"{FILE} 0 3", f"{FILE} 0 5", f"{FILE} 1 5"], 2, 1),
@@ -181,7 +181,7 @@ ROWS = [
     # its first chunk cut, a stored length with its sign set, and another version: no changeset is left
     ({**ALL_INLINE, CHANGELOG: ALL_INLINE[CHANGELOG][:66]}, [f"{CHANGELOG} 0 17", *BOTH_LOST], 0, 0),
     # cut in its first entry: inline still, so that a data file beside it is not looked at
-    *(({**ALL_INLINE, CHANGELOG: ALL_INLINE[CHANGELOG][:size], CHANGELOG_DATA: b"?"}, [f"{CHANGELOG} 0 17", *BOTH_LOST], 0, 0) for size in (63, 4)),
+    *(({**ALL_INLINE, CHANGELOG: ALL_INLINE[CHANGELOG][:size], CHANGELOG_DATA: b"?"}, [f"{CHANGELOG} 0 17", *BOTH_LOST], 0, 0) for size in range(4, 64)),
     ({**ALL_INLINE, CHANGELOG: ALL_INLINE[CHANGELOG][:8] + b"\x80" + ALL_INLINE[CHANGELOG][9:]}, [f"{CHANGELOG} 0 3", *BOTH_LOST], 0, 0),
     ({**ALL_INLINE, CHANGELOG: b"\0\1\0\2" + ALL_INLINE[CHANGELOG][4:]}, [f"{CHANGELOG} 0 3", *BOTH_LOST], 0, 0),
     # the greatest length of an inline changelog and manifest

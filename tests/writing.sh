@@ -239,6 +239,16 @@ check "Mercurial does" hg recover
 check "and its locks are removed" ends 1 "no interrupted transaction available" "$program" recover
 check "then all is as before" bash -c '[ "$(hg log -r tip --template "{desc|firstline}")" = "step 6" ] && [ "$("$0" bookmark new tip)" = "new 5" ]' "$program"
 check "nothing is wrong" nothing_wrong
+cp -r ../theirs ../unnameable && cd ../unnameable || exit 1
+printf kept >.hg/journal.backup.dirstate
+printf 'fncache\0%d\n' "$(stat -c %s .hg/store/fncache)" >.hg/store/journal
+printf '2\nplain\0\377\0journal.backup.dirstate\0000\n' >.hg/store/journal.backupfiles
+check "a file whose name is not UTF-8 cannot be given its backup" refused 17 "abort: recovery unfinished" "$program" recover
+check "nor the second time" refused 17 "abort: recovery unfinished" "$program" recover
+check "Mercurial does it" hg recover
+check "and the backup is removed" ends 1 "no interrupted transaction available" "$program" recover
+check "as it was left over" [ ! -e .hg/journal.backup.dirstate ]
+check "nothing is wrong" nothing_wrong
 cd ../ours || exit 1
 
 # ---- second names

@@ -11,6 +11,7 @@ import shutil
 import struct
 import sys
 import tempfile
+import time
 
 from mercurial import error, registrar
 from mercurial.node import bin, hex, nullid, nullrev
@@ -216,12 +217,20 @@ def dirstate_text(repo):
 
 
 class Progress:
+    """Where the work is, once a second, on a terminal."""
+
     def __init__(self):
-        self.shown = sys.stderr.isatty()
+        self.shown, self.next = sys.stderr.isatty(), time.monotonic() + 1
 
     def say(self, text, *parts):
-        if self.shown:
+        if self.shown and time.monotonic() >= self.next:
             sys.stderr.write("\r\x1b[K" + text.format(*parts))
+            sys.stderr.flush()
+            self.next = time.monotonic() + 1
+
+    def end(self):
+        if self.shown:
+            sys.stderr.write("\r\x1b[K")
             sys.stderr.flush()
 
 
@@ -259,7 +268,6 @@ def write_store(repo, folder, progress):
         if text:
             with open(os.path.join(folder, name), "xb") as out:
                 out.write(text)
-    progress.say("")
     return count, len(named)
 
 
@@ -276,15 +284,18 @@ def export(ui, repo, destination):
     if not os.path.isdir(os.path.dirname(to)):
         raise error.Abort(b"there is no folder %s" % os.fsencode(os.path.dirname(to)))
     part = tempfile.mkdtemp(prefix=os.path.basename(to) + ".", suffix=".part", dir=os.path.dirname(to))
+    progress = Progress()
     try:
         os.makedirs(os.path.join(part, ".hg", "store"))
         with lock_of(repo):
-            changesets, files = write_store(repo, os.path.join(part, ".hg"), Progress())
+            changesets, files = write_store(repo, os.path.join(part, ".hg"), progress)
         os.chmod(part, 0o777 & ~current_umask())
         os.rename(part, to)
     except BaseException:
         shutil.rmtree(part, ignore_errors=True)
         raise
+    finally:
+        progress.end()
     ui.status(b"%d changesets, %d files\n" % (changesets, files))
     hidden = changesets - sum(1 for _ in repo.filtered(b"visible").changelog)
     if hidden:

@@ -4,10 +4,10 @@
 pub fn hint(status: u8) -> Option<&'static str> {
     match status {
         1 => Some(
-            "no transaction was left unfinished; locks and leftovers of stopped commands are removed",
+            "no transaction was left unfinished, and locks and leftovers of stopped commands are removed; where a line says that some remain, see that .hg may be written to and run `hg_store recover` again",
         ),
         10 => Some(
-            "somebody else writes this repository; wait and try again. Where no process does, a stop left the locks: `hg_store recover` removes them",
+            "somebody else writes this repository; wait and try again. Where no process does, a stop left the locks: `hg_store recover` undoes what it had begun and removes them",
         ),
         11 => Some(
             "an earlier transaction was left unfinished; nothing was changed. Once no process writes this repository, `hg_store recover` undoes what hg_store left, and `hg recover` what Mercurial left",
@@ -23,10 +23,10 @@ pub fn hint(status: u8) -> Option<&'static str> {
             "this file does not hold what it should; nothing was changed; `hg verify` says more of a repository of Mercurial's, and `hg recover` undoes what a stopped hg left",
         ),
         16 => Some(
-            "the system failed a call on a file of .hg: see that it may be read and written and that the disk is sound and not full; the repository is as before",
+            "the system failed a call on a file of .hg; the repository is as before. See that .hg may be read and written and that the disk is sound and not full, and run the command again; where files remain, `hg_store recover` removes them",
         ),
         17 => Some(
-            "a call on a file failed, and so did the way back; `published yes` means that readers see the new state. `hg_store recover` leads back to the state before",
+            "a call on a file failed, and so did the way back; `published yes` means that readers see the new state. `hg_store recover` leads back to the state before; where that breaks off each time at a name that is not UTF-8, `hg recover` undoes it",
         ),
         18 => Some("the system failed to read standard input; nothing was changed"),
         19 => Some(
@@ -50,13 +50,15 @@ pub fn hint(status: u8) -> Option<&'static str> {
             "a changeset goes from public to draft, or to secret, only with --force; nothing was changed",
         ),
         27 => Some(
-            "only repositories that require dotencode, fncache, revlogv1 and store, and at most generaldelta besides, are taken; `bin/from_hg` makes one of a repository of Mercurial's",
+            "only repositories that require dotencode, fncache, revlogv1 and store, and at most generaldelta besides, are taken; `bin/from_hg SOURCE DESTINATION` makes one of a repository of Mercurial's",
         ),
         28 => Some("`hg_store --help` lists the commands"),
         29 => Some(
-            "docs/ANSWERS.md says what each kind of finding means; `verify` changes nothing",
+            "docs/ANSWERS.md says what each kind of finding means; of kinds 1 and 2, where no process writes, `hg_store recover` takes away what a stop left; `verify` changes nothing",
         ),
-        30 => Some("there was not enough memory; `hg_store log` shows whether a commit was made"),
+        30 => Some(
+            "there was not enough memory: run the command again with more. `hg_store log` shows whether a commit was made, and where files remain, `hg_store recover` removes them",
+        ),
         32 => Some(
             "a parent has a file of this path, and a copy is a new file; nothing was changed",
         ),

@@ -1,5 +1,5 @@
 //! The answer to a command that writes, and its text.
-ghost use Rattle.std.specs.Prelude.{◌≡◌, ◌++◌, ◌∷◌, decimal, OnOk, OnErr, IfOk};
+ghost use Rattle.std.specs.Prelude.{◌≡◌, ◌++◌, ◌∷◌, decimal, OnOk, OnErr};
 ghost use Rattle.hgs_index.specs.Hex.{hex};
 ghost use Rattle.hgs_model.specs.Phase.{phase_name};
 ghost use Rattle.hgs_answers.specs.Answer.{answer_text, done_text, held_text, collision_text, outcome_text, refusal_text, status_of, unfinished_text};
@@ -211,16 +211,16 @@ impl Answer {
         self.outcome.status()
     }
 
-    // The text of the answer to a command.
-    fn text(&self, alloc: Global, command: &Command) -> Result<Vec<u8>, AllocError>
-        ensures { IfOk result (λ text. text.items ≡ answer_text command.now self.now) }
+    /// Adds the text of the answer to a command. Where there is no memory, a front of it may be added. Nothing is allocated but what
+    /// `into` lacks of room.
+    pub fn push(&self, command: &Command, into: &mut Vec<u8>) -> Result<(), AllocError>
+        ensures { OnOk result (into.new.items ≡ into.old.items ++ answer_text command.now self.now) }
     {
-        let mut text = Vec::new(alloc);
-        self.outcome.push_line(command, &mut text)?;
+        self.outcome.push_line(command, into)?;
         if !self.swept {
-            text.extend_from_slice(b"leftover files remain\n")?;
+            return into.extend_from_slice(b"leftover files remain\n");
         }
-        Ok(text)
+        Ok(())
     }
 
     /// Adds the text of the answer to a command. Where there is no memory, nothing is added.
@@ -233,7 +233,8 @@ impl Answer {
         ensures ok { OnOk result (into.new.items ≡ into.old.items ++ answer_text command.now self.now) }
         ensures err { OnErr result (into.new.items ≡ into.old.items) }
     {
-        let text = self.text(alloc, command)?;
+        let mut text = Vec::new(alloc);
+        self.push(command, &mut text)?;
         into.extend_from_slice(&text)
     }
 }

@@ -10,6 +10,7 @@ pub mod PartLemmas
 pub mod PushLemmas
 pub mod RootLemmas
 pub mod RowLemmas
+pub mod StayLemmas
 pub mod StepLemmas
 pub mod TreeLemmas
 pub mod WalkLemmas

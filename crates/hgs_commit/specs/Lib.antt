@@ -14,3 +14,4 @@ pub mod Fault
 pub mod Hindered
 pub mod OfCommit
 pub mod Commit
+pub mod Roots

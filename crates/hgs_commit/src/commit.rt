@@ -416,6 +416,7 @@ fn planned_step(
     requires valid { IsNewChange change.now }
     requires first { IfSome parents.0 (λ r. r < length loaded.now.changelog.entries) }
     requires second { IfSome parents.1 (λ r. r < length loaded.now.changelog.entries) }
+    requires entries { AreEntries loaded.now.changelog.entries }
     requires changeset { IsNewText loaded.now.changelog met texts.changeset }
     requires manifest { loaded.now.manifest.inline ≡ false → AppendsTo manifest_index loaded.now.manifest texts.manifest }
     requires few { length texts.filelogs.items ≤ 40000 }

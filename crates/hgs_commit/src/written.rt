@@ -1,5 +1,5 @@
 //! The parts of a commit's transaction, put together of what is appended and replaced.
-ghost use Rattle.std.specs.Prelude.{◌≡◌, ◌≤◌, ◌<◌, ◌+◌, ◌++◌, ◌∷◌, [], ◌^◌, true, length, IsOk, Some, IfOk, IfSome, OnOk};
+ghost use Rattle.std.specs.Prelude.{◌≡◌, ◌≤◌, ◌<◌, ◌+◌, ◌++◌, ◌∷◌, [], ◌^◌, true, length, nat_lt, IsOk, Some, None, IfOk, IfSome, OnOk};
 ghost use Rattle.std.specs.Option.{option_map};
 ghost use Rattle.hgs_bytes.specs.Answer.{Gives};
 ghost use Rattle.hgs_loading.specs.Small.{fncache_path};
@@ -9,7 +9,11 @@ ghost use Rattle.hgs_commit.specs.Texts.{changes_of, view_growth};
 ghost use Rattle.std.specs.List.{All, list_all};
 ghost use Rattle.hgs_index.specs.TrackedPath.{is_tracked};
 ghost use Rattle.hgs_model.specs.Valid.{IsNewChange, new_paths};
+ghost use Rattle.hgs_model.specs.Phase.{phase_number};
+ghost use Rattle.hgs_phases.specs.Phases.{parent_phase};
 ghost use Rattle.hgs_revlog.specs.Load.{entry_behind};
+ghost use Rattle.hgs_revlog.specs.Loaded.{AreEntries};
+ghost use Rattle.hgs_commit.specs.Roots.{AreBefore, inherited};
 ghost use Rattle.hgs_load.specs.View.{changelog_index};
 ghost use Rattle.hgs_reader.specs.Contents.{manifest_index};
 ghost use Rattle.hgs_commit.specs.Appended.{append_some, is_beside, optional_append};
@@ -23,12 +27,13 @@ use crate::new_text::NewText;
 use hgs_bytes::bytes::Bytes;
 use hgs_bytes::names::Names;
 use hgs_files::path::path_of;
+use hgs_index::entry::Entry;
 use hgs_index::node::Node;
 use hgs_model::command::NewChange;
 use hgs_model::files::NewFile;
 use hgs_model::phase::Phase;
 use hgs_phases::phases::Phases;
-use hgs_revlog::revlog::Revlog;
+use hgs_revlog::revlog::{Revlog, separate_entry};
 use hgs_steps::fault::PlanFault;
 use hgs_steps::loaded::Loaded;
 use hgs_steps::replaced::{replace_bookmarks, replace_dirstate, replace_roots};
@@ -97,6 +102,38 @@ fn next_phases(loaded: &Loaded, phase: Phase) -> Result<Phases, AllocError>
     Ok(phases)
 }
 
+// The phase of a parent, public where there is none.
+fn parent_phase(loaded: &Loaded, parent: Option<u32>) -> Phase
+    requires { IfSome parent (λ r. r < length loaded.now.changelog.entries) }
+    ensures { result ≡ parent_phase loaded.now.phases parent }
+{
+    match parent {
+        Some(rev) => loaded.phases.get(rev),
+        None => Phase::Public,
+    }
+}
+
+// Whether the phase of a new changeset with this entry is greater than each parent's.
+fn is_root(loaded: &Loaded, phase: Phase, entry: &Entry) -> bool
+    requires { AreBefore (length loaded.now.changelog.entries) entry.now }
+    ensures { result ≡ nat_lt (phase_number (inherited loaded.now.phases entry.now)) (phase_number phase) }
+{
+    let inherited = parent_phase(loaded, entry.p1).or_greater(parent_phase(loaded, entry.p2));
+    inherited.number() < phase.number()
+}
+
+// Whether the same roots are written as before, since a parent of the new changeset has its phase or a greater one.
+fn has_old_roots(loaded: &Loaded, phase: Phase, entry: &[u8; 64]) -> bool
+    requires entry { IsOk (entry_behind loaded.now.changelog.entries entry.now) }
+    requires entries { AreEntries loaded.now.changelog.entries }
+    ensures { result ≡ true → new_roots loaded.now phase entry.now ≡ None }
+{
+    match separate_entry(entry, loaded.changelog.len()) {
+        Ok(entry) => !is_root(loaded, phase, &entry),
+        Err(_) => false,
+    }
+}
+
 // The phase roots behind the commit, none where the same text is written of them as before.
 fn new_roots(
     alloc: Global,
@@ -104,10 +141,14 @@ fn new_roots(
     phase: Phase,
     entry: &[u8; 64],
 ) -> Result<Option<Replacing>, AllocError>
-    requires { IsOk (entry_behind loaded.now.changelog.entries entry.now) }
+    requires entry { IsOk (entry_behind loaded.now.changelog.entries entry.now) }
+    requires entries { AreEntries loaded.now.changelog.entries }
     ensures roots { IfOk result (λ roots. roots ≡ new_roots loaded.now phase entry.now) }
     ensures file { IfOk result (λ roots. IfSome roots (λ x. x.file ≡ PhaseRoots)) }
 {
+    if has_old_roots(loaded, phase, entry) {
+        return Ok(None);
+    }
     let phases = next_phases(loaded, phase)?;
     let changelog = next_changelog(loaded, entry)?;
     replace_roots(alloc, loaded, &phases, &changelog)
@@ -221,6 +262,7 @@ pub fn step_of(
     requires valid { IsNewChange change.now }
     requires first { IfSome parents.0 (λ r. r < length loaded.now.changelog.entries) }
     requires second { IfSome parents.1 (λ r. r < length loaded.now.changelog.entries) }
+    requires entries { AreEntries loaded.now.changelog.entries }
     requires pushes { Pushes loaded.now.changelog (Some written.changeset) }
     requires index { AppendsTo changelog_index loaded.now.changelog (Some written.changeset) }
     requires manifest { AppendsTo manifest_index loaded.now.manifest written.manifest }

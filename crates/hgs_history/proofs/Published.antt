@@ -118,7 +118,7 @@ module _ (jobs : List (List Job)) (entries : List PublishedJob) (unsure : Option
   pub adds : (outcome : Outcome) → AreTurnsOf jobs entries s.published → LeadsAs s log (record { who = name_of worker job; command = command; changeset = changeset }) outcome
       → Adds jobs (entries_with entries worker job outcome changeset) (unsure_after unsure worker job outcome) (is_done outcome) s log
   adds (outcomes.Done rev node) are leads = adds-one leads.0 are leads.1 leads.2
-  adds (outcomes.Unfinished No) are leads = adds-none jobs entries unsure s log worker job command changeset is_job leads.0 are leads.1
+  adds (outcomes.Unfinished No) are leads = adds-none jobs entries unsure s log worker job command changeset is_job (Some leads.0) are leads.1
   adds (outcomes.Unfinished Yes) are leads = adds-open leads.0 leads.1.0 are leads.1.1 leads.1.2
   adds (outcomes.Unfinished Unknown) are leads = adds-unsure leads.0 are leads.1
   adds outcome are leads = adds-none jobs entries unsure s log worker job command changeset is_job None are leads

@@ -4,6 +4,5 @@ pub mod LeadLemmas
 pub mod Steps
 pub mod BegunLemmas
 pub mod FileLemmas
-pub mod EarlyLemmas
 pub mod PathLemmas
 pub mod SampleLemmas

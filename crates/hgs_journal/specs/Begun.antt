@@ -1,4 +1,4 @@
--- Trees in which a journal is made, and what may be done while it stands.
+-- Trees in which a journal gets its name, and what may be done while it stands.
 use Rattle.std.specs.Prelude.{◌≡◌, ℕ, List, Bool, true, false, ◌&&◌, ◌||◌, not, length, map, Some, None}
 use Rattle.std.specs.List.{AllByRecursion, list_all, list_any}
 use Rattle.hgs_bytes.specs.Bytes.{same, among}
@@ -8,8 +8,8 @@ use Rattle.hgs_files.specs.Tree.{Tree, bytes_at}
 use Rattle.hgs_journal.specs.declared.journal.JournalLine.{JournalLine}
 use Rattle.hgs_journal.specs.declared.backups.BackupLine.{BackupLine}
 use Rattle.hgs_journal.specs.Covers.{Covers, KeepsBackup, ReadsAs, backup_places, is_loose, journal_paths, no_repeat}
-use Rattle.hgs_journal.specs.Names.{in_store, place, journal_path, backups_path, new_name, is_replaced}
-use Rattle.hgs_journal.specs.Texts.{IsJournalLine, backups_text}
+use Rattle.hgs_journal.specs.Names.{in_store, place, journal_path, new_journal_path, backups_path, new_name, is_replaced}
+use Rattle.hgs_journal.specs.Texts.{IsJournalLine, backups_text, journal_text}
 
 -- The tree t leads back to q, and this journal and this list of backups are read in it.
 pub record LeadsBack (strays : List (List ℕ)) (journal : List JournalLine) (backups : List BackupLine) (t q : Tree) : Type 0 where
@@ -20,14 +20,15 @@ pub record LeadsBack (strays : List (List ℕ)) (journal : List JournalLine) (ba
 abbrev pub HasOffset : Tree → JournalLine → Type 0
 HasOffset q l = l.offset ≡ length (bytes_at q (in_store l.name))
 
--- All is ready in t for a journal of these lines: locks, strays and the journal aside t is q; the list of backups stands,
--- and each of its backups has the bytes of its file. Each line has the length of its file, which is neither a lock, a
--- stray, the journal nor a file of the list.
+-- All is ready in t for a journal of these lines to get its name: locks, strays and the journal aside t is q; its text
+-- stands, and the list of backups, and each of these backups has the bytes of its file. Each line has the length of its
+-- file, which is neither a lock, a stray, the journal nor a file of the list.
 pub record IsPrepared (strays : List (List ℕ)) (journal : List JournalLine) (backups : List BackupLine) (t q : Tree) : Type 0 where
   pub lines : AllByRecursion IsJournalLine journal
   pub offsets : AllByRecursion (HasOffset q) journal
   pub apart : list_any (λ path. is_loose strays path || same path journal_path) (journal_paths journal) ≡ false
   pub unnamed : list_any (λ path. among path (journal_paths journal)) (backup_places backups) ≡ false
+  pub text_stands : t new_journal_path ≡ Some (journal_text journal)
   pub list_stands : t backups_path ≡ Some (backups_text backups)
   pub replaced : list_all (λ (l : BackupLine). is_replaced l.plain l.file) backups ≡ true
   pub once : no_repeat (backup_places backups) ≡ true

@@ -6,12 +6,12 @@ use Rattle.hgs_files.specs.declared.op.Op.{Op}
 use Rattle.hgs_files.specs.Tree.{Tree, bytes_at}
 use Rattle.hgs_journal.specs.declared.journal.JournalLine.{JournalLine}
 use Rattle.hgs_journal.specs.declared.backups.BackupLine.{BackupLine}
-use Rattle.hgs_journal.specs.Names.{in_store, place, journal_path, backups_path, locks, backup_name, new_name, is_replaced}
+use Rattle.hgs_journal.specs.Names.{in_store, place, journal_path, new_journal_path, backups_path, locks, backup_name, new_name, is_replaced}
 use Rattle.hgs_journal.specs.Read.{read_journal, read_backups}
 use Rattle.hgs_journal.specs.Texts.{IsJournalText, IsBackupsText}
 use Rattle.hgs_journal.specs.Undo.{undo_list}
 
--- the files that a transaction writes beside its journal, which mean nothing without it
+-- the files that undoing reads and writes beside the journal, which mean nothing without it
 abbrev pub own_strays : List (List ℕ)
 own_strays =
     backups_path
@@ -20,9 +20,9 @@ own_strays =
     ∷ place true (backup_name (codes "bookmarks")) ∷ place true (new_name (codes "bookmarks"))
     ∷ []
 
--- these are among the strays
+-- these are among the strays, and so is the journal before it gets its name
 abbrev pub HasOwnStrays : List (List ℕ) → Type 0
-HasOwnStrays strays = list_all (λ path. among path strays) own_strays ≡ true
+HasOwnStrays strays = list_all (λ path. among path strays) (new_journal_path ∷ own_strays) ≡ true
 
 -- locks and strays: no repository rests on them
 abbrev pub is_loose : List (List ℕ) → List ℕ → Bool

@@ -14,6 +14,10 @@ place false name = in_store name
 abbrev pub journal_path : List ℕ
 journal_path = codes "store/journal"
 
+-- the journal before it gets its name
+abbrev pub new_journal_path : List ℕ
+new_journal_path = codes "store/journal.new.journal"
+
 abbrev pub backups_path : List ℕ
 backups_path = codes "store/journal.backupfiles"
 

@@ -6,8 +6,9 @@ use Rattle.hgs_files.specs.declared.op.Op.TheVariants.{Append, Create, Rename}
 use Rattle.hgs_files.specs.Tree.{Tree, after_all}
 use Rattle.hgs_journal.specs.declared.journal.JournalLine.{JournalLine}
 use Rattle.hgs_journal.specs.declared.backups.BackupLine.{BackupLine}
-use Rattle.hgs_journal.specs.Names.{backup_name, backups_path, in_store}
-use Rattle.hgs_journal.specs.Texts.{backups_text}
+use Rattle.hgs_journal.specs.Covers.{own_strays}
+use Rattle.hgs_journal.specs.Names.{backup_name, backups_path, in_store, new_journal_path}
+use Rattle.hgs_journal.specs.Texts.{backups_text, journal_text}
 
 -- as many bytes 0
 abbrev pub zeros : ℕ → List ℕ
@@ -50,10 +51,14 @@ second_backups =
 abbrev pub second_puts : List Op
 second_puts =
     Create (codes "journal.backup.dirstate") (zeros 58) ∷ Create (codes "journal.new.dirstate") (zeros 76) ∷ Create (codes "journal.new.bookmarks") (zeros 44)
-    ∷ Create backups_path (backups_text second_backups) ∷ []
+    ∷ Create backups_path (backups_text second_backups) ∷ Create new_journal_path (journal_text second_journal) ∷ []
 
 abbrev pub second_prepared : Tree
 second_prepared = after_all second_puts one_changeset
+
+-- the strays: those of undoing, and the journal before it gets its name
+abbrev pub second_strays : List (List ℕ)
+second_strays = own_strays ++ new_journal_path ∷ []
 
 -- what it does behind its journal
 abbrev pub second_changes : List Op

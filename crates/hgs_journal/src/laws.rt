@@ -10,7 +10,7 @@ ghost use Rattle.hgs_journal.specs.declared.backups.BackupLine.{BackupLine};
 ghost use Rattle.hgs_journal.specs.declared.journal.JournalLine.{JournalLine};
 ghost use Rattle.hgs_journal.specs.Begun.{IsAllowed, IsPrepared, LeadsBack, bytes_before, is_free};
 ghost use Rattle.hgs_journal.specs.Covers.{Covers, HasOwnStrays, Restores, backup_places, is_loose, journal_paths, undo_ops};
-ghost use Rattle.hgs_journal.specs.Names.{is_replaced, journal_path, locks, new_name, place};
+ghost use Rattle.hgs_journal.specs.Names.{is_replaced, journal_path, locks, new_journal_path, new_name, place};
 ghost use Rattle.hgs_journal.specs.Read.{read_backups, read_journal};
 ghost use Rattle.hgs_journal.specs.Texts.{IsBackupLine, IsBackupsText, IsJournalLine, IsJournalText, backups_text, journal_text};
 ghost use Rattle.hgs_journal.specs.Undo.{undo_list};
@@ -32,12 +32,9 @@ pub fn cut_journals()
     ensures { (lines : List JournalLine) (front back : List ℕ) → AllByRecursion IsJournalLine lines → journal_text lines ≡ front ++ back → (first : List JournalLine) × (more : List JournalLine) × (lines ≡ first ++ more) × (read_journal front ≡ Ok first) }
 {}
 
-/// From the first byte of a journal on the tree leads back to the one before it, by those of its lines that stand whole. While
-/// nothing else was done, the journal alone may be removed.
+/// Once all is ready and the journal gets its name, which is one step, the tree leads back to the one before it.
 pub fn journals_begin()
-    ensures fronts { (strays : List (List ℕ)) (journal : List JournalLine) (backups : List BackupLine) (t q : Tree) (front back : List ℕ) → HasOwnStrays strays → IsPrepared strays journal backups t q → journal_text journal ≡ front ++ back → (first : List JournalLine) × (more : List JournalLine) × (journal ≡ first ++ more) × LeadsBack strays first backups (apply (Op.Create journal_path front) t) q }
-    ensures whole { (strays : List (List ℕ)) (journal : List JournalLine) (backups : List BackupLine) (t q : Tree) → HasOwnStrays strays → IsPrepared strays journal backups t q → LeadsBack strays journal backups (apply (Op.Create journal_path (journal_text journal)) t) q }
-    ensures dropped { (strays : List (List ℕ)) (u q : Tree) → q journal_path ≡ None → ((path : List ℕ) → (is_loose strays path || same path journal_path) ≡ false → u path ≡ q path) → Restores strays (apply (Op.Remove journal_path) u) q }
+    ensures { (strays : List (List ℕ)) (journal : List JournalLine) (backups : List BackupLine) (t q : Tree) → HasOwnStrays strays → IsPrepared strays journal backups t q → LeadsBack strays journal backups (apply (Op.Rename new_journal_path journal_path) t) q }
 {}
 
 /// What a transaction does while its journal stands leaves a tree that leads back to the same: an append to a file that the
@@ -61,13 +58,10 @@ pub fn undo_leads_back()
 {}
 
 /// Wherever that list is stopped, and in whatever parts its operations are done, the tree still leads back, or all is done
-/// and it has the files of the other: so it may be begun again. It may also begin while the journal is being made; then the
-/// tree leads back to one that has the files of the other, empty ones aside. On the way each file has the bytes that it had
-/// when undoing began, or those of the other tree.
+/// and it has the files of the other: so it may be begun again. On the way each file has the bytes that it had when undoing
+/// began, or those of the other tree.
 pub fn undo_may_stop()
     ensures parts { (strays : List (List ℕ)) (t q : Tree) (journal : List JournalLine) (backups : List BackupLine) (done left : List Op) → HasOwnStrays strays → LeadsBack strays journal backups t q → IsDone (undo_ops t journal backups) done left → LeadsBack strays journal backups (after_all done t) q ⊎ ((left ≡ []) × Restores strays (after_all done t) q) }
     ensures stops { (strays : List (List ℕ)) (t q u : Tree) (journal : List JournalLine) (backups : List BackupLine) → HasOwnStrays strays → LeadsBack strays journal backups t q → StopLeaves t (undo_ops t journal backups) u → LeadsBack strays journal backups u q ⊎ Restores strays u q }
-    ensures early { (strays : List (List ℕ)) (journal : List JournalLine) (backups : List BackupLine) (t q : Tree) (front back : List ℕ) (done left : List Op) → HasOwnStrays strays → IsPrepared strays journal backups t q → journal_text journal ≡ front ++ back → IsDone (undo_list journal backups (bytes_before q backups)) done left → ((first : List JournalLine) × (p : Tree) × LeadsBack strays first backups (after_all done (apply (Op.Create journal_path front) t)) p × Restores strays p q) ⊎ ((left ≡ []) × Restores strays (after_all done (apply (Op.Create journal_path front) t)) q) }
     ensures files { (strays : List (List ℕ)) (t q : Tree) (journal : List JournalLine) (backups : List BackupLine) (path : List ℕ) (done left : List Op) → HasOwnStrays strays → LeadsBack strays journal backups t q → is_loose strays path ≡ false → same path journal_path ≡ false → IsDone (undo_ops t journal backups) done left → (bytes_at (after_all done t) path ≡ bytes_at t path) ⊎ (bytes_at (after_all done t) path ≡ bytes_at q path) }
-    ensures early_files { (strays : List (List ℕ)) (journal : List JournalLine) (backups : List BackupLine) (t q : Tree) (front back path : List ℕ) (done left : List Op) → HasOwnStrays strays → IsPrepared strays journal backups t q → journal_text journal ≡ front ++ back → is_loose strays path ≡ false → same path journal_path ≡ false → IsDone (undo_list journal backups (bytes_before q backups)) done left → bytes_at (after_all done (apply (Op.Create journal_path front) t)) path ≡ bytes_at q path }
 {}

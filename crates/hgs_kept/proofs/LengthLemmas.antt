@@ -13,7 +13,7 @@ use Rattle.hgs_files.specs.Theorems.TreeLemmas.{after_all-append}
 use Rattle.hgs_files.specs.Tree.{Tree, after_all, apply, bytes_at, renamed, shortened, with_file}
 use Rattle.hgs_journal.specs.declared.backups.BackupLine.{BackupLine}
 use Rattle.hgs_journal.specs.declared.journal.JournalLine.{JournalLine}
-use Rattle.hgs_journal.specs.Names.{backup_name, backups_path, in_store, journal_path, new_name, place}
+use Rattle.hgs_journal.specs.Names.{backup_name, backups_path, in_store, journal_path, new_name, place, new_journal_path}
 use Rattle.hgs_journal.specs.Undo.{undo_backups, undo_line, undo_with}
 use Rattle.hgs_model.specs.declared.command.Command.{Command}
 use Rattle.hgs_model.specs.declared.command.Command.TheVariants.{Commit, Import, Mark, Move, Unmark}
@@ -27,8 +27,9 @@ use Rattle.hgs_ops.specs.Theorems.CommitLemmas.{growth-appends}
 use Rattle.hgs_ops.specs.Theorems.CommitTree.{IsSmall, is_append, is_quiet, preparations-within}
 use Rattle.hgs_ops.specs.Theorems.Touch.{all-append, and-both, and-left, and-right, appended-at, at, away, bool, never, only-untouched, only_appends, touched, touched-within}
 use Rattle.hgs_stands.specs.Places.{changelog_index}
-use Rattle.hgs_legal.specs.LegalLog.{Acts, Doing, Idle, IsTurn, Leaves, Preparing, Published, Refused, State, Turn, Undoing, Working, begins, breaks, breaks_after, breaks_undo, current, drops_journal, drops_none, finished, finishes, gives_up, goes_on_knocking, goes_on_undoing, is_refused, journals, knocks, knocks_again, prepares, removes, start_of, stays, through_publishing, through_removal, undoes, undone, worked, works}
+use Rattle.hgs_legal.specs.LegalLog.{Acts, Doing, Idle, IsTurn, Leaves, Preparing, Published, Refused, State, Turn, Undoing, Working, begins, breaks, breaks_after, breaks_undo, current, finished, finishes, gives_up, goes_on_knocking, goes_on_undoing, is_refused, journals, knocks, knocks_again, prepares, removes, start_of, stays, through_publishing, through_removal, undoes, undone, worked, works}
 use Rattle.hgs_kept.specs.Within.{EndsWithin, GoesBy}
+use Rattle.hgs_journal.specs.Texts.{journal_text}
 
 module _ (p : List ℕ) (loud : is_quiet p ≡ false) (apart : same changelog_index p ≡ false) where
   abbrev is_other : List ℕ → Bool
@@ -180,14 +181,14 @@ module _ (p : List ℕ) (loud : is_quiet p ≡ false) (apart : same changelog_in
 
   pub before-touched : (t : Tree) (r : Repo) (command : Command) (who : List ℕ) (next : Repo) → touched p (transaction_of t r command who next).before ≡ false
   before-touched t r command who next =
-      touched-within is_other (preparations t who (replacements r command next) (backups_of t r command next)) p
-      (preparations-within is_other t who (replacements r command next) (backups_of t r command next) (other wlock_path refl) (other lock_path refl) (other backups_path refl) (small r command next)) (ap not (same-refl p))
+      touched-within is_other (preparations t who (replacements r command next) (backups_of t r command next) (journal_text (journal_of t r command next))) p
+      (preparations-within is_other t who (replacements r command next) (backups_of t r command next) (journal_text (journal_of t r command next)) (other wlock_path refl) (other lock_path refl) (other backups_path refl) (other new_journal_path refl) (small r command next)) (ap not (same-refl p))
 
   before-appends : (t : Tree) (r : Repo) (command : Command) (who : List ℕ) (next : Repo) → AreAppends (transaction_of t r command who next).before
   before-appends t r command who next =
-      only-untouched (preparations t who (replacements r command next) (backups_of t r command next)) p
-      (touched-within is_other (preparations t who (replacements r command next) (backups_of t r command next)) p
-      (preparations-within is_other t who (replacements r command next) (backups_of t r command next) (other wlock_path refl) (other lock_path refl) (other backups_path refl) (small r command next)) (ap not (same-refl p)))
+      only-untouched (preparations t who (replacements r command next) (backups_of t r command next) (journal_text (journal_of t r command next))) p
+      (touched-within is_other (preparations t who (replacements r command next) (backups_of t r command next) (journal_text (journal_of t r command next))) p
+      (preparations-within is_other t who (replacements r command next) (backups_of t r command next) (journal_text (journal_of t r command next)) (other wlock_path refl) (other lock_path refl) (other backups_path refl) (other new_journal_path refl) (small r command next)) (ap not (same-refl p)))
 
   append-appends : (ops : List Op) → list_all is_append ops ≡ true → AreAppends ops
   append-appends [] e = refl
@@ -232,7 +233,7 @@ module _ (p : List ℕ) (loud : is_quiet p ≡ false) (apart : same changelog_in
   pub all-appends : (t : Tree) (r : Repo) (command : Command) (who : List ℕ) (next : Repo) → AreAppends ((transaction_of t r command who next).before ++ through_publishing (transaction_of t r command who next))
   all-appends t r command who next =
       all-append (only_appends p) (transaction_of t r command who next).before (through_publishing (transaction_of t r command who next)) (before-appends t r command who next)
-      (and-both _ _ (other journal_path refl) (all-append (only_appends p) (changes_before t r command next) (publishing t r command next ∷ []) (changes-appends t r command next) (and-both _ _ (publish-appends t r command next) refl)))
+      (and-both _ _ (rename-appends new_journal_path journal_path (other new_journal_path refl, other journal_path refl)) (all-append (only_appends p) (changes_before t r command next) (publishing t r command next ∷ []) (changes-appends t r command next) (and-both _ _ (publish-appends t r command next) refl)))
 
   behind-idle : (next : Repo) (marks : Bool) → AreIdle (new_rename (new_dirstate next) ∷ only_if marks (new_rename (new_bookmarks next)))
   behind-idle next true = and-both _ _ away-dirstate.1 (and-both _ _ away-marks.1 refl)
@@ -375,8 +376,6 @@ module _ (p : List ℕ) (loud : is_quiet p ≡ false) (apart : same changelog_in
     acts-kept _ u r op _ _ (finishes {x = x} {to_do = to_do} left does) met k = let h = does-idle to_do left op k.1 does in finished-kept x left (apply op u) (idle-kept op u h.0 k.0) h.1
     acts-kept _ u r op _ _ (undoes {x = x} {o = o} {rest = rest} left does) met k = let h = does-idle x.ops.undo left op k.1.1 does in undone-kept left (apply op u) (idle-kept op u h.0 (coming-now (o ∷ rest) u k.0)) h.1
     acts-kept _ u r op _ _ (goes_on_undoing {to_do = to_do} left does) met k = let h = does-idle to_do left op k.1 does in undone-kept left (apply op u) (idle-kept op u h.0 k.0) h.1
-    acts-kept _ u r _ _ _ (drops_journal {x = x} {o = o} {rest = rest} front e) met k = idle-kept (Remove journal_path) u refl (coming-now (o ∷ rest) u k.0)
-    acts-kept _ u r _ _ _ (drops_none {x = x}) met k = idle-kept (Remove journal_path) u refl (coming-now (through_publishing x.ops) u k.0)
     acts-kept _ u r _ _ _ (removes {path = path} skipped e) met k = idle-kept (Remove path) u refl k
     acts-kept _ u r op _ _ (knocks {creation = creation} who does) met k = let h = does-idle (Create wlock_path who ∷ []) creation op (and-both _ _ (other wlock_path refl) refl) does in (idle-kept op u h.0 k, h.1)
     acts-kept _ u r op _ _ (knocks_again {creation = creation} who does) met k = let h = does-idle (Create lock_path who ∷ []) creation op (and-both _ _ (other lock_path refl) refl) does in (idle-kept op u h.0 k.0, h.1)

@@ -10,8 +10,8 @@ use Rattle.hgs_files.specs.Log.{Does}
 use Rattle.hgs_files.specs.Tree.{Tree, apply}
 use Rattle.hgs_journal.specs.declared.backups.BackupLine.{BackupLine}
 use Rattle.hgs_journal.specs.declared.journal.JournalLine.{JournalLine}
-use Rattle.hgs_journal.specs.Names.{backup_name, backups_path, in_store, journal_path, new_name, place}
-use Rattle.hgs_journal.specs.Texts.{backups_text}
+use Rattle.hgs_journal.specs.Names.{backup_name, backups_path, in_store, journal_path, new_name, place, new_journal_path}
+use Rattle.hgs_journal.specs.Texts.{backups_text, journal_text}
 use Rattle.hgs_journal.specs.Undo.{undo_backups, undo_line, undo_with}
 use Rattle.hgs_model.specs.declared.command.Command.{Command}
 use Rattle.hgs_model.specs.declared.command.Command.TheVariants.{Commit, Import, Mark, Move, Unmark}
@@ -25,7 +25,7 @@ use Rattle.hgs_ops.specs.Theorems.CommitLemmas.{growth-appends, growth-quiet}
 use Rattle.hgs_ops.specs.Theorems.CommitTree.{is_append, is_quiet}
 use Rattle.hgs_ops.specs.Theorems.Touch.{and-left, and-right, never, or-left, or-right, touched, touches}
 use Rattle.hgs_stands.specs.Places.{changelog_index}
-use Rattle.hgs_legal.specs.LegalLog.{Acts, Doing, Idle, IsTurn, Leaves, Preparing, Published, Refused, State, Turn, Undoing, Working, begins, breaks, breaks_after, breaks_undo, current, drops_journal, drops_none, finished, finishes, gives_up, goes_on_knocking, goes_on_undoing, is_refused, journals, knocks, knocks_again, prepares, removes, start_of, stays, through_publishing, through_removal, undoes, undone, worked, works}
+use Rattle.hgs_legal.specs.LegalLog.{Acts, Doing, Idle, IsTurn, Leaves, Preparing, Published, Refused, State, Turn, Undoing, Working, begins, breaks, breaks_after, breaks_undo, current, finished, finishes, gives_up, goes_on_knocking, goes_on_undoing, is_refused, journals, knocks, knocks_again, prepares, removes, start_of, stays, through_publishing, through_removal, undoes, undone, worked, works}
 use Rattle.hgs_kept.specs.Within.{GoesBy, WritesWithin}
 use Rattle.hgs_kept.proofs.ReplacedLemmas.{Both, Ok, Safe, Short, does-both, ok-safe}
 
@@ -42,6 +42,7 @@ pub record AreApart (b nb : List ℕ) : Type 0 where
   pub lock : (same lock_path b ≡ false) × (same lock_path nb ≡ false)
   pub backups : (same backups_path b ≡ false) × (same backups_path nb ≡ false)
   pub journal : (same journal_path b ≡ false) × (same journal_path nb ≡ false)
+  pub named : (same new_journal_path b ≡ false) × (same new_journal_path nb ≡ false)
   pub made : (same new_changelog_path b ≡ false) × (same new_changelog_path nb ≡ false)
   pub index : (same changelog_index b ≡ false) × (same changelog_index nb ≡ false)
   pub roots : IsApart b nb false (codes "phaseroots")
@@ -87,12 +88,12 @@ module _ (most : ℕ) (b nb : List ℕ) (facts : AreApart b nb) where
       by (inl e) = inl e
       by (inr e) = inr (few.0 e)
 
-  before-good : (t : Tree) (who : List ℕ) (ys : List Replacement) (lines : List BackupLine) → AllByRecursion IsFile ys → AllByRecursion IsFew ys → Good (preparations t who ys lines)
-  before-good t who ys lines all few =
-      all-join (Ok most b nb) ((Create wlock_path who ∷ Create lock_path who ∷ flat_map (λ x. backup_put x (standing_file t x)) ys) ++ map new_put ys) (Create backups_path (backups_text lines) ∷ [])
+  before-good : (t : Tree) (who : List ℕ) (ys : List Replacement) (lines : List BackupLine) (text : List ℕ) → AllByRecursion IsFile ys → AllByRecursion IsFew ys → Good (preparations t who ys lines text)
+  before-good t who ys lines text all few =
+      all-join (Ok most b nb) ((Create wlock_path who ∷ Create lock_path who ∷ flat_map (λ x. backup_put x (standing_file t x)) ys) ++ map new_put ys) (Create backups_path (backups_text lines) ∷ Create new_journal_path text ∷ [])
       (all-join (Ok most b nb) (Create wlock_path who ∷ Create lock_path who ∷ flat_map (λ x. backup_put x (standing_file t x)) ys) (map new_put ys)
       ((facts.wlock.0, inl facts.wlock.1), ((facts.lock.0, inl facts.lock.1), backups-good t ys all)) (puts-good ys all few))
-      ((facts.backups.0, inl facts.backups.1), tt)
+      ((facts.backups.0, inl facts.backups.1), ((facts.named.0, inl facts.named.1), tt))
 
   appends-good : (ops : List Op) → list_all is_append ops ≡ true → touched b ops ≡ false → touched nb ops ≡ false → Good ops
   appends-good [] e f g = tt
@@ -133,8 +134,8 @@ module _ (most : ℕ) (b nb : List ℕ) (facts : AreApart b nb) where
   whole-good : (t : Tree) (r : Repo) (command : Command) (who : List ℕ) (next : Repo) → AllByRecursion IsFew (replacements r command next) → Good ((transaction_of t r command who next).before ++ through_publishing (transaction_of t r command who next))
   whole-good t r command who next few =
       all-join (Ok most b nb) (transaction_of t r command who next).before (through_publishing (transaction_of t r command who next))
-      (before-good t who (replacements r command next) (backups_of t r command next) (files r command next) few)
-      ((facts.journal.0, inl facts.journal.1), all-join (Ok most b nb) (changes_before t r command next) (publishing t r command next ∷ []) (changes-good t r command next) (publish-good t r command next, tt))
+      (before-good t who (replacements r command next) (backups_of t r command next) (journal_text (journal_of t r command next)) (files r command next) few)
+      ((inl facts.journal.0, facts.journal.1), all-join (Ok most b nb) (changes_before t r command next) (publishing t r command next ∷ []) (changes-good t r command next) (publish-good t r command next, tt))
 
   removal-good : (t : Tree) (r : Repo) (command : Command) (who : List ℕ) (next : Repo) → Good (through_removal (transaction_of t r command who next))
   removal-good t r command who next = all-join (Ok most b nb) (renames_after command next) (Remove journal_path ∷ []) (renames command) (tt, tt)
@@ -238,8 +239,6 @@ module _ (most : ℕ) (b nb : List ℕ) (facts : AreApart b nb) where
   acts-kept _ u r op _ _ (finishes {x = x} {to_do = to_do} left does) met k = finished-kept x left (apply op u) (does-kept to_do left op u k does)
   acts-kept _ u r op _ _ (undoes {x = x} left does) met k = undone-kept left (apply op u) (does-kept x.ops.undo left op u (k.0.0, ok-safe most b nb x.ops.undo u k.1.1 k.0.0) does)
   acts-kept _ u r op _ _ (goes_on_undoing {to_do = to_do} left does) met k = undone-kept left (apply op u) (does-kept to_do left op u k does)
-  acts-kept _ u r _ _ _ (drops_journal front e) met k = removes-kept journal_path u k.0.0
-  acts-kept _ u r _ _ _ drops_none met k = removes-kept journal_path u k.0.0
   acts-kept _ u r _ _ _ (removes {path = path} skipped e) met k = removes-kept path u k
   acts-kept _ u r op _ _ (knocks {creation = creation} who does) met k = does-kept (Create wlock_path who ∷ []) creation op u (k, ok-safe most b nb (Create wlock_path who ∷ []) u ((facts.wlock.0, inl facts.wlock.1), tt) k) does
   acts-kept _ u r op _ _ (knocks_again {creation = creation} who does) met k = does-kept (Create lock_path who ∷ []) creation op u (k.0, ok-safe most b nb (Create lock_path who ∷ []) u ((facts.lock.0, inl facts.lock.1), tt) k.0) does
@@ -273,6 +272,7 @@ roots-apart = record {
   lock = (refl, refl);
   backups = (refl, refl);
   journal = (refl, refl);
+  named = (refl, refl);
   made = (refl, refl);
   index = (refl, refl);
   roots = record { backup = (refl, refl); text = (refl, inr refl); itself = (inr refl, refl) };
@@ -287,6 +287,7 @@ dirstate-apart = record {
   lock = (refl, refl);
   backups = (refl, refl);
   journal = (refl, refl);
+  named = (refl, refl);
   made = (refl, refl);
   index = (refl, refl);
   roots = record { backup = (refl, refl); text = (refl, inl refl); itself = (inl refl, refl) };
@@ -301,6 +302,7 @@ marks-apart = record {
   lock = (refl, refl);
   backups = (refl, refl);
   journal = (refl, refl);
+  named = (refl, refl);
   made = (refl, refl);
   index = (refl, refl);
   roots = record { backup = (refl, refl); text = (refl, inl refl); itself = (inl refl, refl) };

@@ -30,7 +30,7 @@ use Rattle.hgs_ops.specs.Unhindered.{AreNewRevisions, IsReady}
 use Rattle.hgs_revlog.specs.Load.{most_text}
 use Rattle.hgs_shown.specs.Limits.{IsSmallTree}
 use Rattle.hgs_stands.specs.Stands.{Stands}
-use Rattle.hgs_legal.specs.LegalLog.{Acts, Doing, Goes, Idle, IsRun, IsTurn, Leaves, Preparing, Run, State, Turn, Working, begins, breaks, breaks_after, breaks_undo, current, drops_journal, drops_none, finished, finishes, gives_up, goes_on_knocking, goes_on_undoing, is_refused, journals, knocks, knocks_again, last_repo, newly, prepares, removes, start_of, stays, undoes, undone, worked, works}
+use Rattle.hgs_legal.specs.LegalLog.{Acts, Doing, Goes, Idle, IsRun, IsTurn, Leaves, Preparing, Run, State, Turn, Working, begins, breaks, breaks_after, breaks_undo, current, finished, finishes, gives_up, goes_on_knocking, goes_on_undoing, is_refused, journals, knocks, knocks_again, last_repo, newly, prepares, removes, start_of, stays, undoes, undone, worked, works}
 use Rattle.hgs_legal.specs.Numbers.{StopsAt, acknowledged_of, repo_at}
 use Rattle.hgs_legal.specs.Theorems.Idle.{Safe, StandsIdle, idle-stands}
 use Rattle.hgs_legal.specs.Theorems.Runs.{run-join}
@@ -188,8 +188,6 @@ module _ (N : Repo → Type 0) (Meets : Tree → Repo → Turn → Type 0) (keep
   acts-next _ u r op _ _ (finishes {x = x} left does) n s met k = finished-next x left
   acts-next _ u r op _ _ (undoes left does) n s met k = undone-next left
   acts-next _ u r op _ _ (goes_on_undoing left does) n s met k = undone-next left
-  acts-next _ u r _ _ _ (drops_journal front e) n s met k = (tt, tt)
-  acts-next _ u r _ _ _ drops_none n s met k = (tt, tt)
   acts-next _ u r _ _ _ (removes skipped e) n s met k = (tt, tt)
   acts-next _ u r op _ _ (knocks who does) n s met k = (tt, tt)
   acts-next _ u r op _ _ (knocks_again who does) n s met k = (tt, tt)
@@ -236,8 +234,6 @@ module _ (Meets Others : Tree → Repo → Turn → Type 0) (says : (t : Tree) (
       by (finishes left does) e f = cc
       by (undoes left does) e f = cc
       by (goes_on_undoing left does) e f = cc
-      by (drops_journal front e) h f = cc
-      by drops_none e f = cc
       by (removes skipped e) h f = cc
       by (knocks who does) e f = cc
       by (knocks_again who does) e f = cc

@@ -12,7 +12,7 @@ use Rattle.hgs_model.specs.Step.{sets_bookmark}
 use Rattle.hgs_ops.specs.Operations.{Transaction, renames_after}
 use Rattle.hgs_ops.specs.Replaced.{new_bookmarks, new_dirstate, new_rename, only_if}
 use Rattle.hgs_ops.specs.Shown.{lacks_bookmarks, lacks_dirstate}
-use Rattle.hgs_legal.specs.LegalLog.{Acts, Doing, Goes, IsTurn, Published, State, Turn, begins, drops_journal, drops_none, finishes, goes_on_knocking, goes_on_undoing, journals, knocks, knocks_again, newly, prepares, removes, through_removal, undoes, worked, works}
+use Rattle.hgs_legal.specs.LegalLog.{Acts, Doing, Goes, IsTurn, Published, State, Turn, begins, finishes, goes_on_knocking, goes_on_undoing, journals, knocks, knocks_again, newly, prepares, removes, through_removal, undoes, worked, works}
 use Rattle.hgs_legal.specs.Numbers.{adds_changesets, n_of}
 
 -- an operation that publishes leaves the transaction's last operations to do
@@ -34,8 +34,6 @@ acts-newly t r _ op _ _ (works {x = x} left does) lt = newly-worked x left lt
 acts-newly t r _ op _ _ (finishes left does) lt = none lt
 acts-newly t r _ op _ _ (undoes left does) lt = none lt
 acts-newly t r _ op _ _ (goes_on_undoing left does) lt = none lt
-acts-newly t r _ _ _ _ (drops_journal front e) lt = none lt
-acts-newly t r _ _ _ _ drops_none lt = none lt
 acts-newly t r _ _ _ _ (removes skipped e) lt = none lt
 acts-newly t r _ op _ _ (knocks who does) lt = none lt
 acts-newly t r _ op _ _ (knocks_again who does) lt = none lt

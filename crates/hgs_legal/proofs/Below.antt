@@ -2,7 +2,7 @@
 use Rattle.std.specs.Prelude.{◌≡◌, ◌⊎◌, ◌++◌, ◌∷◌, ℕ, List, [], false, Ok, if◌then◌else◌}
 use Rattle.hgs_bytes.specs.Bytes.{among}
 use Rattle.hgs_files.specs.declared.op.Op.{Op}
-use Rattle.hgs_files.specs.declared.op.Op.TheVariants.{Create, Remove}
+use Rattle.hgs_files.specs.declared.op.Op.TheVariants.{Remove}
 use Rattle.hgs_files.specs.Log.{IsDone}
 use Rattle.hgs_files.specs.Tree.{Tree, after_all, apply}
 use Rattle.hgs_journal.specs.declared.backups.BackupLine.{BackupLine}
@@ -25,16 +25,12 @@ use Rattle.hgs_ops.specs.Unhindered.{IsReady}
 pub record Below : Type 0 where
   -- a transaction's stops and its undoing
   pub before : (t : Tree) (r next : Repo) (command : Command) (who : List ℕ) → Stands t r → IsReady t r command next → (done left : List Op) → IsDone (transaction_of t r command who next).before done left → Stands (after_all done t) r
-  pub created : (t : Tree) (r next : Repo) (command : Command) (who : List ℕ) → Stands t r → IsReady t r command next → (done left : List Op) → IsDone ((transaction_of t r command who next).journal ∷ []) done left → (done ≡ []) ⊎ IsOpen strays (after_all done (after_all (transaction_of t r command who next).before t)) r
   pub kept : (t : Tree) (r next : Repo) (command : Command) (who : List ℕ) → Stands t r → IsReady t r command next → (done left : List Op) → IsDone ((transaction_of t r command who next).changes ++ (transaction_of t r command who next).publish ∷ (transaction_of t r command who next).renames) done left → IsOpen strays (after_all done (apply (transaction_of t r command who next).journal (after_all (transaction_of t r command who next).before t))) r
   pub removed : (t : Tree) (r next : Repo) (command : Command) (who : List ℕ) (answer : Answer) → Stands t r → IsValid command → step r command ≡ Ok (next, answer) → IsReady t r command next → (done left : List Op) → IsDone removals done left → Stands (after_all done (apply (Remove journal_path) (after_all ((transaction_of t r command who next).changes ++ (transaction_of t r command who next).publish ∷ (transaction_of t r command who next).renames) (apply (transaction_of t r command who next).journal (after_all (transaction_of t r command who next).before t))))) next
   pub stops : (t : Tree) (r next : Repo) (command : Command) (who : List ℕ) → Stands t r → IsReady t r command next → (done left : List Op) → IsDone ((transaction_of t r command who next).changes ++ (transaction_of t r command who next).publish ∷ (transaction_of t r command who next).renames) done left → (undone rest : List Op) → IsDone (transaction_of t r command who next).undo undone rest → IsOpen strays (after_all undone (after_all done (apply (transaction_of t r command who next).journal (after_all (transaction_of t r command who next).before t)))) r ⊎ ((rest ≡ []) × Stands (after_all undone (after_all done (apply (transaction_of t r command who next).journal (after_all (transaction_of t r command who next).before t)))) r)
-  pub early : (t : Tree) (r next : Repo) (command : Command) (who : List ℕ) → Stands t r → IsReady t r command next → (front back : List ℕ) → (transaction_of t r command who next).journal ≡ Create journal_path (front ++ back) → (undone rest : List Op) → IsDone (transaction_of t r command who next).undo undone rest → IsOpen strays (after_all undone (apply (Create journal_path front) (after_all (transaction_of t r command who next).before t))) r ⊎ ((rest ≡ []) × Stands (after_all undone (apply (Create journal_path front) (after_all (transaction_of t r command who next).before t))) r)
   -- what it shows
-  pub created_shows : (t : Tree) (r next : Repo) (command : Command) (who : List ℕ) → Stands t r → IsReady t r command next → (front back : List ℕ) → (transaction_of t r command who next).journal ≡ Create journal_path (front ++ back) → Shows (apply (Create journal_path front) (after_all (transaction_of t r command who next).before t)) r r r
   pub working_shows : (t : Tree) (r next : Repo) (command : Command) (who : List ℕ) (answer : Answer) → Stands t r → IsValid command → step r command ≡ Ok (next, answer) → IsReady t r command next → (done : List Op) (op : Op) (left : List Op) → IsDone ((transaction_of t r command who next).changes ++ (transaction_of t r command who next).publish ∷ []) done (op ∷ left) → Shows (after_all done (apply (transaction_of t r command who next).journal (after_all (transaction_of t r command who next).before t))) r r r
   pub undone_shows : (t : Tree) (r next : Repo) (command : Command) (who : List ℕ) (answer : Answer) → Stands t r → IsValid command → step r command ≡ Ok (next, answer) → IsReady t r command next → (done : List Op) (op : Op) (left : List Op) → IsDone ((transaction_of t r command who next).changes ++ (transaction_of t r command who next).publish ∷ []) done (op ∷ left) → (undone rest : List Op) → IsDone (transaction_of t r command who next).undo undone rest → Shows (after_all undone (after_all done (apply (transaction_of t r command who next).journal (after_all (transaction_of t r command who next).before t)))) r r r
-  pub early_shows : (t : Tree) (r next : Repo) (command : Command) (who : List ℕ) → Stands t r → IsReady t r command next → (front back : List ℕ) → (transaction_of t r command who next).journal ≡ Create journal_path (front ++ back) → (undone rest : List Op) → IsDone (transaction_of t r command who next).undo undone rest → Shows (after_all undone (apply (Create journal_path front) (after_all (transaction_of t r command who next).before t))) r r r
   pub settled_shows : (t : Tree) (r next : Repo) (command : Command) (who : List ℕ) (answer : Answer) → Stands t r → IsValid command → step r command ≡ Ok (next, answer) → IsReady t r command next → (done : List Op) (op : Op) (left : List Op) → IsDone ((transaction_of t r command who next).renames ++ Remove journal_path ∷ []) done (op ∷ left) → Shows (after_all done (after_all ((transaction_of t r command who next).changes ++ (transaction_of t r command who next).publish ∷ []) (apply (transaction_of t r command who next).journal (after_all (transaction_of t r command who next).before t)))) (if lacks_bookmarks (op ∷ left) then r else next) (if lacks_dirstate (op ∷ left) then r else next) next
   pub loose_shows : (t u : Tree) (marked worked r : Repo) → ((path : List ℕ) → is_loose strays path ≡ false → u path ≡ t path) → Shows t marked worked r → Shows u marked worked r
   -- journals

@@ -10,7 +10,7 @@ use Rattle.hgs_model.specs.Repo.{Changeset, Repo}
 use Rattle.hgs_model.specs.Step.{Answer, step}
 use Rattle.hgs_model.specs.Valid.{IsValid}
 use Rattle.hgs_stands.specs.Stands.{Stands}
-use Rattle.hgs_legal.specs.LegalLog.{Acts, Doing, Goes, IsRun, State, Turn, begins, drops_journal, drops_none, finishes, goes_on_knocking, goes_on_undoing, journals, knocks, knocks_again, last_repo, newly, prepares, removes, start_of, undoes, works}
+use Rattle.hgs_legal.specs.LegalLog.{Acts, Doing, Goes, IsRun, State, Turn, begins, finishes, goes_on_knocking, goes_on_undoing, journals, knocks, knocks_again, last_repo, newly, prepares, removes, start_of, undoes, works}
 use Rattle.hgs_legal.specs.Numbers.{repo_at}
 use Rattle.hgs_legal.proofs.Below.{Below}
 use Rattle.hgs_legal.proofs.Invariant.{Inv, Invariant}
@@ -38,8 +38,6 @@ acts-chain t f ps _ op _ _ (journals does) i c = subst (Chain f) (sym (append-ni
 acts-chain t f ps _ op _ _ (finishes left does) i c = subst (Chain f) (sym (append-nil ps)) c
 acts-chain t f ps _ op _ _ (undoes left does) i c = subst (Chain f) (sym (append-nil ps)) c
 acts-chain t f ps _ op _ _ (goes_on_undoing left does) i c = subst (Chain f) (sym (append-nil ps)) c
-acts-chain t f ps _ _ _ _ (drops_journal front e) i c = subst (Chain f) (sym (append-nil ps)) c
-acts-chain t f ps _ _ _ _ drops_none i c = subst (Chain f) (sym (append-nil ps)) c
 acts-chain t f ps _ _ _ _ (removes skipped e) i c = subst (Chain f) (sym (append-nil ps)) c
 acts-chain t f ps _ op _ _ (knocks who does) i c = subst (Chain f) (sym (append-nil ps)) c
 acts-chain t f ps _ op _ _ (knocks_again who does) i c = subst (Chain f) (sym (append-nil ps)) c

@@ -8,8 +8,8 @@ use Rattle.hgs_files.specs.Tree.{Tree}
 use Rattle.hgs_journal.specs.Names.{journal_path}
 use Rattle.hgs_model.specs.Repo.{Repo}
 use Rattle.hgs_ops.specs.Operations.{lock_path, removals, strays, wlock_path}
-use Rattle.hgs_legal.specs.LegalLog.{IsTurn, Turn, lock_removals, through_publishing, through_removal, to_publishing}
-use Rattle.hgs_legal.specs.Pieces.{AreSome, Early, Front, HasBegun, LeavesJournal, Piece, Refusal, before, behind, dropped, dropped_before, given_up, once, refused, twice, was_undone, whole_list, within}
+use Rattle.hgs_legal.specs.LegalLog.{IsTurn, Turn, lock_removals, through_publishing, through_removal}
+use Rattle.hgs_legal.specs.Pieces.{AreSome, Early, Front, HasBegun, LeavesJournal, Piece, Refusal, before, behind, given_up, once, refused, twice, was_undone, whole_list, within}
 use Rattle.hgs_legal.specs.Theorems.StopLemmas.{does-piece, piece-piece}
 
 -- ---- stops in lists
@@ -237,24 +237,6 @@ given-front t r x c op left more d it h some stopped = elim (stopped-apart (op �
   | inr s ↦ inr (subst (λ l. Piece t r l r) (sym s.2) (given_up x s.0 op left more it h (some-stopped all_paths c s.0 some s.1)))
 ]
 
-dropped-front : (t : Tree) (r : Repo) (x : Turn) (a c : List Op) (op : Op) (left front d : List Op) → HasBegun t r x a (op ∷ left) → op ∷ left ≡ front ++ to_publishing x.ops → AreSome removals c → IsStopped (a ++ Remove journal_path ∷ c) d → Early t r d
-dropped-front t r x a c op left front d begun e some stopped = elim (stopped-apart a (Remove journal_path ∷ c) d stopped) [
-  | inl s ↦ begun-front t r x a (op ∷ left) d begun s
-  | inr s ↦ elim (journal-removed c s.0 s.1) [
-    | inl none ↦ inr (inr (subst (LeavesJournal t r) (sym (s.2 ∙ ap (λ l. a ++ l) none)) (before x a [] op left begun (nothing-some lock_removals))))
-    | inr k ↦ inr (inl (subst (λ l. Piece t r l r) (sym (s.2 ∙ ap (λ l. a ++ l) k.2)) (dropped x a k.0 op left front begun e (some-stopped all_paths c k.0 some k.1))))
-  ]
-]
-
-dropped-before-front : (t : Tree) (r : Repo) (x : Turn) (c : List Op) (op : Op) (more d : List Op) → IsTurn t r x → IsDone x.ops.before (op ∷ more) [] → AreSome removals c → IsStopped ((op ∷ more) ++ Remove journal_path ∷ c) d → (d ≡ []) ⊎ Piece t r d r
-dropped-before-front t r x c op more d it h some stopped = elim (stopped-apart (op ∷ more) (Remove journal_path ∷ c) d stopped) [
-  | inl s ↦ let q = stopped-done x.ops.before (op ∷ more) d [] h s in prepared-front t r x it d q.0 q.1
-  | inr s ↦ elim (journal-removed c s.0 s.1) [
-    | inl none ↦ inr (subst (λ l. Piece t r l r) (sym (s.2 ∙ ap (λ l. (op ∷ more) ++ l) none)) (given_up x [] op [] more it h (nothing-some removals)))
-    | inr k ↦ inr (subst (λ l. Piece t r l r) (sym (s.2 ∙ ap (λ l. (op ∷ more) ++ l) k.2)) (dropped_before x k.0 op more it h (some-stopped all_paths c k.0 some k.1)))
-  ]
-]
-
 soon : (t : Tree) (r next : Repo) (d : List Op) → (d ≡ []) ⊎ Piece t r d r → Front t r next d
 soon t r next d (inl none) = inl none
 soon t r next d (inr piece) = inr (inl piece)
@@ -263,8 +245,6 @@ pub piece-front : (t : Tree) (r next : Repo) (log d : List Op) → Piece t r log
 piece-front t r _ _ d (whole_list x a c o b begun h some) stopped = whole-front t r x a c o b d begun h some stopped
 piece-front t r _ _ d (was_undone x a c op left o b begun h some) stopped = early t r r d (undone-front t r x a c op left o b d begun h some stopped)
 piece-front t r _ _ d (given_up x c op left more it h some) stopped = soon t r r d (given-front t r x c op left more d it h some stopped)
-piece-front t r _ _ d (dropped x a c op left front begun e some) stopped = early t r r d (dropped-front t r x a c op left front d begun e some stopped)
-piece-front t r _ _ d (dropped_before x c op more it h some) stopped = soon t r r d (dropped-before-front t r x c op more d it h some stopped)
 piece-front t r _ _ d (refused a h) stopped = soon t r r d (refusal-front t r a d h stopped)
 
 -- ---- a piece that leaves its journal

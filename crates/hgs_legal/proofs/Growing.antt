@@ -21,7 +21,7 @@ use Rattle.hgs_stands.specs.Same.{AreStrays, SameAt, SameRevlogs}
 use Rattle.hgs_stands.specs.Stands.{HoldsChangesets, Stands}
 use Rattle.hgs_ops.specs.Operations.{Transaction, lock_path, strays, transaction_of, wlock_path}
 use Rattle.hgs_ops.specs.Unhindered.{IsReady}
-use Rattle.hgs_legal.specs.LegalLog.{Acts, Doing, Goes, Idle, IsRun, IsTurn, Leaves, Preparing, Published, Refused, Run, State, Turn, Undoing, Working, begins, breaks, breaks_after, breaks_undo, drops_journal, drops_none, finished, finishes, gives_up, goes_on_knocking, goes_on_undoing, is_refused, journals, knocks, knocks_again, last_repo, newly, prepares, removes, start_of, stays, through_publishing, through_removal, to_publishing, undoes, undone, worked, works}
+use Rattle.hgs_legal.specs.LegalLog.{Acts, Doing, Goes, Idle, IsRun, IsTurn, Leaves, Preparing, Published, Refused, Run, State, Turn, Undoing, Working, begins, breaks, breaks_after, breaks_undo, finished, finishes, gives_up, goes_on_knocking, goes_on_undoing, is_refused, journals, knocks, knocks_again, last_repo, newly, prepares, removes, start_of, stays, through_publishing, through_removal, to_publishing, undoes, undone, worked, works}
 use Rattle.hgs_legal.specs.Numbers.{n_of, repo_at}
 use Rattle.hgs_legal.proofs.Below.{Below}
 use Rattle.hgs_legal.proofs.Invariant.{AreAside, AreLocks, Inv, Invariant, IsPreparing, IsPublished, IsWorking, is_aside, is_lock, last-more, less-none}
@@ -29,16 +29,14 @@ use Rattle.hgs_legal.proofs.LegalLemmas.{run-files}
 use Rattle.hgs_legal.proofs.LockLemmas.{behind, lock-aside, locks-aside}
 use Rattle.hgs_legal.specs.Theorems.Runs.{run-keeps}
 use Rattle.hgs_legal.proofs.Step.{goes-keeps, leaves-keeps}
-use Rattle.hgs_legal.proofs.Touched.{and-both, and-left, and-right, does-within, done-split, or-both, or-left, touched-within, untouched, within}
-use Rattle.hgs_legal.specs.Theorems.TreeFacts.{away, bool, bytes-same, never, same-sym}
-use Rattle.hgs_legal.proofs.TurnLemmas.{all-done, next-stands, onward, part-made, since}
+use Rattle.hgs_legal.proofs.Touched.{and-both, and-left, and-right, does-within, or-both, or-left, touched-within, untouched, within}
+use Rattle.hgs_legal.specs.Theorems.TreeFacts.{bool, bytes-same, never}
+use Rattle.hgs_legal.proofs.TurnLemmas.{all-done, next-stands, onward, since}
 
 -- what the crates below say of the files that grow
 pub record Grown : Type 0 where
-  pub created : (t : Tree) (r next : Repo) (command : Command) (who : List ℕ) → Stands t r → IsReady t r command next → (front back : List ℕ) → (transaction_of t r command who next).journal ≡ Create journal_path (front ++ back) → Covers strays (apply (Create journal_path front) (after_all (transaction_of t r command who next).before t)) t
   pub kept : (t : Tree) (r next : Repo) (command : Command) (who : List ℕ) → Stands t r → IsReady t r command next → (done left : List Op) → IsDone ((transaction_of t r command who next).changes ++ (transaction_of t r command who next).publish ∷ (transaction_of t r command who next).renames) done left → Covers strays (after_all done (apply (transaction_of t r command who next).journal (after_all (transaction_of t r command who next).before t))) t
   pub undone : (t : Tree) (r next : Repo) (command : Command) (who : List ℕ) → Stands t r → IsReady t r command next → (done left : List Op) → IsDone ((transaction_of t r command who next).changes ++ (transaction_of t r command who next).publish ∷ (transaction_of t r command who next).renames) done left → (undone rest : List Op) → IsDone (transaction_of t r command who next).undo undone rest → Covers strays (after_all undone (after_all done (apply (transaction_of t r command who next).journal (after_all (transaction_of t r command who next).before t)))) t ⊎ ((rest ≡ []) × Restores strays (after_all undone (after_all done (apply (transaction_of t r command who next).journal (after_all (transaction_of t r command who next).before t)))) t)
-  pub early : (t : Tree) (r next : Repo) (command : Command) (who : List ℕ) → Stands t r → IsReady t r command next → (front back : List ℕ) → (transaction_of t r command who next).journal ≡ Create journal_path (front ++ back) → (undone rest : List Op) → IsDone (transaction_of t r command who next).undo undone rest → ((p : Tree) × Covers strays (after_all undone (apply (Create journal_path front) (after_all (transaction_of t r command who next).before t))) p × Restores strays p t) ⊎ ((rest ≡ []) × Restores strays (after_all undone (apply (Create journal_path front) (after_all (transaction_of t r command who next).before t))) t)
   pub covered : (u q : Tree) (path : List ℕ) → Covers strays u q → is_loose strays path ≡ false → same path journal_path ≡ false → among path (roots_path ∷ dirstate_path ∷ bookmarks_path ∷ []) ≡ false → IsPrefixOf (bytes_at q path) (bytes_at u path)
   pub before : (t u : Tree) (r next : Repo) (command : Command) (who : List ℕ) (done left : List Op) (path : List ℕ) → IsDone (transaction_of t r command who next).before done left → is_loose strays path ≡ false → after_all done u path ≡ u path
   pub behind : (t u : Tree) (r next : Repo) (command : Command) (who : List ℕ) (done left : List Op) (path : List ℕ) → IsDone ((transaction_of t r command who next).renames ++ Remove journal_path ∷ []) done left → is_loose strays path ≡ false → same path journal_path ≡ false → among path (roots_path ∷ dirstate_path ∷ bookmarks_path ∷ []) ≡ false → after_all done u path ≡ u path
@@ -80,8 +78,6 @@ aside-grows : (op : Op) (u : Tree) → within is_aside op ≡ true → Grows (ap
 aside-grows op u w = grows-as (apply op u) u (λ p k. untouched (op ∷ []) u p (touched-within is_aside (op ∷ []) p (and-both _ _ w refl) k.free))
 
 -- the removal of the journal
-dropped-grows : (u : Tree) → Grows (apply (Remove journal_path) u) u
-dropped-grows u = grows-as (apply (Remove journal_path) u) u (λ p k. away u journal_path p None (same-sym p journal_path k.off))
 
 -- what is not in a list is not in a part of it
 among-part : (xs ys : List (List ℕ)) (p : List ℕ) → list_all (λ x. among x ys) xs ≡ true → among p ys ≡ false → among p xs ≡ false
@@ -125,9 +121,6 @@ module _ (b : Below) (g : Grown) where
     behind-grows : (v : Tree) (done left : List Op) → IsDone (through_removal x.ops) done left → Grows (after_all done v) v
     behind-grows v done left h = grows-as (after_all done v) v (behind-as v done left h)
 
-    created-grows : (front back : List ℕ) → x.ops.journal ≡ Create journal_path (front ++ back) → Grows (apply (Create journal_path front) laid) t
-    created-grows front back e = covers-grows _ t (subst (λ (o : Transaction). o.journal ≡ Create journal_path (front ++ back) → Covers strays (apply (Create journal_path front) (after_all o.before t)) t) (sym turn.listed) (g.created t r x.next x.command x.who s turn.ready front back) e)
-
     kept-grows : (done left : List Op) → IsDone (x.ops.changes ++ x.ops.publish ∷ x.ops.renames) done left → Grows (after_all done opened) t
     kept-grows done left h = covers-grows _ t (subst (λ (o : Transaction). IsDone (o.changes ++ o.publish ∷ o.renames) done left → Covers strays (after_all done (apply o.journal (after_all o.before t))) t) (sym turn.listed) (g.kept t r x.next x.command x.who s turn.ready done left) h)
 
@@ -141,24 +134,11 @@ module _ (b : Below) (g : Grown) where
           | inr (e, back) ↦ restored-grows _ t back
         ])
 
-    early-grows : (front back : List ℕ) → x.ops.journal ≡ Create journal_path (front ++ back) → GrowsUndoing x.ops.undo (apply (Create journal_path front) laid)
-    early-grows = subst (λ (o : Transaction). (front back : List ℕ) → o.journal ≡ Create journal_path (front ++ back) → GrowsUndoing o.undo (apply (Create journal_path front) (after_all o.before t))) (sym turn.listed)
-        (λ front back e log rest k. elim (g.early t r x.next x.command x.who s turn.ready front back e log rest k) [
-          | inl (p, c, back) ↦ grows-on (after_all log (apply (Create journal_path front) (after_all (transaction_of t r x.command x.who x.next).before t))) p t (covers-grows (after_all log (apply (Create journal_path front) (after_all (transaction_of t r x.command x.who x.next).before t))) p c) (restored-grows p t back)
-          | inr (e, back) ↦ restored-grows _ t back
-        ])
-
     working-grows : (op : Op) (more left : List Op) → IsDone (through_publishing x.ops) (op ∷ more) left → Grows (after_all (op ∷ more) laid) t
-    working-grows op more left h = elim (done-split (x.ops.journal ∷ []) (to_publishing x.ops) (op ∷ more) left h) [
-      | inl (l, k) ↦ let p = part-made b t r x s turn op more left h l k in subst (λ (w : Tree). Grows w t) (sym p.3) (created-grows p.0 p.1 p.2)
-      | inr (a, c, e, k, m) ↦ subst (λ (w : Tree). Grows w t) (sym (since b t r x s turn op more left h a c e k)) (kept-grows c (left ++ x.ops.renames) (onward b t r x s turn op more left h c m))
-    ]
+    working-grows op more left h = subst (λ (w : Tree). Grows w t) (sym (since b t r x s turn op more left h)) (kept-grows more (left ++ x.ops.renames) (onward b t r x s turn op more left h))
 
     working-undone : (op : Op) (more left : List Op) → IsDone (through_publishing x.ops) (op ∷ more) left → GrowsUndoing x.ops.undo (after_all (op ∷ more) laid)
-    working-undone op more left h = elim (done-split (x.ops.journal ∷ []) (to_publishing x.ops) (op ∷ more) left h) [
-      | inl (l, k) ↦ let p = part-made b t r x s turn op more left h l k in subst (GrowsUndoing x.ops.undo) (sym p.3) (early-grows p.0 p.1 p.2)
-      | inr (a, c, e, k, m) ↦ subst (GrowsUndoing x.ops.undo) (sym (since b t r x s turn op more left h a c e k)) (undone-grows c (left ++ x.ops.renames) (onward b t r x s turn op more left h c m))
-    ]
+    working-undone op more left h = subst (GrowsUndoing x.ops.undo) (sym (since b t r x s turn op more left h)) (undone-grows more (left ++ x.ops.renames) (onward b t r x s turn op more left h))
 
     published-grows : Grows (published_tree x t) t
     published-grows = kept-grows (to_publishing x.ops) x.ops.renames (subst (λ (l : List Op). IsDone l (to_publishing x.ops) x.ops.renames) (append_assoc x.ops.changes (x.ops.publish ∷ []) x.ops.renames) (done-behind (to_publishing x.ops) x.ops.renames (to_publishing x.ops) [] (all-done (to_publishing x.ops))))
@@ -307,8 +287,6 @@ module _ (b : Below) (g : Grown) where
     acts-over _ u f ps op _ _ (finishes {x = x} {to_do = to_do} left does) i h = finishes-over x u f ps to_do op left h.0 h.1 does
     acts-over _ u f ps op _ _ (undoes {x = x} {o = o} {rest = rest} left does) i h = undone-over u f ps x.ops.undo op left (undo-over x o rest u (last_repo f ps) h.0 h.1) does
     acts-over _ u f ps op _ _ (goes_on_undoing {to_do = to_do} left does) i h = undone-over u f ps to_do op left h does
-    acts-over _ u f ps _ _ _ (drops_journal {x = x} {o = o} {rest = rest} front e) i h = grows-on (apply (Remove journal_path) u) u q (dropped-grows u) (over-grows (Working x (o ∷ rest)) u f ps h)
-    acts-over _ u f ps _ _ _ (drops_none {x = x}) i h = grows-on (apply (Remove journal_path) u) u q (dropped-grows u) (over-grows (Preparing x []) u f ps h)
     acts-over _ u f ps _ _ _ (removes {left = left} {all = all} {rest = rest} {path = path} skipped e) i h = aside-over u (Remove path) (behind is_aside skipped rest (Remove path) (subst AreAside e (removals-aside left all u f ps i))).0 h
     acts-over _ u f ps op _ _ (knocks {left = left} {rest = rest} {creation = creation} who does) i h = aside-over u op (lock-aside op (does-within is_lock (Create wlock_path who ∷ []) creation op does refl).0) h
     acts-over _ u f ps op _ _ (knocks_again {left = left} {creation = creation} who does) i h = aside-over u op (lock-aside op (does-within is_lock (Create lock_path who ∷ []) creation op does refl).0) h
@@ -358,8 +336,6 @@ module _ (b : Below) (g : Grown) where
   acts-newly _ u f ps op _ _ (finishes left does) i lt = no-news lt
   acts-newly _ u f ps op _ _ (undoes left does) i lt = no-news lt
   acts-newly _ u f ps op _ _ (goes_on_undoing left does) i lt = no-news lt
-  acts-newly _ u f ps _ _ _ (drops_journal front e) i lt = no-news lt
-  acts-newly _ u f ps _ _ _ drops_none i lt = no-news lt
   acts-newly _ u f ps _ _ _ (removes skipped e) i lt = no-news lt
   acts-newly _ u f ps op _ _ (knocks who does) i lt = no-news lt
   acts-newly _ u f ps op _ _ (knocks_again who does) i lt = no-news lt
@@ -399,8 +375,6 @@ acts-one t r _ _ _ _ (journals does) = omega arith
 acts-one t r _ _ _ _ (finishes left does) = omega arith
 acts-one t r _ _ _ _ (undoes left does) = omega arith
 acts-one t r _ _ _ _ (goes_on_undoing left does) = omega arith
-acts-one t r _ _ _ _ (drops_journal front e) = omega arith
-acts-one t r _ _ _ _ drops_none = omega arith
 acts-one t r _ _ _ _ (removes skipped e) = omega arith
 acts-one t r _ _ _ _ (knocks who does) = omega arith
 acts-one t r _ _ _ _ (knocks_again who does) = omega arith

@@ -8,7 +8,7 @@ use Rattle.hgs_files.specs.Tree.{Tree, after_all}
 use Rattle.hgs_files.specs.Log.{append_of_rest, IsPiece, Does}
 use Rattle.hgs_model.specs.Repo.{Repo}
 use Rattle.hgs_stands.specs.Places.{bookmarks_path, dirstate_path}
-use Rattle.hgs_legal.specs.LegalLog.{Turn, Doing, Idle, Refused, Working, Published, worked, newly, finished, undone, Leaves, stays, gives_up, breaks, breaks_after, breaks_undo, is_refused, Acts, begins, prepares, journals, works, finishes, undoes, goes_on_undoing, drops_journal, drops_none, removes, knocks, knocks_again, goes_on_knocking, State, current, Goes, Run}
+use Rattle.hgs_legal.specs.LegalLog.{Turn, Doing, Idle, Refused, Working, Published, worked, newly, finished, undone, Leaves, stays, gives_up, breaks, breaks_after, breaks_undo, is_refused, Acts, begins, prepares, journals, works, finishes, undoes, goes_on_undoing, removes, knocks, knocks_again, goes_on_knocking, State, current, Goes, Run}
 use Rattle.hgs_ops.specs.Shown.{is_rename_to, lacks_dirstate, lacks_bookmarks}
 use Rattle.hgs_legal.specs.Numbers.{left_of, less_one, n_of, w_of, b_of}
 use Rattle.hgs_legal.specs.Theorems.Runs.{run-keeps}
@@ -112,8 +112,6 @@ acts-lag path t r _ _ _ _ (works {x = x} {to_do = to_do} left does) h = worked-l
 acts-lag path t r _ op _ _ (finishes {x = x} {to_do = to_do} left does) h = finished-lag path x to_do left op does h
 acts-lag path t r d _ _ _ (undoes left does) h = undone-lag path d left h
 acts-lag path t r d _ _ _ (goes_on_undoing left does) h = undone-lag path d left h
-acts-lag path t r _ _ _ _ (drops_journal front e) h = no_lag h
-acts-lag path t r _ _ _ _ drops_none h = no_lag h
 acts-lag path t r _ _ _ _ (removes {left = left} {all = all} {rest = rest} skipped e) h = removes-lag path left all rest h
 acts-lag path t r _ _ _ _ (knocks {left = left} {rest = rest} {creation = creation} who does) h = idle-lag path left rest creation _ h
 acts-lag path t r _ _ _ _ (knocks_again {left = left} who does) h = refused-lag path left _ _ _ _ h

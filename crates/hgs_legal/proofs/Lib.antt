@@ -2,7 +2,6 @@ pub mod Touched
 pub mod Below
 pub mod LegalLemmas
 pub mod StayLemmas
-pub mod Drops
 pub mod TurnLemmas
 pub mod Invariant
 pub mod LockLemmas

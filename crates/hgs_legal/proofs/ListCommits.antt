@@ -25,7 +25,7 @@ use Rattle.hgs_model.specs.Theorems.ListLemmas.{all-join}
 use Rattle.hgs_model.specs.Theorems.NewChangesetLemmas.{commit-keeps, import-keeps, step_commit-did}
 use Rattle.hgs_model.specs.Valid.{IsNewChange, IsValid, new_paths as paths_of_files}
 use Rattle.hgs_ops.specs.Growth.{appended, append_some, growth, new_names, new_paths}
-use Rattle.hgs_ops.specs.Operations.{backups_of, changes_before, preparations, publishing, transaction_of, new_changelog_index, new_changelog_path}
+use Rattle.hgs_ops.specs.Operations.{backups_of, changes_before, preparations, publishing, transaction_of, new_changelog_index, new_changelog_path, journal_of}
 use Rattle.hgs_ops.specs.Replaced.{new_bookmarks, new_dirstate, new_rename, new_roots, only_if, replacements, roots_change}
 use Rattle.hgs_ops.specs.Theorems.CommitLemmas.{growth-appends, part_data, part_files, part_lines, part_manifest}
 use Rattle.hgs_ops.specs.Theorems.CommitTree.{IsSmall, is_append, preparations-within}
@@ -48,6 +48,7 @@ use Rattle.hgs_legal.specs.LegalLog.{through_publishing}
 use Rattle.hgs_legal.specs.ListsPaths.{AreKeptLines, IsKeptName, IsOwnName, ListsPaths}
 use Rattle.hgs_legal.proofs.ListLines.{names-whole, whole-names}
 use Rattle.hgs_legal.proofs.ListOps.{AreTame, is_away, is_tame, list_of}
+use Rattle.hgs_journal.specs.Texts.{journal_text}
 
 -- ---- the text behind a transaction's operations
 
@@ -66,8 +67,8 @@ small r (Unmark name) next = ((refl, refl), tt)
 
 pub before-untouched : (t : Tree) (r : Repo) (command : Command) (who : List ℕ) (next : Repo) → touched fncache_path (transaction_of t r command who next).before ≡ false
 before-untouched t r command who next =
-    touched-within is_away (preparations t who (replacements r command next) (backups_of t r command next)) fncache_path
-    (preparations-within is_away t who (replacements r command next) (backups_of t r command next) refl refl refl (small r command next)) refl
+    touched-within is_away (preparations t who (replacements r command next) (backups_of t r command next) (journal_text (journal_of t r command next))) fncache_path
+    (preparations-within is_away t who (replacements r command next) (backups_of t r command next) (journal_text (journal_of t r command next)) refl refl refl refl (small r command next)) refl
 
 append-tame : (ops : List Op) → list_all is_append ops ≡ true → AreTame ops
 append-tame [] e = refl

@@ -12,7 +12,7 @@ use Rattle.hgs_ops.specs.Operations.{lock_path, removals, wlock_path}
 use Rattle.hgs_ops.specs.Theorems.Touch.{all-append, and-both, and-left, and-right}
 use Rattle.hgs_stands.specs.Stands.{Stands}
 use Rattle.hgs_legal.specs.LegalLog.{IsTurn, Turn, lock_removals, through_publishing, through_removal}
-use Rattle.hgs_legal.specs.Pieces.{AreSome, HasBegun, LeavesJournal, Piece, Refusal, Refusals, before, behind, dropped, dropped_before, given_up, no_more, once, one_more, refused, twice, was_undone, whole_list, within}
+use Rattle.hgs_legal.specs.Pieces.{AreSome, HasBegun, LeavesJournal, Piece, Refusal, Refusals, before, behind, given_up, no_more, once, one_more, refused, twice, was_undone, whole_list, within}
 use Rattle.hgs_legal.specs.ListsPaths.{AreKeptLines, ListsPaths}
 use Rattle.hgs_legal.proofs.ListOps.{AreHarmless, does-harmless, is_harmless, list_of}
 use Rattle.hgs_legal.proofs.ListRuns.{IsComing, coming, coming-does, coming-now, harmless-kept, settled}
@@ -78,8 +78,6 @@ module _ (t : Tree) (r : Repo) (stands : Stands t r) (lists : ListsPaths t r) wh
       behind-kept r.changesets (a ++ (o ∷ b)) c t
       (behind-kept r.changesets a (o ∷ b) t (begun-now x a (op ∷ left) h) (done-harmless x.ops.undo (o ∷ b) [] (settled t r x h.it).undoes d)) (some-harmless removals c refl some)
   piece-lines _ _ (given_up x c op left more it d some) = behind-kept r.changesets (op ∷ more) c t (prepared-now x (op ∷ more) left it d) (some-harmless removals c refl some)
-  piece-lines _ _ (dropped x a c op left front h e some) = behind-kept r.changesets a (Remove journal_path ∷ c) t (begun-now x a (op ∷ left) h) (some-harmless removals c refl some)
-  piece-lines _ _ (dropped_before x c op more it d some) = behind-kept r.changesets (op ∷ more) (Remove journal_path ∷ c) t (prepared-now x (op ∷ more) [] it d) (some-harmless removals c refl some)
   piece-lines _ _ (refused a h) = all-kept r.changesets a t (refusal-harmless a h) lists.lines
 
   pub left-lines : (log : List Op) → LeavesJournal t r log → AreKeptLines r.changesets (list_of (after_all log t))

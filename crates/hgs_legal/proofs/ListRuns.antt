@@ -22,7 +22,7 @@ use Rattle.hgs_ops.specs.Operations.{Transaction, lock_path, wlock_path}
 use Rattle.hgs_ops.specs.Theorems.Touch.{all-append, and-both, and-left, and-right}
 use Rattle.hgs_ops.specs.Unhindered.{IsReady}
 use Rattle.hgs_stands.specs.Stands.{Stands}
-use Rattle.hgs_legal.specs.LegalLog.{Acts, Doing, Goes, Idle, IsRun, IsTurn, Leaves, Preparing, Published, Refused, Run, State, Turn, Undoing, Working, begins, breaks, breaks_after, breaks_undo, current, drops_journal, drops_none, finished, finishes, gives_up, goes_on_knocking, goes_on_undoing, is_refused, journals, knocks, knocks_again, last_repo, newly, prepares, removes, start_of, stays, through_publishing, through_removal, undoes, undone, worked, works}
+use Rattle.hgs_legal.specs.LegalLog.{Acts, Doing, Goes, Idle, IsRun, IsTurn, Leaves, Preparing, Published, Refused, Run, State, Turn, Undoing, Working, begins, breaks, breaks_after, breaks_undo, current, finished, finishes, gives_up, goes_on_knocking, goes_on_undoing, is_refused, journals, knocks, knocks_again, last_repo, newly, prepares, removes, start_of, stays, through_publishing, through_removal, undoes, undone, worked, works}
 use Rattle.hgs_legal.specs.Numbers.{StopsAt, acknowledged_of, repo_at}
 use Rattle.hgs_legal.specs.Theorems.Idle.{Safe, StandsIdle, idle-stands}
 use Rattle.hgs_legal.specs.Theorems.Runs.{run-join}
@@ -168,8 +168,6 @@ acts-kept _ u r op _ _ (undoes {x = x} {o = o} {rest = rest} left does) s k =
 acts-kept _ u r op _ _ (goes_on_undoing {to_do = to_do} left does) s k =
     let h = does-harmless to_do left op k.1 does in
     undone-kept r left (apply op u) (harmless-kept r.changesets op u h.0 k.0) h.1
-acts-kept _ u r _ _ _ (drops_journal {x = x} {o = o} {rest = rest} front e) s k = harmless-kept r.changesets (Remove journal_path) u refl (coming-now x r (o ∷ rest) u k.0)
-acts-kept _ u r _ _ _ (drops_none {x = x}) s k = harmless-kept r.changesets (Remove journal_path) u refl (coming-now x r (through_publishing x.ops) u k.0)
 acts-kept _ u r _ _ _ (removes {path = path} skipped e) s k = harmless-kept r.changesets (Remove path) u refl k
 acts-kept _ u r op _ _ (knocks {creation = creation} who does) s k =
     let h = does-harmless (Create wlock_path who ∷ []) creation op refl does in

@@ -10,8 +10,8 @@ use Rattle.hgs_model.specs.Repo.{Repo}
 use Rattle.hgs_journal.specs.Names.{journal_path}
 use Rattle.hgs_ops.specs.Operations.{lock_path, removals, strays, wlock_path}
 use Rattle.hgs_stands.specs.Stands.{IsClean}
-use Rattle.hgs_legal.specs.LegalLog.{Acts, Doing, Goes, Idle, IsLegal, IsTurn, Leaves, Preparing, Published, Refused, Run, State, Turn, Undoing, Working, begins, breaks, breaks_after, breaks_undo, drops_journal, drops_none, finished, finishes, gives_up, goes_on_knocking, goes_on_undoing, is_refused, journals, knocks, knocks_again, last_repo, lock_removals, prepares, removes, start_of, stays, through_publishing, through_removal, to_publishing, undoes, undone, works}
-use Rattle.hgs_legal.specs.Pieces.{AreSome, HasBegun, LeavesJournal, Piece, Pieces, Refusal, Refusals, and_then, at_last, before, behind, dropped, dropped_before, given_up, no_more, no_pieces, once, one_more, refused, twice, was_undone, whole_list, within}
+use Rattle.hgs_legal.specs.LegalLog.{Acts, Doing, Goes, Idle, IsLegal, IsTurn, Leaves, Preparing, Published, Refused, Run, State, Turn, Undoing, Working, begins, breaks, breaks_after, breaks_undo, finished, finishes, gives_up, goes_on_knocking, goes_on_undoing, is_refused, journals, knocks, knocks_again, last_repo, lock_removals, prepares, removes, start_of, stays, through_publishing, through_removal, to_publishing, undoes, undone, works}
+use Rattle.hgs_legal.specs.Pieces.{AreSome, HasBegun, LeavesJournal, Piece, Pieces, Refusal, Refusals, and_then, at_last, before, behind, given_up, no_more, no_pieces, once, one_more, refused, twice, was_undone, whole_list, within}
 use Rattle.hgs_legal.proofs.Invariant.{kept_at, less-none}
 use Rattle.hgs_legal.specs.Theorems.Runs.{run-join, run-split}
 
@@ -251,14 +251,6 @@ piece-run t f done_so rest _ _ (was_undone x a c op left o b begun d some) =
     (begun-run f done_so x t rest a op left begun) (undo-run (after_all a t) f done_so x op left o b [] d) stays some).0
 piece-run t f done_so rest _ _ (given_up x c op left more it d some) =
     (end t (after_all (op ∷ more) t) f _ done_so (Preparing x left) None all_paths (op ∷ more) c refl (prepare f done_so x t rest op more left it d) gives_up some).0
-piece-run t f done_so rest _ _ (dropped x a c op left front begun e some) =
-    subst (λ k. Ends t f (at t f done_so (Idle None rest)) k None (last_repo f done_so)) (append_assoc a (Remove journal_path ∷ []) c)
-    (two t f _ done_so done_so (Working x (op ∷ left)) (Idle None removals) None all_paths a (Remove journal_path ∷ []) c
-    (begun-run f done_so x t rest a op left begun) (one_remove (after_all a t) f done_so (Working x (op ∷ left)) (drops_journal front e)) stays some).0
-piece-run t f done_so rest _ _ (dropped_before x c op more it d some) =
-    subst (λ k. Ends t f (at t f done_so (Idle None rest)) k None (last_repo f done_so)) (append_assoc (op ∷ more) (Remove journal_path ∷ []) c)
-    (two t f _ done_so done_so (Preparing x []) (Idle None removals) None all_paths (op ∷ more) (Remove journal_path ∷ []) c
-    (prepare f done_so x t rest op more [] it d) (one_remove (after_all (op ∷ more) t) f done_so (Preparing x []) drops_none) stays some).0
 piece-run t f done_so rest _ _ (refused a h) = refusal-run t f done_so None rest a h
 
 -- where one ends that leaves the journal: the repository before it is kept

@@ -10,7 +10,7 @@ use Rattle.hgs_stands.specs.Open.{IsOpen}
 use Rattle.hgs_stands.specs.Shows.{Shows}
 use Rattle.hgs_stands.specs.Stands.{Stands}
 use Rattle.hgs_ops.specs.Operations.{strays}
-use Rattle.hgs_legal.specs.LegalLog.{Acts, Doing, Goes, Idle, IsRun, Preparing, Published, Refused, Run, State, Turn, Undoing, Working, begins, current, drops_journal, drops_none, finishes, goes_on_knocking, goes_on_undoing, journals, knocks, knocks_again, last_repo, newly, prepares, removes, start_of, undoes, undone, worked, works}
+use Rattle.hgs_legal.specs.LegalLog.{Acts, Doing, Goes, Idle, IsRun, Preparing, Published, Refused, Run, State, Turn, Undoing, Working, begins, current, finishes, goes_on_knocking, goes_on_undoing, journals, knocks, knocks_again, last_repo, newly, prepares, removes, start_of, undoes, undone, worked, works}
 use Rattle.hgs_legal.specs.Numbers.{StopsAt, acknowledged_of, b_of, w_of, is_some_op, left_of, less_one, n_of, repo_at}
 use Rattle.hgs_legal.proofs.Below.{Below}
 use Rattle.hgs_legal.proofs.Invariant.{Inv, Invariant, IsShown, kept_at, less-last, less-none}
@@ -95,8 +95,6 @@ acknowledged-lag t r _ _ _ _ (goes_on_undoing left does) h = by left h
     by : (l : List Op) → is_some_op (left_of (undone l)) ≡ true → (false ≡ true) ⊎ (0 < 0)
     by [] h = never (sym h)
     by (o ∷ l) h = never (sym h)
-acknowledged-lag t r _ _ _ _ (drops_journal front e) h = never (sym h)
-acknowledged-lag t r _ _ _ _ drops_none h = never (sym h)
 acknowledged-lag t r _ _ _ _ (removes {left = None} skipped e) h = never (sym h)
 acknowledged-lag t r _ _ _ _ (removes {left = Some left} skipped e) h = inl h
 acknowledged-lag t r _ _ _ _ (knocks {left = None} who does) h = never (sym h)

@@ -6,7 +6,7 @@ use Rattle.hgs_files.specs.declared.op.Op.TheVariants.{Create, Remove}
 use Rattle.hgs_files.specs.Log.{Does, IsDone}
 use Rattle.hgs_files.specs.Tree.{Tree, after_all, apply}
 use Rattle.hgs_files.specs.Theorems.LogLemmas.{after-done, done-more}
-use Rattle.hgs_files.specs.Theorems.TreeLemmas.{after_all-append, with_file-same, with_file-id}
+use Rattle.hgs_files.specs.Theorems.TreeLemmas.{after_all-append, with_file-same}
 use Rattle.hgs_journal.specs.Names.{journal_path}
 use Rattle.hgs_model.specs.Repo.{Repo}
 use Rattle.hgs_stands.specs.Open.{IsOpen}
@@ -14,13 +14,13 @@ use Rattle.hgs_stands.specs.Shows.{Shows}
 use Rattle.hgs_stands.specs.Stands.{Stands}
 use Rattle.hgs_ops.specs.Operations.{lock_path, removals, strays, wlock_path}
 use Rattle.hgs_ops.specs.Shown.{lacks_bookmarks, lacks_dirstate}
-use Rattle.hgs_legal.specs.LegalLog.{Acts, Doing, Goes, Idle, IsTurn, Leaves, Refused, State, Turn, begins, breaks, breaks_after, breaks_undo, drops_journal, drops_none, finished, finishes, gives_up, goes_on_knocking, goes_on_undoing, is_refused, journals, knocks, knocks_again, last_repo, lock_removals, newly, prepares, removes, stays, through_publishing, through_removal, undoes, undone, worked, works}
+use Rattle.hgs_legal.specs.LegalLog.{Acts, Doing, Goes, Idle, IsTurn, Leaves, Refused, State, Turn, begins, breaks, breaks_after, breaks_undo, finished, finishes, gives_up, goes_on_knocking, goes_on_undoing, is_refused, journals, knocks, knocks_again, last_repo, lock_removals, newly, prepares, removes, stays, through_publishing, through_removal, undoes, undone, worked, works}
 use Rattle.hgs_legal.specs.Numbers.{is_some_op, less_one}
 use Rattle.hgs_legal.proofs.Below.{Below}
 use Rattle.hgs_legal.proofs.Invariant.{AreAside, AreLocks, Inv, Invariant, IsPreparing, IsPublished, IsShown, IsUndone, IsWorking, is_aside, is_lock, kept_at, last-more, less-last, less-none}
 use Rattle.hgs_legal.proofs.LockLemmas.{aside-stands, behind, lock-aside, lock-open, lock-shown, locks-aside}
 use Rattle.hgs_legal.proofs.Touched.{does-within, within}
-use Rattle.hgs_legal.proofs.TurnLemmas.{KeepsUndoing, ShowsUndoing, laying, next-stands, no-file, published-open, settling-shown, undo-is, undoing-shown, working-dropped, working-open, working-shown, working-undoing}
+use Rattle.hgs_legal.proofs.TurnLemmas.{KeepsUndoing, ShowsUndoing, laying, next-stands, no-file, published-open, settling-shown, undo-is, undoing-shown, working-open, working-shown, working-undoing}
 
 module _ (b : Below) where
   nothing : (op : Op) (ops : List Op) → op ∷ ops ≡ [] → ⊥
@@ -208,11 +208,6 @@ module _ (b : Below) where
   acts-keeps _ u f ps op _ _ (finishes {x = x} {to_do = to_do} left does) i = finishes-keeps x u f ps to_do op left i.0 does
   acts-keeps _ u f ps op _ _ (undoes {x = x} {o = o} {rest = rest} left does) i = undone-keeps u f ps x.ops.undo op left (undo-begins x o rest u (last_repo f ps) i.0) does
   acts-keeps _ u f ps op _ _ (goes_on_undoing {to_do = to_do} left does) i = undone-keeps u f ps to_do op left i.0 does
-  acts-keeps _ u f ps _ _ _ (drops_journal {x = x} {o = o} {rest = rest} front e) i =
-      idle-keeps (apply (Remove journal_path) u) f ps removals (subst (λ (v : Tree). Stands (apply (Remove journal_path) v) (last_repo f ps)) (sym i.0.tree) (working-dropped b i.0.t (last_repo f ps) x i.0.stands i.0.turn i.0.op i.0.more (o ∷ rest) i.0.done front e)) refl
-  acts-keeps _ u f ps _ _ _ (drops_none {x = x}) i =
-      let s = preparing-stands x [] u (last_repo f ps) i in
-      idle-keeps (apply (Remove journal_path) u) f ps removals (subst (λ (v : Tree). Stands v (last_repo f ps)) (sym (with_file-id u journal_path None s.no_journal)) s) refl
   acts-keeps _ u f ps _ _ _ (removes {left = left} {all = all} {rest = rest} {path = path} skipped e) i = removes-keeps left all rest path skipped u f ps e i
   acts-keeps _ u f ps op _ _ (knocks {left = left} {rest = rest} {creation = creation} who does) i =
       knocks-keeps left creation (Remove wlock_path ∷ []) op u f ps (does-within is_lock (Create wlock_path who ∷ []) creation op does refl) refl (idle-state left rest u f ps i)

@@ -10,8 +10,8 @@ use Rattle.hgs_model.specs.Repo.{Repo}
 use Rattle.hgs_journal.specs.Names.{journal_path}
 use Rattle.hgs_ops.specs.Operations.{Transaction, lock_path, removals, wlock_path}
 use Rattle.hgs_stands.specs.Stands.{IsClean}
-use Rattle.hgs_legal.specs.LegalLog.{Acts, Doing, Goes, Idle, IsLegal, IsTurn, Leaves, Preparing, Published, Refused, Run, State, Turn, Undoing, Working, begins, breaks, breaks_after, breaks_undo, current, drops_journal, drops_none, finished, finishes, gives_up, goes_on_knocking, goes_on_undoing, is_refused, journals, knocks, knocks_again, last_repo, lock_removals, newly, prepares, removes, start_of, stays, through_publishing, through_removal, to_publishing, undoes, undone, worked, works}
-use Rattle.hgs_legal.specs.Pieces.{AreSome, HasBegun, LeavesJournal, Piece, Pieces, Refusals, and_then, at_last, before, behind, dropped, dropped_before, given_up, no_more, no_pieces, once, one_more, refused, twice, was_undone, whole_list, within}
+use Rattle.hgs_legal.specs.LegalLog.{Acts, Doing, Goes, Idle, IsLegal, IsTurn, Leaves, Preparing, Published, Refused, Run, State, Turn, Undoing, Working, begins, breaks, breaks_after, breaks_undo, current, finished, finishes, gives_up, goes_on_knocking, goes_on_undoing, is_refused, journals, knocks, knocks_again, last_repo, lock_removals, newly, prepares, removes, start_of, stays, through_publishing, through_removal, undoes, undone, worked, works}
+use Rattle.hgs_legal.specs.Pieces.{AreSome, HasBegun, LeavesJournal, Piece, Pieces, Refusals, and_then, at_last, before, behind, given_up, no_more, no_pieces, once, one_more, refused, twice, was_undone, whole_list, within}
 use Rattle.hgs_legal.proofs.PieceLemmas.{last_repo-push}
 
 -- removals and then whole pieces, or refused writers
@@ -37,7 +37,6 @@ pub record UndoTail (t : Tree) (r : Repo) (left log : List Op) : Type 0 where
 pub data WorkEnd (t : Tree) (r : Repo) (x : Turn) : List Op → List Op → Type 0 where
   is_published : {b : List Op} → UndoTail t x.next (through_removal x.ops) b → WorkEnd t r x [] b
   is_undone : {o : Op} {l b : List Op} → UndoTail t r x.ops.undo b → WorkEnd t r x (o ∷ l) b
-  is_dropped : {o : Op} {l : List Op} (front b : List Op) → o ∷ l ≡ front ++ to_publishing x.ops → Clear (apply (Remove journal_path) t) r removals b → WorkEnd t r x (o ∷ l) (Remove journal_path ∷ b)
   is_broken : {o : Op} {l b : List Op} → Gone lock_removals b → WorkEnd t r x (o ∷ l) b
 
 pub record WorkTail (t : Tree) (r : Repo) (x : Turn) (left log : List Op) : Type 0 where
@@ -50,7 +49,6 @@ pub record WorkTail (t : Tree) (r : Repo) (x : Turn) (left log : List Op) : Type
 
 pub data PrepareEnd (t : Tree) (r : Repo) (x : Turn) : List Op → List Op → Type 0 where
   is_given_up : {left b : List Op} → Clear t r removals b → PrepareEnd t r x left b
-  drops : (b : List Op) → Clear (apply (Remove journal_path) t) r removals b → PrepareEnd t r x [] (Remove journal_path ∷ b)
   goes_on : (op : Op) (mid log : List Op) → Does (through_publishing x.ops) op mid → WorkTail (apply op t) r x mid log → PrepareEnd t r x [] (op ∷ log)
 
 pub record PrepareTail (t : Tree) (r : Repo) (x : Turn) (left log : List Op) : Type 0 where
@@ -219,16 +217,10 @@ work-end : (t : Tree) (r : Repo) (x : Turn) (log A left b : List Op) → log ≡
 work-end t r x log A _ b is begun (is_published u) = published-end t r x log A b is begun u
 work-end t r x log A _ b is begun (is_undone {o = o} {l = l} u) = undone-end t r x log A b is o l begun u
 work-end t r x log A _ b is begun (is_broken {o = o} {l = l} (c, d, f, some, more)) = and_gone t r (A ++ c) d log (before x A c o l begun some) more (log2 log A b c d is f)
-work-end t r x log A _ _ is begun (is_dropped {o = o} {l = l} front b2 e (c, d, f, some, pieces)) =
-    and_more t _ r r (A ++ Remove journal_path ∷ c) d log (dropped x A c o l front begun e some) pieces (after_all-append A (Remove journal_path ∷ c) t)
-    (log2 log A (Remove journal_path ∷ b2) (Remove journal_path ∷ c) d is (ap (λ k. Remove journal_path ∷ k) f))
 
 prepare-end : (t : Tree) (r : Repo) (x : Turn) (op : Op) (a log left b : List Op) → IsTurn t r x → IsDone x.ops.before (op ∷ a) left → log ≡ (op ∷ a) ++ b → PrepareEnd (after_all (op ∷ a) t) r x left b → Pieces t r log
 prepare-end t r x op a log left b it done is (is_given_up (c, d, f, some, pieces)) =
     and_more t _ r r ((op ∷ a) ++ c) d log (given_up x c op left a it done some) pieces (after2 (op ∷ a) c t) (log2 log (op ∷ a) b c d is f)
-prepare-end t r x op a log _ _ it done is (drops b2 (c, d, f, some, pieces)) =
-    and_more t _ r r ((op ∷ a) ++ Remove journal_path ∷ c) d log (dropped_before x c op a it done some) pieces (after_all-append (op ∷ a) (Remove journal_path ∷ c) t)
-    (log2 log (op ∷ a) (Remove journal_path ∷ b2) (Remove journal_path ∷ c) d is (ap (λ k. Remove journal_path ∷ k) f))
 prepare-end t r x op a log _ _ it done is (goes_on p mid log2' does w) =
     let A = (op ∷ a) ++ p ∷ w.a in
     work-end t r x log A w.then_left w.b
@@ -263,10 +255,6 @@ acts-tail t f so _ op _ _ log (undoes {x = x} {o = o} {rest = rest} left does) h
     record { a = []; b = op ∷ log; is = refl; then_left = o ∷ rest; done = refl; then = is_undone k }
 acts-tail t f so _ op _ _ log (goes_on_undoing {to_do = to_do} left does) h =
     undone-cons t (last_repo f so) to_do left op log does (subst (λ q. Tail (apply op t) (last_repo f q) (undone left) log) (append-nil so) h)
-acts-tail t f so _ _ _ _ log (drops_journal {o = o} {rest = rest} front e) h =
-    record { a = []; b = Remove journal_path ∷ log; is = refl; then_left = o ∷ rest; done = refl; then = is_dropped front log e (subst (λ q. Clear (apply (Remove journal_path) t) (last_repo f q) removals log) (append-nil so) h) }
-acts-tail t f so _ _ _ _ log drops_none h =
-    record { a = []; b = Remove journal_path ∷ log; is = refl; then_left = []; done = refl; then = drops log (subst (λ q. Clear (apply (Remove journal_path) t) (last_repo f q) removals log) (append-nil so) h) }
 acts-tail t f so _ _ _ _ log (removes {left = left} {all = all} {rest = rest} {path = path} skipped e) h =
     removes-cons t (last_repo f so) left all rest skipped log path e (subst (λ q. Over (apply (Remove path) t) (last_repo f q) left rest log) (append-nil so) h)
 acts-tail t f so _ op _ _ log (knocks {left = left} {rest = rest} {creation = creation} who does) h =

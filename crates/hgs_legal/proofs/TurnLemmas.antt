@@ -1,31 +1,22 @@
 -- What the operations of one transaction keep, however far they are done.
-use Rattle.std.proofs.Common.{◌≡◌, ◌⊎◌, ℕ, List, [], ◌∷◌, ◌++◌, cond, false, refl, sym, ◌∙◌, ap, subst, inl, inr, length, suc, arith, append_assoc, append-nil}
+use Rattle.std.proofs.Common.{◌≡◌, ◌⊎◌, ℕ, List, [], ◌∷◌, ◌++◌, cond, refl, sym, ◌∙◌, ap, subst, inl, inr, length, suc, arith, append_assoc, append-nil}
 use Rattle.std.specs.Prelude.{Option, Some, None}
-use Rattle.hgs_bytes.specs.Bytes.{same}
-use Rattle.hgs_bytes.specs.Theorems.ByteLemmas.{same-eq}
 use Rattle.hgs_files.specs.declared.op.Op.{Op}
-use Rattle.hgs_files.specs.declared.op.Op.TheVariants.{Remove, Create}
+use Rattle.hgs_files.specs.declared.op.Op.TheVariants.{Remove, Rename}
 use Rattle.hgs_files.specs.Log.{IsDone}
-use Rattle.hgs_files.specs.Tree.{Tree, after_all, apply, bytes_at, with_file}
-use Rattle.hgs_files.specs.Theorems.LogLemmas.{after-done, done-append, done-behind, piece-whole}
-use Rattle.hgs_files.specs.Theorems.StopLemmas.{IsInPart, done-in-part}
-use Rattle.hgs_files.specs.Theorems.TreeLemmas.{after_all-append, bytes_at-is, with_file-id, with_file-same, with_file-twice}
-use Rattle.hgs_journal.specs.Covers.{is_loose}
-use Rattle.hgs_journal.specs.Names.{journal_path}
+use Rattle.hgs_files.specs.Tree.{Tree, after_all, apply}
+use Rattle.hgs_files.specs.Theorems.LogLemmas.{done-append, done-behind, piece-whole}
+use Rattle.hgs_files.specs.Theorems.TreeLemmas.{after_all-append}
+use Rattle.hgs_journal.specs.Names.{journal_path, new_journal_path}
 use Rattle.hgs_model.specs.Repo.{Repo}
 use Rattle.hgs_stands.specs.Open.{IsOpen}
-use Rattle.hgs_stands.specs.Places.{requires_path}
 use Rattle.hgs_stands.specs.Shows.{Shows}
 use Rattle.hgs_stands.specs.Stands.{Stands}
-use Rattle.hgs_stands.specs.Theorems.LooseLemmas.{same-files}
-use Rattle.hgs_stands.specs.Theorems.StayLemmas.{stands-stays}
 use Rattle.hgs_ops.specs.Operations.{Transaction, removals, strays}
 use Rattle.hgs_ops.specs.Shown.{lacks_bookmarks, lacks_dirstate}
 use Rattle.hgs_legal.specs.LegalLog.{Turn, IsTurn, through_publishing, through_removal, to_publishing}
 use Rattle.hgs_legal.proofs.Below.{Below}
-use Rattle.hgs_legal.proofs.Drops.{drop-nothing}
 use Rattle.hgs_legal.proofs.Touched.{done-split, remove-done}
-use Rattle.hgs_legal.specs.Theorems.TreeFacts.{at, away, bool, bytes-same}
 
 -- ---- lists that are done
 
@@ -39,14 +30,18 @@ not-empty op ops e = let n : suc (length ops) ≡ 0 = ap length e in omega (arit
 pub no-file : (b : List ℕ) → ◌≡◌ {A = Option (List ℕ)} None (Some b) → ⊥
 no-file b e = cc
 
+-- a rename is done whole
+head-done : (from to : List ℕ) (ops more left : List Op) (op : Op) → IsDone (Rename from to ∷ ops) (op ∷ more) left → (op ≡ Rename from to) × IsDone ops more left
+head-done from to ops more left op (mid, (rest, (e, f), g), k) = (e, subst (λ (l : List Op). IsDone l more left) (g ∙ ap (λ l. l ++ ops) f) k)
+
 -- ---- one transaction
 
 module _ (b : Below) (t : Tree) (r : Repo) (x : Turn) (s : Stands t r) (turn : IsTurn t r x) where
-  -- the tree before the journal
+  -- the tree before that
   abbrev pub laid : Tree
   laid = after_all x.ops.before t
 
-  -- the tree with the whole journal
+  -- the tree in which the journal has its name
   abbrev pub opened : Tree
   opened = apply x.ops.journal laid
 
@@ -55,9 +50,6 @@ module _ (b : Below) (t : Tree) (r : Repo) (x : Turn) (s : Stands t r) (turn : I
 
   pub laid-stands : Stands laid r
   laid-stands = laying x.ops.before [] (all-done x.ops.before)
-
-  creating : (done left : List Op) → IsDone (x.ops.journal ∷ []) done left → (done ≡ []) ⊎ IsOpen strays (after_all done laid) r
-  creating = subst (λ (o : Transaction). (done left : List Op) → IsDone (o.journal ∷ []) done left → (done ≡ []) ⊎ IsOpen strays (after_all done (after_all o.before t)) r) (sym turn.listed) (b.created t r x.next x.command x.who s turn.ready)
 
   keeping : (done left : List Op) → IsDone (x.ops.changes ++ x.ops.publish ∷ x.ops.renames) done left → IsOpen strays (after_all done opened) r
   keeping = subst (λ (o : Transaction). (done left : List Op) → IsDone (o.changes ++ o.publish ∷ o.renames) done left → IsOpen strays (after_all done (apply o.journal (after_all o.before t))) r) (sym turn.listed) (b.kept t r x.next x.command x.who s turn.ready)
@@ -68,13 +60,7 @@ module _ (b : Below) (t : Tree) (r : Repo) (x : Turn) (s : Stands t r) (turn : I
   undoing : (done left : List Op) → IsDone (x.ops.changes ++ x.ops.publish ∷ x.ops.renames) done left → KeepsUndoing x.ops.undo (after_all done opened)
   undoing = subst (λ (o : Transaction). (done left : List Op) → IsDone (o.changes ++ o.publish ∷ o.renames) done left → KeepsUndoing o.undo (after_all done (apply o.journal (after_all o.before t)))) (sym turn.listed) (b.stops t r x.next x.command x.who s turn.ready)
 
-  undoing-early : (front back : List ℕ) → x.ops.journal ≡ Create journal_path (front ++ back) → KeepsUndoing x.ops.undo (apply (Create journal_path front) laid)
-  undoing-early = subst (λ (o : Transaction). (front back : List ℕ) → o.journal ≡ Create journal_path (front ++ back) → KeepsUndoing o.undo (apply (Create journal_path front) (after_all o.before t))) (sym turn.listed) (b.early t r x.next x.command x.who s turn.ready)
-
   -- what is shown
-
-  creating-shows : (front back : List ℕ) → x.ops.journal ≡ Create journal_path (front ++ back) → Shows (apply (Create journal_path front) laid) r r r
-  creating-shows = subst (λ (o : Transaction). (front back : List ℕ) → o.journal ≡ Create journal_path (front ++ back) → Shows (apply (Create journal_path front) (after_all o.before t)) r r r) (sym turn.listed) (b.created_shows t r x.next x.command x.who s turn.ready)
 
   keeping-shows : (done : List Op) (op : Op) (left : List Op) → IsDone (x.ops.changes ++ x.ops.publish ∷ []) done (op ∷ left) → Shows (after_all done opened) r r r
   keeping-shows = subst (λ (o : Transaction). (done : List Op) (op : Op) (left : List Op) → IsDone (o.changes ++ o.publish ∷ []) done (op ∷ left) → Shows (after_all done (apply o.journal (after_all o.before t))) r r r) (sym turn.listed) (b.working_shows t r x.next x.command x.who x.answer s turn.valid turn.accepted turn.ready)
@@ -85,95 +71,41 @@ module _ (b : Below) (t : Tree) (r : Repo) (x : Turn) (s : Stands t r) (turn : I
   undoing-shows : (done : List Op) (op : Op) (left : List Op) → IsDone (x.ops.changes ++ x.ops.publish ∷ []) done (op ∷ left) → ShowsUndoing x.ops.undo (after_all done opened)
   undoing-shows = subst (λ (o : Transaction). (done : List Op) (op : Op) (left : List Op) → IsDone (o.changes ++ o.publish ∷ []) done (op ∷ left) → ShowsUndoing o.undo (after_all done (apply o.journal (after_all o.before t)))) (sym turn.listed) (b.undone_shows t r x.next x.command x.who x.answer s turn.valid turn.accepted turn.ready)
 
-  undoing-early-shows : (front back : List ℕ) → x.ops.journal ≡ Create journal_path (front ++ back) → ShowsUndoing x.ops.undo (apply (Create journal_path front) laid)
-  undoing-early-shows = subst (λ (o : Transaction). (front back : List ℕ) → o.journal ≡ Create journal_path (front ++ back) → ShowsUndoing o.undo (apply (Create journal_path front) (after_all o.before t))) (sym turn.listed) (b.early_shows t r x.next x.command x.who s turn.ready)
-
-  pub journal-is : (text : List ℕ) × (x.ops.journal ≡ Create journal_path text)
-  journal-is = subst (λ (o : Transaction). (text : List ℕ) × (o.journal ≡ Create journal_path text)) (sym turn.listed) (_, refl)
+  journal-is : x.ops.journal ≡ Rename new_journal_path journal_path
+  journal-is = subst (λ (o : Transaction). o.journal ≡ Rename new_journal_path journal_path) (sym turn.listed) refl
 
   pub undo-is : (ops : List Op) × (x.ops.undo ≡ ops ++ Remove journal_path ∷ [])
   undo-is = subst (λ (o : Transaction). (ops : List Op) × (o.undo ≡ ops ++ Remove journal_path ∷ [])) (sym turn.listed) (_, refl)
 
-  -- what was done from the journal on: a part of its creation, or that and a part of the rest
+  -- what was done from the journal on: it got its name, and a part of the rest
   module _ (op : Op) (more left : List Op) (h : IsDone (through_publishing x.ops) (op ∷ more) left) where
     abbrev pub u : Tree
     u = after_all (op ∷ more) laid
 
-    pub part-made : (l : List Op) → IsDone (x.ops.journal ∷ []) (op ∷ more) l → (front : List ℕ) × (back : List ℕ) × (x.ops.journal ≡ Create journal_path (front ++ back)) × (u ≡ apply (Create journal_path front) laid)
-    part-made l k = by (done-in-part (Create journal_path journal-is.0) (op ∷ more) l (subst (λ (o : Op). IsDone (o ∷ []) (op ∷ more) l) journal-is.1 k))
-      where
-        by : IsInPart (Create journal_path journal-is.0) (op ∷ more) → (front : List ℕ) × (back : List ℕ) × (x.ops.journal ≡ Create journal_path (front ++ back)) × (u ≡ apply (Create journal_path front) laid)
-        by (inl e) = absurd (not-empty op more e)
-        by (inr (piece, rest, (front, back, e, f, g), leaves)) = (front, back, journal-is.1 ∙ ap (λ b. Create journal_path b) e, leaves laid ∙ ap (λ o. apply o laid) f)
+    named : (op ≡ x.ops.journal) × IsDone (to_publishing x.ops) more left
+    named =
+        let k = head-done new_journal_path journal_path (to_publishing x.ops) more left op (subst (λ (o : Op). IsDone (o ∷ to_publishing x.ops) (op ∷ more) left) journal-is h) in
+        (k.0 ∙ sym journal-is, k.1)
 
-    pub since : (a b : List Op) → op ∷ more ≡ a ++ b → IsDone (x.ops.journal ∷ []) a [] → u ≡ after_all b opened
-    since a b e k = ap (λ l. after_all l laid) e ∙ after_all-append a b laid ∙ ap (after_all b) (after-done (x.ops.journal ∷ []) a [] laid k)
+    pub since : u ≡ after_all more opened
+    since = ap (λ (o : Op). after_all more (apply o laid)) named.0
 
-    pub onward : (b : List Op) → IsDone (to_publishing x.ops) b left → IsDone (x.ops.changes ++ x.ops.publish ∷ x.ops.renames) b (left ++ x.ops.renames)
-    onward b m = subst (λ (l : List Op). IsDone l b (left ++ x.ops.renames)) (append_assoc x.ops.changes (x.ops.publish ∷ []) x.ops.renames) (done-behind (to_publishing x.ops) x.ops.renames b left m)
+    pub onward : IsDone (x.ops.changes ++ x.ops.publish ∷ x.ops.renames) more (left ++ x.ops.renames)
+    onward = subst (λ (l : List Op). IsDone l more (left ++ x.ops.renames)) (append_assoc x.ops.changes (x.ops.publish ∷ []) x.ops.renames) (done-behind (to_publishing x.ops) x.ops.renames more left named.1)
 
     pub working-open : IsOpen strays u r
-    working-open = elim (done-split (x.ops.journal ∷ []) (to_publishing x.ops) (op ∷ more) left h) [
-      | inl (l, k) ↦ elim (creating (op ∷ more) l k) [ inl e ↦ absurd (not-empty op more e) | inr o ↦ o ]
-      | inr (a, b, e, k, m) ↦ subst (λ (w : Tree). IsOpen strays w r) (sym (since a b e k)) (keeping b (left ++ x.ops.renames) (onward b m))
-    ]
+    working-open = subst (λ (w : Tree). IsOpen strays w r) (sym since) (keeping more (left ++ x.ops.renames) onward)
 
     pub working-undoing : KeepsUndoing x.ops.undo u
-    working-undoing = elim (done-split (x.ops.journal ∷ []) (to_publishing x.ops) (op ∷ more) left h) [
-      | inl (l, k) ↦ let p = part-made l k in subst (KeepsUndoing x.ops.undo) (sym p.3) (undoing-early p.0 p.1 p.2)
-      | inr (a, b, e, k, m) ↦ subst (KeepsUndoing x.ops.undo) (sym (since a b e k)) (undoing b (left ++ x.ops.renames) (onward b m))
-    ]
+    working-undoing = subst (KeepsUndoing x.ops.undo) (sym since) (undoing more (left ++ x.ops.renames) onward)
 
     -- where something is left up to the publishing operation
     module _ (o : Op) (l : List Op) (is : left ≡ o ∷ l) where
       pub working-shown : Shows u r r r
-      working-shown = elim (done-split (x.ops.journal ∷ []) (to_publishing x.ops) (op ∷ more) left h) [
-        | inl (l', k) ↦ let p = part-made l' k in subst (λ (w : Tree). Shows w r r r) (sym p.3) (creating-shows p.0 p.1 p.2)
-        | inr (a, b, e, k, m) ↦ subst (λ (w : Tree). Shows w r r r) (sym (since a b e k)) (keeping-shows b o l (subst (IsDone (to_publishing x.ops) b) is m))
-      ]
+      working-shown = subst (λ (w : Tree). Shows w r r r) (sym since) (keeping-shows more o l (subst (IsDone (to_publishing x.ops) more) is named.1))
 
       pub undoing-shown : ShowsUndoing x.ops.undo u
-      undoing-shown = elim (done-split (x.ops.journal ∷ []) (to_publishing x.ops) (op ∷ more) left h) [
-        | inl (l', k) ↦ let p = part-made l' k in subst (ShowsUndoing x.ops.undo) (sym p.3) (undoing-early-shows p.0 p.1 p.2)
-        | inr (a, b, e, k, m) ↦ subst (ShowsUndoing x.ops.undo) (sym (since a b e k)) (undoing-shows b o l (subst (IsDone (to_publishing x.ops) b) is m))
-      ]
-
-    removed-is : (front : List ℕ) (w : Tree) → w ≡ apply (Create journal_path front) laid → Stands (apply (Remove journal_path) w) r
-    removed-is front w e = subst (λ (v : Tree). Stands v r) (sym (ap (apply (Remove journal_path)) e ∙ with_file-twice laid journal_path (Some front) None ∙ with_file-id laid journal_path None laid-stands.no_journal)) laid-stands
-
-    -- an empty file does not matter
-    with-empty : (path : List ℕ) → Stands (apply (Remove journal_path) (with_file opened path (Some (bytes_at opened path)))) r
-    with-empty path = stands-stays laid v r (same-files strays laid v r refl requires bytes (with_file-same (with_file opened path (Some (bytes_at opened path))) journal_path None)) laid-stands
-      where
-        v : Tree
-        v = apply (Remove journal_path) (with_file opened path (Some (bytes_at opened path)))
-
-        off : (p : List ℕ) → same journal_path p ≡ false → opened p ≡ laid p
-        off p e = ap (λ (o : Op). apply o laid p) journal-is.1 ∙ away laid journal_path p (Some journal-is.0) e
-
-        bytes : (p : List ℕ) → is_loose strays p ≡ false → bytes_at v p ≡ bytes_at laid p
-        bytes p free = elim (bool (same journal_path p)) [
-          | inl e ↦ bytes-same laid v p (at (with_file opened path (Some (bytes_at opened path))) journal_path p None e ∙ sym laid-stands.no_journal ∙ ap laid (same-eq journal_path p e))
-          | inr e ↦ bytes-same (with_file opened path (Some (bytes_at opened path))) v p (away (with_file opened path (Some (bytes_at opened path))) journal_path p None e) ∙ elim (bool (same path p)) [
-            | inl k ↦ bytes_at-is (with_file opened path (Some (bytes_at opened path))) p (bytes_at opened path) (at opened path p (Some (bytes_at opened path)) k) ∙ ap (bytes_at opened) (same-eq path p k) ∙ bytes-same laid opened p (off p e)
-            | inr k ↦ bytes-same opened (with_file opened path (Some (bytes_at opened path))) p (away opened path p (Some (bytes_at opened path)) k) ∙ bytes-same laid opened p (off p e)
-          ]
-        ]
-
-        requires : v requires_path ≡ laid requires_path
-        requires = away (with_file opened path (Some (bytes_at opened path))) journal_path requires_path None refl ∙ elim (bool (same path requires_path)) [
-          | inl k ↦ at opened path requires_path (Some (bytes_at opened path)) k ∙ ap (λ q. Some (bytes_at opened q)) (same-eq path requires_path k) ∙ ap Some (bytes-same laid opened requires_path (off requires_path refl)) ∙ ap Some (bytes_at-is laid requires_path laid-stands.requires.text laid-stands.requires.there) ∙ sym laid-stands.requires.there
-          | inr k ↦ away opened path requires_path (Some (bytes_at opened path)) k ∙ off requires_path refl
-        ]
-
-    pub working-dropped : (front : List Op) → left ≡ front ++ to_publishing x.ops → Stands (apply (Remove journal_path) u) r
-    working-dropped front e = elim (done-split (x.ops.journal ∷ []) (to_publishing x.ops) (op ∷ more) left h) [
-      | inl (l, k) ↦ let p = part-made l k in removed-is p.0 u p.3
-      | inr (a, b, f, k, m) ↦ elim (drop-nothing (to_publishing x.ops) b left front opened m e) [
-        | inl n ↦ removed-is journal-is.0 u (since a b f k ∙ n ∙ ap (λ (o : Op). apply o laid) journal-is.1)
-        | inr n ↦ subst (λ (w : Tree). Stands (apply (Remove journal_path) w) r) (sym (since a b f k ∙ n.4)) (with-empty n.0)
-      ]
-    ]
+      undoing-shown = subst (ShowsUndoing x.ops.undo) (sym since) (undoing-shows more o l (subst (IsDone (to_publishing x.ops) more) is named.1))
 
   -- ---- behind the publishing operation
 

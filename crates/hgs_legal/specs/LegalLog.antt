@@ -37,7 +37,7 @@ pub record IsTurn (t : Tree) (r : Repo) (x : Turn) : Type 0 where
 abbrev pub to_publishing : Transaction → List Op
 to_publishing x = x.changes ++ x.publish ∷ []
 
--- the same with the journal's creation
+-- the same with the rename that gives the journal its name
 abbrev pub through_publishing : Transaction → List Op
 through_publishing x = x.journal ∷ to_publishing x
 
@@ -58,9 +58,9 @@ pub data Doing : Type 0 where
   -- A writer that is refused: what was left behind, the rest of the creation of a lock, and the removals of the locks that
   -- it made.
   Refused : Option (List Op) → List Op → List Op → Doing
-  -- a transaction before its journal
+  -- a transaction before its journal has its name
   Preparing : Turn → List Op → Doing
-  -- a transaction from its journal on, with what is left up to its publishing operation
+  -- a transaction whose journal has its name, with what is left up to its publishing operation
   Working : Turn → List Op → Doing
   -- a transaction that was published, with what is left up to the removal of its journal
   Published : Turn → List Op → Doing
@@ -105,9 +105,6 @@ pub data Acts (t : Tree) (r : Repo) : Doing → Op → List Turn → Doing → T
   finishes : {x : Turn} {to_do : List Op} {op : Op} (left : List Op) → Does to_do op left → Acts t r (Published x to_do) op [] (finished x left)
   undoes : {x : Turn} {o : Op} {rest : List Op} {op : Op} (left : List Op) → Does x.ops.undo op left → Acts t r (Working x (o ∷ rest)) op [] (undone left)
   goes_on_undoing : {to_do : List Op} {op : Op} (left : List Op) → Does to_do op left → Acts t r (Undoing to_do) op [] (undone left)
-  -- within the creation of the journal, right after it and right before it, the journal may be removed alone
-  drops_journal : {x : Turn} {o : Op} {rest : List Op} (front : List Op) → o ∷ rest ≡ front ++ to_publishing x.ops → Acts t r (Working x (o ∷ rest)) (Remove journal_path) [] (Idle None removals)
-  drops_none : {x : Turn} → Acts t r (Preparing x []) (Remove journal_path) [] (Idle None removals)
   -- each removal is done or left out
   removes : {left : Option (List Op)} {all rest : List Op} {path : List ℕ} (skipped : List Op) → all ≡ skipped ++ Remove path ∷ rest → Acts t r (Idle left all) (Remove path) [] (Idle left rest)
   -- the locks of a writer that is refused

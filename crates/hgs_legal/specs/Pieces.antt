@@ -4,17 +4,16 @@ use Rattle.hgs_files.specs.declared.op.Op.{Op}
 use Rattle.hgs_files.specs.declared.op.Op.TheVariants.{Remove, Create}
 use Rattle.hgs_files.specs.Log.{IsDone}
 use Rattle.hgs_files.specs.Tree.{Tree, after_all}
-use Rattle.hgs_journal.specs.Names.{journal_path}
 use Rattle.hgs_model.specs.Repo.{Repo}
 use Rattle.hgs_ops.specs.Operations.{lock_path, removals, wlock_path}
-use Rattle.hgs_legal.specs.LegalLog.{IsTurn, Turn, lock_removals, through_publishing, through_removal, to_publishing}
+use Rattle.hgs_legal.specs.LegalLog.{IsTurn, Turn, lock_removals, through_publishing, through_removal}
 
 -- some operations of the list, in its order: each is done or left out
 abbrev pub AreSome : List Op → List Op → Type 0
 AreSome [] log = log ≡ []
 AreSome (op ∷ all) log = AreSome all log ⊎ ((more : List Op) × (log ≡ op ∷ more) × AreSome all more)
 
--- The operations of a transaction were done through the beginning of its journal, and these are left up to the publishing one.
+-- The operations of a transaction were done through the rename that gives its journal the name, and these are left up to the publishing one.
 pub record HasBegun (t : Tree) (r : Repo) (x : Turn) (log left : List Op) : Type 0 where
   pub it : IsTurn t r x
   pub start : Op
@@ -41,11 +40,8 @@ pub data Piece (t : Tree) (r : Repo) : List Op → Repo → Type 0 where
   whole_list : (x : Turn) (a c : List Op) (o : Op) (b : List Op) → HasBegun t r x a [] → IsDone (through_removal x.ops) (o ∷ b) [] → AreSome removals c → Piece t r (a ++ (o ∷ b) ++ c) x.next
   -- a prefix that lacks the publishing operation's end, the whole undo list, and removals
   was_undone : (x : Turn) (a c : List Op) (op : Op) (left : List Op) (o : Op) (b : List Op) → HasBegun t r x a (op ∷ left) → IsDone x.ops.undo (o ∷ b) [] → AreSome removals c → Piece t r (a ++ (o ∷ b) ++ c) r
-  -- the same with nothing to undo: before the journal's creation
+  -- the same with nothing to undo: before the journal has its name
   given_up : (x : Turn) (c : List Op) (op : Op) (left more : List Op) → IsTurn t r x → IsDone x.ops.before (op ∷ more) left → AreSome removals c → Piece t r ((op ∷ more) ++ c) r
-  -- the same with the removal of the journal alone: within its creation or right after it, and right before it
-  dropped : (x : Turn) (a c : List Op) (op : Op) (left front : List Op) → HasBegun t r x a (op ∷ left) → op ∷ left ≡ front ++ to_publishing x.ops → AreSome removals c → Piece t r (a ++ Remove journal_path ∷ c) r
-  dropped_before : (x : Turn) (c : List Op) (op : Op) (more : List Op) → IsTurn t r x → IsDone x.ops.before (op ∷ more) [] → AreSome removals c → Piece t r ((op ∷ more) ++ Remove journal_path ∷ c) r
   -- the lock operations of a writer that was refused
   refused : (a : List Op) → Refusal a → Piece t r a r
 

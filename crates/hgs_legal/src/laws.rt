@@ -46,9 +46,8 @@ pub fn pieces_are_legal()
 {}
 
 /// From a clean tree a log is legal exactly where it is made of whole pieces, or, what is the same by what follows, of a front
-/// of such: whole transactions, undone ones, ones that were given up before their journal, ones whose journal was dropped
-/// alone, and refused writers, one after another; and at the end once one that leaves its journal, with refused writers
-/// behind it.
+/// of such: whole transactions, undone ones, ones that were given up before their journal, and refused writers, one after
+/// another; and at the end once one that leaves its journal, with refused writers behind it.
 pub fn legal_logs_are_pieces()
     ensures of_pieces { (t : Tree) (r : Repo) (log : List Op) → IsClean t r → IsLegal t log → Pieces t r log }
     ensures from_pieces { (t : Tree) (log : List Op) → ((r : Repo) → IsClean t r → Pieces t r log) → IsLegal t log }

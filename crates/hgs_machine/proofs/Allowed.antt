@@ -13,7 +13,7 @@ use Rattle.hgs_machine.specs.declared.locks.LockRefusal.TheVariants.{Fault}
 use Rattle.hgs_machine.specs.declared.machine.Machine.{Machine}
 use Rattle.hgs_machine.specs.declared.machine.Reply.TheVariants.{Done, Memory}
 use Rattle.hgs_machine.specs.declared.machine.Stage.{Stage}
-use Rattle.hgs_machine.specs.declared.machine.Stage.TheVariants.{Preparing, Beginning, Working, Publishing, Asking, Finishing, Undoing, Dropping, Sweeping, Removing}
+use Rattle.hgs_machine.specs.declared.machine.Stage.TheVariants.{Preparing, Beginning, Working, Publishing, Asking, Finishing, Undoing, Sweeping, Removing}
 use Rattle.hgs_machine.specs.Asked.{Doing, Ending, Question, Sizing, asked}
 use Rattle.hgs_machine.specs.Carry.{MayAsk, MayCarry, tree_now}
 use Rattle.hgs_machine.specs.Course.{CarriedOut, lock_removals}
@@ -40,7 +40,6 @@ same-plan Publishing m = refl
 same-plan Asking m = refl
 same-plan Finishing m = either-plan (nat_lt m.done m.plan.commit) (advanced Finishing m) (sweeping AllDone (advanced Finishing m)) m.plan refl refl
 same-plan Undoing m = either-plan (nat_lt (m.place + 1) (length m.plan.undo.items)) (record m { place = m.place + 1 }) (sweeping m.outcome m) m.plan refl refl
-same-plan Dropping m = refl
 same-plan Sweeping m = refl
 same-plan Removing m = refl
 

@@ -16,7 +16,7 @@ use Rattle.hgs_machine.specs.declared.machine.Machine.{Machine}
 use Rattle.hgs_machine.specs.declared.machine.Reply.{Reply}
 use Rattle.hgs_machine.specs.declared.machine.Reply.TheVariants.{Done, Failed, Memory, Size, SizeFailed, SizeMemory}
 use Rattle.hgs_machine.specs.declared.machine.Stage.{Stage}
-use Rattle.hgs_machine.specs.declared.machine.Stage.TheVariants.{Preparing, Beginning, Working, Publishing, Asking, Finishing, Undoing, Dropping, Sweeping, Removing}
+use Rattle.hgs_machine.specs.declared.machine.Stage.TheVariants.{Preparing, Beginning, Working, Publishing, Asking, Finishing, Undoing, Sweeping, Removing}
 use Rattle.hgs_machine.specs.Asked.{asked, asks_size, bytes_in, op_at, op_at_hand}
 use Rattle.hgs_machine.specs.Carry.{tree_now}
 use Rattle.hgs_machine.specs.Course.{between, removals_after}
@@ -173,7 +173,6 @@ by-done t m Publishing log more e h r = omega arith
 by-done t m Asking log more e h r = omega arith
 by-done t m Finishing log more e h r = omega (arith, finishes (after_all (log ++ more) t) (nat_lt m.done m.plan.commit) m)
 by-done t m Undoing log more e h r = omega (arith, undoes (after_all (log ++ more) t) (nat_lt (m.place + 1) (length m.plan.undo.items)) m e)
-by-done t m Dropping log more e h r = omega (arith, sweeps-none (after_all (log ++ more) t) m.plan m.outcome)
 by-done t m Sweeping log more e h r = let at = at-stage (after_all log t) m Sweeping Done more e tt r in swept-done t m at.op log more h.planned (is-here t m Sweeping log e h) at.there at.leaves
 by-done t m Removing log more e h r = let at = at-stage (after_all log t) m Removing Done more e tt r in swept-done t m at.op log more h.planned (is-here t m Removing log e h) at.there at.leaves
 
@@ -183,13 +182,12 @@ not-published t false m = omega arith
 
 by-failed : (t : Tree) (m : Machine) (s : Stage) (log more : List Op) → m.stage ≡ s → SoFar t m log → Replies (after_all log t) (asked m) Failed more → met (after_all (log ++ more) t) (fed_failed s m) ≤ met_at (after_all log t) m s + 1
 by-failed t m Preparing log more e h r = omega (arith, sweeps-none (after_all (log ++ more) t) m.plan Fault)
-by-failed t m Beginning log more e h r = omega arith
+by-failed t m Beginning log more e h r = omega (arith, sweeps-none (after_all (log ++ more) t) m.plan Fault)
 by-failed t m Working log more e h r = omega arith
 by-failed t m Publishing log more e h r = omega (arith, not-published (after_all (log ++ more) t) (nat_lt 0 (bytes_in (slice_get m.plan.ops.items m.done))) m)
 by-failed t m Asking log more e h r = omega arith
 by-failed t m Finishing log more e h r = omega (arith, sweeps-none (after_all (log ++ more) t) m.plan (Unfinished Yes))
 by-failed t m Undoing log more e h r = omega (arith, sweeps-none (after_all (log ++ more) t) m.plan (Unfinished No))
-by-failed t m Dropping log more e h r = omega (arith, sweeps-none (after_all (log ++ more) t) m.plan (Unfinished No))
 by-failed t m Sweeping log more e h r =
     let at = at-stage (after_all log t) m Sweeping Failed more e tt r in
     let here = is-here t m Sweeping log e h in
@@ -209,7 +207,6 @@ by-denied t m Publishing log more e h r = omega arith
 by-denied t m Asking log more e h r = omega arith
 by-denied t m Finishing log more e h r = omega (arith, sweeps-none (after_all (log ++ more) t) m.plan (Unfinished Yes))
 by-denied t m Undoing log more e h r = omega (arith, sweeps-none (after_all (log ++ more) t) m.plan (Unfinished No))
-by-denied t m Dropping log more e h r = omega (arith, sweeps-none (after_all (log ++ more) t) m.plan (Unfinished No))
 by-denied t m Sweeping log more e h r = let at = at-stage (after_all log t) m Sweeping Memory more e tt r in swept-not t m at.op log more h.planned (is-here t m Sweeping log e h) at.there (none-done at.op more at.leaves)
 by-denied t m Removing log more e h r = let at = at-stage (after_all log t) m Removing Memory more e tt r in swept-not t m at.op log more h.planned (is-here t m Removing log e h) at.there (none-done at.op more at.leaves)
 
@@ -232,7 +229,6 @@ by-size t m Working size log more e h r = stray t m size log more (λ k. let no 
 by-size t m Publishing size log more e h r = stray t m size log more (λ k. let no : ⊥ = cc in no) h r
 by-size t m Finishing size log more e h r = stray t m size log more (λ k. let no : ⊥ = cc in no) h r
 by-size t m Undoing size log more e h r = stray t m size log more (λ k. let no : ⊥ = cc in no) h r
-by-size t m Dropping size log more e h r = stray t m size log more (λ k. let no : ⊥ = cc in no) h r
 by-size t m Sweeping size log more e h r = stray t m size log more (λ k. let no : ⊥ = cc in no) h r
 by-size t m Removing size log more e h r = stray t m size log more (λ k. let no : ⊥ = cc in no) h r
 
@@ -254,7 +250,6 @@ by-no-size t m Working reply log more i e h r = stray-not t m reply log more i (
 by-no-size t m Publishing reply log more i e h r = stray-not t m reply log more i (λ k. let no : ⊥ = cc in no) h r
 by-no-size t m Finishing reply log more i e h r = stray-not t m reply log more i (λ k. let no : ⊥ = cc in no) h r
 by-no-size t m Undoing reply log more i e h r = stray-not t m reply log more i (λ k. let no : ⊥ = cc in no) h r
-by-no-size t m Dropping reply log more i e h r = stray-not t m reply log more i (λ k. let no : ⊥ = cc in no) h r
 by-no-size t m Sweeping reply log more i e h r = stray-not t m reply log more i (λ k. let no : ⊥ = cc in no) h r
 by-no-size t m Removing reply log more i e h r = stray-not t m reply log more i (λ k. let no : ⊥ = cc in no) h r
 
@@ -294,7 +289,6 @@ ends-at t p Publishing done place outcome log h none here = past t p done h (let
 ends-at t p Asking done place outcome log h none here = past t p done h (let b = h.publish in let c = here.0 in omega arith) none
 ends-at t p Finishing done place outcome log h none here = past t p done h here.1 none
 ends-at t p Undoing done place outcome log h none here = let all = none-there p.undo.items place none in let within = here.0 in absurd (omega arith)
-ends-at t p Dropping done place outcome log h none here = past t p p.commit h (omega arith) none
 ends-at t p Sweeping done place outcome log h none here = omega (arith, passed-all t (after_all log t) p place outcome h none)
 ends-at t p Removing done place outcome log h none here = omega (arith, passed-all t (after_all log t) p place outcome h none)
 

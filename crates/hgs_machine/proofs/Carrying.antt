@@ -8,7 +8,6 @@ use Rattle.hgs_files.specs.declared.op.Op.TheVariants.{Append, Cut, Rename, Remo
 use Rattle.hgs_files.specs.Files.{GoesOn}
 use Rattle.hgs_files.specs.Reads.{HasSize, IsSizeOf}
 use Rattle.hgs_files.specs.Tree.{Tree, after_all, apply}
-use Rattle.hgs_journal.specs.Names.{journal_path}
 use Rattle.hgs_transaction.specs.declared.assemble.Plan.{Plan}
 use Rattle.hgs_machine.specs.declared.ended.Ended.{Ended}
 use Rattle.hgs_machine.specs.declared.ended.Short.{Short}
@@ -16,7 +15,7 @@ use Rattle.hgs_machine.specs.declared.machine.Machine.{Machine}
 use Rattle.hgs_machine.specs.declared.machine.Next.TheVariants.{Do, Size as SizeNext}
 use Rattle.hgs_machine.specs.declared.machine.Reply.{Reply}
 use Rattle.hgs_machine.specs.declared.machine.Stage.{Stage}
-use Rattle.hgs_machine.specs.declared.machine.Stage.TheVariants.{Preparing, Beginning, Working, Publishing, Asking, Finishing, Undoing, Dropping, Sweeping, Removing}
+use Rattle.hgs_machine.specs.declared.machine.Stage.TheVariants.{Preparing, Beginning, Working, Publishing, Asking, Finishing, Undoing, Sweeping, Removing}
 use Rattle.hgs_machine.specs.Asked.{Doing, Ending, IsNext, Question, Sizing, asked, asks_size, op_at, op_at_hand, question_of, size_question}
 use Rattle.hgs_machine.specs.Carry.{IsReplied, IsStep, IsUnderWay, reply_of, size_reply_of, tree_now}
 use Rattle.hgs_machine.specs.Course.{CarriedOut, before_journal, between}
@@ -25,7 +24,6 @@ use Rattle.hgs_machine.specs.SoFar.{Fits, FinishesTo, IsAt, Leaves, Replies, SoF
 use Rattle.hgs_machine.proofs.Ending.{has-ended}
 use Rattle.hgs_machine.proofs.Feeding.{is-removal}
 use Rattle.hgs_machine.proofs.Lists.{between-split}
-use Rattle.hgs_machine.proofs.Stages.{at-commit}
 use Rattle.hgs_machine.proofs.Trees.{after-done, after-working, after_all-append}
 
 -- ---- what is asked for
@@ -95,7 +93,6 @@ stands-at t p Undoing done place outcome log op h at here =
     let tree : after_all log t ≡ after_all (take place p.undo.items) (after_all u.working t) =
     ap (λ (l : List Op). after_all l t) u.whole ∙ after_all-append u.working u.undoing t ∙ after-done (take place p.undo.items) u.undoing [] (after_all u.working t) u.undone in
     subst (HasSource op) (sym tree) (sources-at p.undo.items place op (after_all u.working t) (h.undo_sources (after_all u.working t)) at)
-stands-at t p Dropping done place outcome log op h at here = removal-source op journal_path (after_all log t) (same-some (sym at ∙ at-commit t p h))
 stands-at t p Sweeping done place outcome log op h at here = let r = is-removal t p place outcome op log h here at in removal-source op r.0 (after_all log t) r.1
 stands-at t p Removing done place outcome log op h at here = let r = is-removal t p place outcome op log h here at in removal-source op r.0 (after_all log t) r.1
 

@@ -11,7 +11,7 @@ use Rattle.hgs_machine.specs.declared.machine.Machine.{Machine}
 use Rattle.hgs_machine.specs.declared.machine.Reply.{Reply}
 use Rattle.hgs_machine.specs.declared.machine.Reply.TheVariants.{Done, Failed, Memory, Size, SizeFailed, SizeMemory}
 use Rattle.hgs_machine.specs.declared.machine.Stage.{Stage}
-use Rattle.hgs_machine.specs.declared.machine.Stage.TheVariants.{Preparing, Beginning, Working, Publishing, Asking, Finishing, Undoing, Dropping, Sweeping, Removing}
+use Rattle.hgs_machine.specs.declared.machine.Stage.TheVariants.{Preparing, Beginning, Working, Publishing, Asking, Finishing, Undoing, Sweeping, Removing}
 use Rattle.hgs_machine.specs.Asked.{bytes_in}
 use Rattle.hgs_machine.specs.Carry.{Counted}
 use Rattle.hgs_machine.specs.Fed.{advanced, fed, fed_denied, fed_done, fed_failed, fed_no_size, fed_size, passed, stray_sized, sweeping, undoing}
@@ -61,7 +61,6 @@ by-done Publishing m e = omega arith
 by-done Asking m e = omega arith
 by-done Finishing m e = finishes (nat_lt m.done m.plan.commit) m
 by-done Undoing m e = undoes (nat_lt (m.place + 1) (length m.plan.undo.items)) m e
-by-done Dropping m e = omega arith
 by-done Sweeping m e = passes-gone m
 by-done Removing m e = passes-gone m
 
@@ -77,7 +76,6 @@ by-failed Publishing m = is-unpublished (nat_lt 0 (bytes_in (slice_get m.plan.op
 by-failed Asking m = omega arith
 by-failed Finishing m = omega arith
 by-failed Undoing m = omega arith
-by-failed Dropping m = omega arith
 by-failed Sweeping m = passes-left m
 by-failed Removing m = passes-left m
 
@@ -89,7 +87,6 @@ by-denied Publishing m = omega arith
 by-denied Asking m = omega arith
 by-denied Finishing m = omega arith
 by-denied Undoing m = omega arith
-by-denied Dropping m = omega arith
 by-denied Sweeping m = passes-left m
 by-denied Removing m = passes-left m
 
@@ -112,7 +109,6 @@ by-size Publishing size m = is-sized size m
 by-size Asking size m = is-short (nat_lt (unwrap_or size 0 - m.plan.before) (bytes_in (slice_get m.plan.ops.items m.done))) m
 by-size Finishing size m = is-sized size m
 by-size Undoing size m = more _ _ _ (is-sized size m)
-by-size Dropping size m = more _ _ _ (is-sized size m)
 by-size Sweeping size m = is-sized size m
 by-size Removing size m = is-sized size m
 
@@ -127,7 +123,6 @@ by-no-size Publishing m = passes-left m
 by-no-size Asking m = omega arith
 by-no-size Finishing m = passes-left m
 by-no-size Undoing m = one-more _ _ _ (passes-left m)
-by-no-size Dropping m = one-more _ _ _ (passes-left m)
 by-no-size Sweeping m = passes-left m
 by-no-size Removing m = passes-left m
 
@@ -173,7 +168,6 @@ ends-so Publishing o = omega arith
 ends-so Asking o = omega arith
 ends-so Finishing o = omega arith
 ends-so Undoing o = omega arith
-ends-so Dropping o = omega arith
 ends-so Sweeping o = omega arith
 ends-so Removing o = omega arith
 

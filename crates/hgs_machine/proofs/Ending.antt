@@ -7,7 +7,7 @@ use Rattle.hgs_transaction.specs.declared.assemble.Plan.{Plan}
 use Rattle.hgs_machine.specs.declared.ended.Short.{Short}
 use Rattle.hgs_machine.specs.declared.machine.Machine.{Machine}
 use Rattle.hgs_machine.specs.declared.machine.Stage.{Stage}
-use Rattle.hgs_machine.specs.declared.machine.Stage.TheVariants.{Preparing, Beginning, Working, Publishing, Asking, Finishing, Undoing, Dropping, Sweeping, Removing}
+use Rattle.hgs_machine.specs.declared.machine.Stage.TheVariants.{Preparing, Beginning, Working, Publishing, Asking, Finishing, Undoing, Sweeping, Removing}
 use Rattle.hgs_machine.specs.Asked.{Doing, Ending, Question, Sizing, asked, op_at}
 use Rattle.hgs_machine.specs.Course.{CarriedOut}
 use Rattle.hgs_machine.specs.Planned.{IsPlanned}
@@ -30,7 +30,6 @@ ends-at t p Publishing done place outcome swept log h none here gone = past t p 
 ends-at t p Asking done place outcome swept log h none here gone = past t p done h (let b = h.publish in let c = here.0 in omega arith) none
 ends-at t p Finishing done place outcome swept log h none here gone = past t p done h here.1 none
 ends-at t p Undoing done place outcome swept log h none here gone = let all = none-there p.undo.items place none in let within = here.0 in absurd (omega arith)
-ends-at t p Dropping done place outcome swept log h none here gone = past t p p.commit h (omega arith) none
 ends-at t p Sweeping done place outcome swept log h none here gone = carried-out t p place outcome swept log h none here gone
 ends-at t p Removing done place outcome swept log h none here gone = carried-out t p place outcome swept log h none here gone
 

@@ -3,10 +3,10 @@ use Rattle.std.proofs.Common.{◌≡◌, ℕ, zero, suc, ◌+◌, ◌<◌, ◌�
 use Rattle.std.specs.Prelude.{◌⊎◌, ◌&&◌, Some, None, slice_get, if◌then◌else◌}
 use Rattle.std.proofs.lemmas.Bool.Decides.{nat_tests}
 use Rattle.hgs_files.specs.declared.op.Op.{Op}
-use Rattle.hgs_files.specs.declared.op.Op.TheVariants.{Append, Remove}
+use Rattle.hgs_files.specs.declared.op.Op.TheVariants.{Append, Remove, Rename}
 use Rattle.hgs_files.specs.Log.{IsDone}
 use Rattle.hgs_files.specs.Tree.{Tree, after_all}
-use Rattle.hgs_journal.specs.Names.{journal_path}
+use Rattle.hgs_journal.specs.Names.{journal_path, new_journal_path}
 use Rattle.hgs_ops.specs.Operations.{lock_path, strays, wlock_path}
 use Rattle.hgs_transaction.specs.declared.assemble.Plan.{Plan}
 use Rattle.hgs_machine.specs.declared.ended.Published.TheVariants.{No, Yes}
@@ -16,15 +16,15 @@ use Rattle.hgs_machine.specs.declared.machine.Machine.{Machine}
 use Rattle.hgs_machine.specs.declared.machine.Reply.{Reply}
 use Rattle.hgs_machine.specs.declared.machine.Reply.TheVariants.{Done, Failed, Memory}
 use Rattle.hgs_machine.specs.declared.machine.Stage.{Stage}
-use Rattle.hgs_machine.specs.declared.machine.Stage.TheVariants.{Preparing, Beginning, Working, Publishing, Asking, Finishing, Undoing, Dropping, Sweeping}
+use Rattle.hgs_machine.specs.declared.machine.Stage.TheVariants.{Preparing, Beginning, Working, Publishing, Asking, Finishing, Undoing, Sweeping}
 use Rattle.hgs_machine.specs.Asked.{asked}
-use Rattle.hgs_machine.specs.Course.{BreaksOff, Ends, HasBegun, IsTakenBack, given_up, through_publishing}
+use Rattle.hgs_machine.specs.Course.{Ends, HasBegun, IsTakenBack, given_up, through_publishing}
 use Rattle.hgs_machine.specs.Planned.{IsPlanned}
 use Rattle.hgs_machine.specs.SoFar.{FinishesTo, IsAt, IsSwept, SweepsAllTo, UndoesTo, WorksTo, IsRefusal, Leaves, Replies, SoFar, SweepsTo, sweep_from}
 use Rattle.hgs_machine.proofs.Lists.{get-add}
-use Rattle.hgs_machine.proofs.Pieces.{denied-failed, done-all, done-in-part, done-none, none-done}
+use Rattle.hgs_machine.proofs.Pieces.{denied-failed, done-all, done-none, none-done}
 use Rattle.hgs_machine.proofs.Replied.{AtHand, IsOfOp, asks-no-op, either, is-here}
-use Rattle.hgs_machine.proofs.Stages.{at-commit, breaks-behind, breaks-dropping, breaks-undoing, drops-first, finishes-first, finishes-more, gone-already, gone-more, none-yet, is-carried, is-dropped, is-undone, left-at-publish, left-to-publish, prepared-in-part, prepared-more, so-many, sweeps-done, removals-behind, sweeps-first, sweeps-past, undoes-first, undoes-more, works-first, works-in-part, works-more}
+use Rattle.hgs_machine.proofs.Stages.{breaks-behind, breaks-undoing, finishes-first, finishes-more, gone-already, gone-more, none-yet, is-carried, is-undone, left-at-publish, left-to-publish, prepared-in-part, prepared-more, so-many, sweeps-done, removals-behind, sweeps-first, sweeps-past, undoes-first, undoes-more, works-first, works-in-part, works-more}
 
 sweep-within : (t : Tree) (p : Plan) (outcome : Short) → IsPlanned t p → sweep_from p outcome ≤ length p.ops.items
 sweep-within t p AllDone h = let many = so-many t p h in omega arith
@@ -194,18 +194,6 @@ removed-whole op path more e h = subst (λ (o : Op). more ≡ o ∷ []) (sym e) 
 pub removed-none : (op : Op) (path : List ℕ) (more : List Op) → op ≡ Remove path → Leaves op Failed more → more ≡ []
 removed-none op path more e h = let k : Leaves (Remove path) Failed more = subst (λ (o : Op). Leaves o Failed more) e h in k
 
-pub drops : (t : Tree) (m new : Machine) (log more : List Op) → m.stage ≡ Dropping → new ≡ record m { stage = Sweeping; place = sweep_from m.plan m.outcome } → SoFar t m log → AtHand m Dropping Done more → SoFar t new (log ++ more)
-drops t m new log more e n h hand =
-    let here = is-here t m Dropping log e h in
-    let same : hand.op ≡ Remove journal_path = same-op (sym hand.there ∙ at-commit t m.plan h.planned) in
-    let whole = removed-whole hand.op journal_path more same hand.leaves ∙ ap (λ (o : Op). o ∷ []) same in
-    sweeps t m new m.outcome (log ++ more) n h.planned (refusal-ends m.plan m.outcome (log ++ more) here.0 (is-dropped m.plan log more here.1 whole))
-
-pub breaks-drop : (t : Tree) (m new : Machine) (log more : List Op) → m.stage ≡ Dropping → new ≡ record m { stage = Sweeping; place = sweep_from m.plan (Unfinished No); outcome = Unfinished No } → SoFar t m log → more ≡ [] → SoFar t new (log ++ more)
-breaks-drop t m new log more e n h none =
-    let here = is-here t m Dropping log e h in
-    sweeps t m new (Unfinished No) (log ++ more) n h.planned (subst (BreaksOff m.plan No) (sym (same-log log more none)) (breaks-dropping m.plan log here.1))
-
 -- ---- the removals
 
 abbrev IsRemoval : Op → Type 0
@@ -283,12 +271,16 @@ asking-not u t m r log more e h i reply =
     let part = here.2 in
     asks-no-op u m part.path (part.front ++ part.back) r more e (subst (λ k. slice_get m.plan.ops.items k ≡ Some (Append part.path (part.front ++ part.back))) (sym here.0) part.publishes) i reply
 
-pub begins-not : (t : Tree) (m new : Machine) (log more : List Op) → m.stage ≡ Beginning → new ≡ record m { stage = Dropping; outcome = Fault } → SoFar t m log → AtHand m Beginning Failed more → SoFar t new (log ++ more)
-begins-not t m new log more e n h hand =
+-- nothing is done of a rename that failed
+pub named-none : (t : Tree) (m : Machine) (r : Reply) (log more : List Op) → m.stage ≡ Beginning → SoFar t m log → AtHand m Beginning r more → ((op : Op) → Leaves op r more → Leaves op Failed more) → more ≡ []
+named-none t m r log more e h hand failed =
     let here = is-here t m Beginning log e h in
-    let at = subst (λ k. slice_get m.plan.ops.items k ≡ Some hand.op) here.0 hand.there in
-    let part = done-in-part hand.op more hand.leaves in
-    subst (λ (x : Machine). SoFar t x (log ++ more)) (sym n) (record { planned = h.planned; here = (tt, drops-first m.plan hand.op log more part.0 h.planned.journal at here.1 part.1); gone = tt })
+    let same : hand.op ≡ Rename new_journal_path journal_path = same-op (sym (subst (λ k. slice_get m.plan.ops.items k ≡ Some hand.op) here.0 hand.there) ∙ h.planned.named) in
+    let k : Leaves (Rename new_journal_path journal_path) Failed more = subst (λ (o : Op). Leaves o Failed more) same (failed hand.op hand.leaves) in
+    k
+
+pub begins-not : (t : Tree) (m new : Machine) (log more : List Op) → m.stage ≡ Beginning → new ≡ record m { stage = Sweeping; place = sweep_from m.plan Fault; outcome = Fault } → SoFar t m log → AtHand m Beginning Failed more → SoFar t new (log ++ more)
+begins-not t m new log more e n h hand = sweeps t m new Fault (log ++ more) n h.planned (gives-up-beginning t m log more e h (named-none t m Failed log more e h hand (λ op leaves. leaves)))
 
 pub finishes-not : (t : Tree) (m new : Machine) (log more : List Op) → m.stage ≡ Finishing → new ≡ record m { stage = Sweeping; place = sweep_from m.plan (Unfinished Yes); outcome = Unfinished Yes } → SoFar t m log → AtHand m Finishing Failed more → SoFar t new (log ++ more)
 finishes-not t m new log more e n h hand =
@@ -299,11 +291,6 @@ pub undoes-not : (t : Tree) (m new : Machine) (log more : List Op) → m.stage �
 undoes-not t m new log more e n h hand =
     let here = is-here t m Undoing log e h in
     sweeps t m new (Unfinished No) (log ++ more) n h.planned (breaks-undoing t m.plan m.place hand.op log more h.planned hand.there here.2 hand.leaves)
-
-pub drops-not : (t : Tree) (m new : Machine) (log more : List Op) → m.stage ≡ Dropping → new ≡ record m { stage = Sweeping; place = sweep_from m.plan (Unfinished No); outcome = Unfinished No } → SoFar t m log → AtHand m Dropping Failed more → SoFar t new (log ++ more)
-drops-not t m new log more e n h hand =
-    let same : hand.op ≡ Remove journal_path = same-op (sym hand.there ∙ at-commit t m.plan h.planned) in
-    breaks-drop t m new log more e n h (removed-none hand.op journal_path more same hand.leaves)
 
 -- what holds where it failed holds where there was no memory
 pub as-failed : (m : Machine) (s : Stage) (more : List Op) → AtHand m s Memory more → AtHand m s Failed more

@@ -11,12 +11,12 @@ use Rattle.hgs_machine.specs.declared.machine.Machine.{Machine}
 use Rattle.hgs_machine.specs.declared.machine.Reply.{Reply}
 use Rattle.hgs_machine.specs.declared.machine.Reply.TheVariants.{Done, Failed, Memory, Size, SizeFailed, SizeMemory}
 use Rattle.hgs_machine.specs.declared.machine.Stage.{Stage}
-use Rattle.hgs_machine.specs.declared.machine.Stage.TheVariants.{Preparing, Beginning, Working, Publishing, Asking, Finishing, Undoing, Dropping, Sweeping, Removing}
+use Rattle.hgs_machine.specs.declared.machine.Stage.TheVariants.{Preparing, Beginning, Working, Publishing, Asking, Finishing, Undoing, Sweeping, Removing}
 use Rattle.hgs_machine.specs.Asked.{asked, bytes_in}
 use Rattle.hgs_machine.specs.Fed.{advanced, fed, fed_denied, fed_done, fed_failed, fed_no_size, fed_size, is_acknowledged, is_acknowledged_at, is_done_end, is_published, is_published_at, is_published_end, new_machine, passed, stray_sized, sweeping, undoing}
 use Rattle.hgs_machine.specs.Planned.{IsPlanned}
 use Rattle.hgs_machine.specs.SoFar.{Fits, HasNoSize, Replies, SoFar}
-use Rattle.hgs_machine.proofs.Feeding.{as-failed, asking-not, begins, begins-not, drops, drops-not, finishes, finishes-not, gives-up, gives-up-beginning, nothing-of-it, passes-done, passes-failed, passes-over, prepares, publishes, publishes-none, sweeps, undoes-not, undoes-on, works, works-stopped}
+use Rattle.hgs_machine.proofs.Feeding.{as-failed, asking-not, begins, begins-not, finishes, finishes-not, gives-up, gives-up-beginning, nothing-of-it, passes-done, passes-failed, passes-over, prepares, publishes, publishes-none, sweeps, undoes-not, undoes-on, works, works-stopped}
 use Rattle.hgs_machine.proofs.Pieces.{done-in-part, none-done}
 use Rattle.hgs_machine.proofs.Publishing.{sized, unpublished, unsized}
 use Rattle.hgs_machine.proofs.Replied.{at-stage, fits-at, is-gone, is-here}
@@ -50,7 +50,6 @@ done-by t m Publishing log more e h r = publishes t m (fed_done Publishing m) lo
 done-by t m Asking log more e h r = asking-not (after_all log t) t m Done log more e h tt r
 done-by t m Finishing log more e h r = finishes-by t m log more (nat_lt m.done m.plan.commit) refl e h r
 done-by t m Undoing log more e h r = undoes-by t m log more (nat_lt (m.place + 1) (length m.plan.undo.items)) refl e h r
-done-by t m Dropping log more e h r = drops t m (fed_done Dropping m) log more e refl h (at-stage (after_all log t) m Dropping Done more e tt r)
 done-by t m Sweeping log more e h r =
     let at = at-stage (after_all log t) m Sweeping Done more e tt r in
     passes-done t m (fed_done Sweeping m) at.op log more h.planned (is-here t m Sweeping log e h) (is-gone t m Sweeping log e h) at.there at.leaves refl
@@ -81,7 +80,6 @@ failed-by t m Publishing log more e h r = unpublished-by t m log more (nat_lt 0 
 failed-by t m Asking log more e h r = asking-not (after_all log t) t m Failed log more e h tt r
 failed-by t m Finishing log more e h r = finishes-not t m (fed_failed Finishing m) log more e refl h (at-stage (after_all log t) m Finishing Failed more e tt r)
 failed-by t m Undoing log more e h r = undoes-not t m (fed_failed Undoing m) log more e refl h (at-stage (after_all log t) m Undoing Failed more e tt r)
-failed-by t m Dropping log more e h r = drops-not t m (fed_failed Dropping m) log more e refl h (at-stage (after_all log t) m Dropping Failed more e tt r)
 failed-by t m Sweeping log more e h r =
     let at = at-stage (after_all log t) m Sweeping Failed more e tt r in
     passes-failed t m (fed_failed Sweeping m) at.op log more h.planned (is-here t m Sweeping log e h) (is-gone t m Sweeping log e h) at.there at.leaves refl
@@ -105,7 +103,6 @@ denied-by t m Publishing log more e h r = publishes-none t m (fed_denied Publish
 denied-by t m Asking log more e h r = asking-not (after_all log t) t m Memory log more e h tt r
 denied-by t m Finishing log more e h r = finishes-not t m (fed_denied Finishing m) log more e refl h (as-failed m Finishing more (at-stage (after_all log t) m Finishing Memory more e tt r))
 denied-by t m Undoing log more e h r = undoes-not t m (fed_denied Undoing m) log more e refl h (as-failed m Undoing more (at-stage (after_all log t) m Undoing Memory more e tt r))
-denied-by t m Dropping log more e h r = drops-not t m (fed_denied Dropping m) log more e refl h (as-failed m Dropping more (at-stage (after_all log t) m Dropping Memory more e tt r))
 denied-by t m Sweeping log more e h r =
     let at = at-stage (after_all log t) m Sweeping Memory more e tt r in
     passes-over t m (fed_denied Sweeping m) at.op log more h.planned (is-here t m Sweeping log e h) (is-gone t m Sweeping log e h) at.there (none-done at.op more at.leaves) refl
@@ -154,7 +151,6 @@ sized-by t m Working size log more e h r = stray-by t m size log more (λ k. let
 sized-by t m Publishing size log more e h r = stray-by t m size log more (λ k. let no : ⊥ = cc in no) h r
 sized-by t m Finishing size log more e h r = stray-by t m size log more (λ k. let no : ⊥ = cc in no) h r
 sized-by t m Undoing size log more e h r = stray-by t m size log more (λ k. let no : ⊥ = cc in no) h r
-sized-by t m Dropping size log more e h r = stray-by t m size log more (λ k. let no : ⊥ = cc in no) h r
 sized-by t m Sweeping size log more e h r = stray-by t m size log more (λ k. let no : ⊥ = cc in no) h r
 sized-by t m Removing size log more e h r = stray-by t m size log more (λ k. let no : ⊥ = cc in no) h r
 
@@ -179,7 +175,6 @@ unsized-by t m Working reply log more i e h r = stray-unsized t m reply log more
 unsized-by t m Publishing reply log more i e h r = stray-unsized t m reply log more i (λ k. let no : ⊥ = cc in no) h r
 unsized-by t m Finishing reply log more i e h r = stray-unsized t m reply log more i (λ k. let no : ⊥ = cc in no) h r
 unsized-by t m Undoing reply log more i e h r = stray-unsized t m reply log more i (λ k. let no : ⊥ = cc in no) h r
-unsized-by t m Dropping reply log more i e h r = stray-unsized t m reply log more i (λ k. let no : ⊥ = cc in no) h r
 unsized-by t m Sweeping reply log more i e h r = stray-unsized t m reply log more i (λ k. let no : ⊥ = cc in no) h r
 unsized-by t m Removing reply log more i e h r = stray-unsized t m reply log more i (λ k. let no : ⊥ = cc in no) h r
 
@@ -214,7 +209,6 @@ done-published m Working h = absurd (let no : ⊥ = cc in no)
 done-published m Publishing h = absurd (let no : ⊥ = cc in no)
 done-published m Asking h = absurd (let no : ⊥ = cc in no)
 done-published m Undoing h = absurd (let no : ⊥ = cc in no)
-done-published m Dropping h = absurd (let no : ⊥ = cc in no)
 
 failed-published : (m : Machine) (s : Stage) → is_published_at s m.outcome ≡ true → is_published (fed_failed s m) ≡ true
 failed-published m Finishing h = refl
@@ -226,7 +220,6 @@ failed-published m Working h = absurd (let no : ⊥ = cc in no)
 failed-published m Publishing h = absurd (let no : ⊥ = cc in no)
 failed-published m Asking h = absurd (let no : ⊥ = cc in no)
 failed-published m Undoing h = absurd (let no : ⊥ = cc in no)
-failed-published m Dropping h = absurd (let no : ⊥ = cc in no)
 
 pub published-done : (m : Machine) → is_published m ≡ true → is_published (fed_done m.stage m) ≡ true
 published-done m h = done-published m m.stage h
@@ -258,7 +251,6 @@ done-acknowledged m Working h = absurd (let no : ⊥ = cc in no)
 done-acknowledged m Publishing h = absurd (let no : ⊥ = cc in no)
 done-acknowledged m Asking h = absurd (let no : ⊥ = cc in no)
 done-acknowledged m Undoing h = absurd (let no : ⊥ = cc in no)
-done-acknowledged m Dropping h = absurd (let no : ⊥ = cc in no)
 
 failed-acknowledged : (m : Machine) (s : Stage) → is_acknowledged_at s m.outcome ≡ true → is_acknowledged (fed_failed s m) ≡ true
 failed-acknowledged m Sweeping h = h
@@ -270,7 +262,6 @@ failed-acknowledged m Working h = absurd (let no : ⊥ = cc in no)
 failed-acknowledged m Publishing h = absurd (let no : ⊥ = cc in no)
 failed-acknowledged m Asking h = absurd (let no : ⊥ = cc in no)
 failed-acknowledged m Undoing h = absurd (let no : ⊥ = cc in no)
-failed-acknowledged m Dropping h = absurd (let no : ⊥ = cc in no)
 
 pub acknowledged-done : (m : Machine) → is_acknowledged m ≡ true → is_acknowledged (fed_done m.stage m) ≡ true
 acknowledged-done m h = done-acknowledged m m.stage h
@@ -297,7 +288,6 @@ size-keeps m Working size e fits = absurd (let at = is-sweeping m (Size size) tt
 size-keeps m Publishing size e fits = absurd (let at = is-sweeping m (Size size) tt fits (λ k. let no : ⊥ = cc in no) in let no : ⊥ = cc in no)
 size-keeps m Finishing size e fits = absurd (let at = is-sweeping m (Size size) tt fits (λ k. let no : ⊥ = cc in no) in let no : ⊥ = cc in no)
 size-keeps m Undoing size e fits = absurd (let at = is-sweeping m (Size size) tt fits (λ k. let no : ⊥ = cc in no) in let no : ⊥ = cc in no)
-size-keeps m Dropping size e fits = absurd (let at = is-sweeping m (Size size) tt fits (λ k. let no : ⊥ = cc in no) in let no : ⊥ = cc in no)
 
 pub acknowledged-sized : (m : Machine) (size : Option ℕ) → Fits (asked m) (Size size) → is_acknowledged (fed_size m.stage size m) ≡ is_acknowledged m
 acknowledged-sized m size fits = size-keeps m m.stage size refl fits
@@ -322,4 +312,3 @@ acknowledged-published m h = by m.stage m.outcome h
     by Publishing o h = absurd (let no : ⊥ = cc in no)
     by Asking o h = absurd (let no : ⊥ = cc in no)
     by Undoing o h = absurd (let no : ⊥ = cc in no)
-    by Dropping o h = absurd (let no : ⊥ = cc in no)

@@ -10,7 +10,7 @@ use Rattle.hgs_files.specs.declared.op.Op.TheVariants.{Append as AppendOp, Cut, 
 use Rattle.hgs_files.specs.Tree.{Tree, after_all, apply, bytes_at, same_path, touches, with_file, shortened, renamed}
 use Rattle.hgs_journal.specs.declared.backups.BackupLine.{BackupLine}
 use Rattle.hgs_journal.specs.declared.journal.JournalLine.{JournalLine}
-use Rattle.hgs_journal.specs.Names.{backups_path, in_store, journal_path, new_name, place}
+use Rattle.hgs_journal.specs.Names.{backups_path, in_store, journal_path, new_name, place, new_journal_path}
 use Rattle.hgs_journal.specs.Texts.{backups_text, journal_text}
 use Rattle.hgs_journal.specs.Undo.{undo_backup, undo_backups, undo_line, undo_list, undo_with}
 use Rattle.hgs_ops.specs.Operations.{new_changelog_path, removals}
@@ -182,30 +182,65 @@ texts-there (x ∷ files) t =
     (kept-through (map (λ (x : Replacing). new_put (replacement_of x)) files) (apply (new_put (replacement_of x)) t) (source_of x) (texts-create files) (is-made t (source_of x) x.text), texts-there files (apply (new_put (replacement_of x)) t))
 
 abbrev journal_files : Parts → List Op
-journal_files p = Create backups_path (backups_text (map backup_of (replacings_of (all_changes p)))) ∷ Create journal_path (journal_text (lines_of (all_changes p))) ∷ []
+journal_files p = Create backups_path (backups_text (map backup_of (replacings_of (all_changes p)))) ∷ Create new_journal_path (journal_text (lines_of (all_changes p))) ∷ []
 
-prepared-create : (p : Parts) → AllByRecursion IsCreation (preparing p)
-prepared-create p =
+abbrev naming : Op
+naming = Rename new_journal_path journal_path
+
+abbrev first_prepared : Parts → List Op
+first_prepared p = texts_put (replacings_of (all_changes p)) ++ journal_files p
+
+-- the journal gets its name last
+prepared-shape : (p : Parts) → preparing p ≡ first_prepared p ++ naming ∷ []
+prepared-shape p = sym (append_assoc (texts_put (replacings_of (all_changes p))) (journal_files p) (naming ∷ []))
+
+first-create : (p : Parts) → AllByRecursion IsCreation (first_prepared p)
+first-create p =
     creations-append (texts_put (replacings_of (all_changes p))) (journal_files p)
     (creations-append (flat_map (λ (x : Replacing). backup_put (replacement_of x) x.standing) (replacings_of (all_changes p))) (map (λ (x : Replacing). new_put (replacement_of x)) (replacings_of (all_changes p))) (backups-create (replacings_of (all_changes p))) (texts-create (replacings_of (all_changes p))))
     (tt, (tt, tt))
+
+-- its text stands when it gets its name
+text-there : (p : Parts) (t : Tree) → IsSome (after_all (first_prepared p) t new_journal_path)
+text-there p t =
+    let texts = texts_put (replacings_of (all_changes p)) in
+    subst (λ (v : Tree). IsSome (v new_journal_path)) (sym (after_all-append texts (journal_files p) t))
+    (is-made (apply (Create backups_path (backups_text (map backup_of (replacings_of (all_changes p))))) (after_all texts t)) new_journal_path (journal_text (lines_of (all_changes p))))
+
+prepared-stand : (p : Parts) (t : Tree) → SourcesStand (preparing p) t
+prepared-stand p t = subst (λ (l : List Op). SourcesStand l t) (sym (prepared-shape p)) (sources-append (first_prepared p) (naming ∷ []) t (creations-stand (first_prepared p) t (first-create p)) (text-there p t, tt))
+
+journal-apart : (file : ReplacedFile) → same_path new_journal_path (place (is_plain file) (new_name (file_name file))) ≡ false
+journal-apart PhaseRoots = refl
+journal-apart Dirstate = refl
+journal-apart Bookmarks = refl
+
+-- the new texts stay where the journal gets its name
+there-named : (files : List Replacing) (t : Tree) (to : List ℕ) (file : Option (List ℕ)) → AreThere files t → AreThere files (renamed t new_journal_path to file)
+there-named files t to None h = h
+there-named [] t to (Some bytes) h = tt
+there-named (x ∷ files) t to (Some bytes) h =
+    (written (with_file t new_journal_path None) to (source_of x) bytes (gone-elsewhere (same_path new_journal_path (source_of x)) (t (source_of x)) (journal-apart x.file) h.0), there-named files t to (Some bytes) h.1)
 
 prepared-there : (p : Parts) (t : Tree) → AreThere (replacings_of (all_changes p)) (after_all (preparing p) t)
 prepared-there p t =
     let files = replacings_of (all_changes p) in
     let backups = flat_map (λ (x : Replacing). backup_put (replacement_of x) x.standing) files in
     let texts = map (λ (x : Replacing). new_put (replacement_of x)) files in
-    subst (AreThere files) (sym (after_all-append (backups ++ texts) (journal_files p) t))
+    let u = after_all (first_prepared p) t in
+    subst (AreThere files) (sym (ap (λ (l : List Op). after_all l t) (prepared-shape p) ∙ after_all-append (first_prepared p) (naming ∷ []) t))
+    (there-named files u journal_path (u new_journal_path)
+    (subst (AreThere files) (sym (after_all-append (backups ++ texts) (journal_files p) t))
     (there-through files (journal_files p) (after_all (backups ++ texts) t) (tt, (tt, tt))
-    (subst (AreThere files) (sym (after_all-append backups texts t)) (texts-there files (after_all backups t))))
+    (subst (AreThere files) (sym (after_all-append backups texts t)) (texts-there files (after_all backups t))))))
 
 removals-stand : (t : Tree) → SourcesStand (Remove journal_path ∷ removals) t
-removals-stand t = (tt, (tt, (tt, (tt, (tt, (tt, (tt, (tt, (tt, (tt, (tt, (tt, tt))))))))))))
+removals-stand t = (tt, (tt, (tt, (tt, (tt, (tt, (tt, (tt, (tt, (tt, (tt, (tt, (tt, tt)))))))))))))
 
 all-stand : (p : Parts) (t : Tree) → AreOnce (replacings_of (all_changes p)) → AreMadeFirst false (all_changes p) → SourcesStand (ops_of p) t
 all-stand p t once first =
     sources-append (before_commit p) (Remove journal_path ∷ removals) t
-    (sources-append (preparing p) (map change_op (all_changes p)) t (creations-stand (preparing p) t (prepared-create p)) (changes-stand (all_changes p) (after_all (preparing p) t) false once first none (prepared-there p t)))
+    (sources-append (preparing p) (map change_op (all_changes p)) t (prepared-stand p t) (changes-stand (all_changes p) (after_all (preparing p) t) false once first none (prepared-there p t)))
     (removals-stand (after_all (before_commit p) t))
   where
     none : {A : Type 0} → false ≡ true → A
@@ -286,7 +321,9 @@ is-planned t p plan sound h =
     let size-commit = length-append (preparing p) (map change_op (all_changes p)) in
     let size-changes = ap (λ (l : List Op). length l) changes in
     let size-behind = length-append (map change_op p.before) behind in
-    let size-prepared = length-append (texts_put (replacings_of (all_changes p))) (journal_files p) in
+    let size-first = length-append (texts_put (replacings_of (all_changes p))) (journal_files p) in
+    let size-prepared = ap (λ (l : List Op). length l) (prepared-shape p) ∙ length-append (first_prepared p) (naming ∷ []) in
+    let at-first : plan.journal ≡ length (first_prepared p) = omega (arith, h.journal, size-prepared) in
     let at-journal = h.journal in
     let at-publish = h.publish in
     let at-commit = h.commit in
@@ -294,6 +331,13 @@ is-planned t p plan sound h =
       begins = omega arith;
       journal = omega arith;
       publish = omega arith;
+      named = at-place plan.ops.items _ plan.journal naming
+          (ap (λ n. drop n plan.ops.items) at-first
+          ∙ ap (λ (l : List Op). drop (length (first_prepared p)) l)
+          (h.ops ∙ ap (λ (l : List Op). (l ++ map change_op (all_changes p)) ++ Remove journal_path ∷ removals) (prepared-shape p)
+          ∙ append_assoc (first_prepared p ++ naming ∷ []) (map change_op (all_changes p)) (Remove journal_path ∷ removals)
+          ∙ append_assoc (first_prepared p) (naming ∷ []) (map change_op (all_changes p) ++ Remove journal_path ∷ removals))
+          ∙ drop-append_seam (first_prepared p) (naming ∷ (map change_op (all_changes p) ++ Remove journal_path ∷ removals)));
       commit = ap (λ n. drop n plan.ops.items) h.commit ∙ ap (λ (l : List Op). drop (length (before_commit p)) l) h.ops ∙ drop-append_seam (before_commit p) (Remove journal_path ∷ removals);
       undo = (map undo_line (reverse (lines_of (all_changes p))) ++ undo_backups (map backup_of (replacings_of (all_changes p))) (map kept_of (replacings_of (all_changes p))), h.undo);
       publishing = change_op p.publishing;

@@ -8,7 +8,7 @@ use Rattle.hgs_machine.specs.declared.machine.Machine.{Machine}
 use Rattle.hgs_machine.specs.declared.machine.Reply.{Reply}
 use Rattle.hgs_machine.specs.declared.machine.Reply.TheVariants.{Done, Failed, Memory, Size, SizeFailed, SizeMemory}
 use Rattle.hgs_machine.specs.declared.machine.Stage.{Stage}
-use Rattle.hgs_machine.specs.declared.machine.Stage.TheVariants.{Preparing, Beginning, Working, Publishing, Asking, Finishing, Undoing, Dropping, Sweeping, Removing}
+use Rattle.hgs_machine.specs.declared.machine.Stage.TheVariants.{Preparing, Beginning, Working, Publishing, Asking, Finishing, Undoing, Sweeping, Removing}
 use Rattle.hgs_machine.specs.Asked.{Doing, Ending, Question, Sizing, op_at, asked, asks_size, asks_size_in, is_size_asked_of, op_at_hand, question_of, size_question}
 use Rattle.hgs_machine.specs.SoFar.{Blames, IsRefused, questions_left, Fits, HasNoSize, Leaves, Replies, SoFar}
 use Rattle.hgs_machine.proofs.Feeding.{passes-absent}
@@ -105,7 +105,6 @@ size-stage Working o unknown r i h n = none-fits o r i h
 size-stage Publishing o unknown r i h n = none-fits o r i h
 size-stage Finishing o unknown r i h n = none-fits o r i h
 size-stage Undoing o unknown r i h n = none-fits o r i h
-size-stage Dropping o unknown r i h n = none-fits o r i h
 size-stage Removing o unknown r i h n = none-fits o r i h
 
 -- where the size of no published file is asked for, it is that of a file to be removed

@@ -16,9 +16,9 @@ use Rattle.hgs_machine.specs.declared.ended.Short.{Short}
 use Rattle.hgs_machine.specs.declared.ended.Short.TheVariants.{Done as AllDone, Fault, Unfinished, Memory as OutOfMemory}
 use Rattle.hgs_machine.specs.declared.machine.Reply.TheVariants.{Failed}
 use Rattle.hgs_machine.specs.Asked.{stray_end}
-use Rattle.hgs_machine.specs.Course.{AreGone, IsGone, AreSome, BreaksOff, CarriedOut, Ends, HasBegun, IsCarried, IsTakenBack, before_journal, behind, between, dropped, lock_removals, removals_after, through_publishing, through_removal, to_publishing, undone, while_dropped, while_undone}
+use Rattle.hgs_machine.specs.Course.{AreGone, IsGone, AreSome, BreaksOff, CarriedOut, Ends, HasBegun, IsCarried, IsTakenBack, before_journal, behind, between, lock_removals, removals_after, through_publishing, through_removal, undone, while_undone}
 use Rattle.hgs_machine.specs.Planned.{IsPlanned}
-use Rattle.hgs_machine.specs.SoFar.{Drops, FinishesTo, Leaves, SweepsAllTo, SweepsTo, UndoesTo, WorksTo, sweep_from}
+use Rattle.hgs_machine.specs.SoFar.{FinishesTo, Leaves, SweepsAllTo, SweepsTo, UndoesTo, WorksTo, sweep_from}
 use Rattle.hgs_machine.proofs.Lists.{at-place, between-more, between-none, between-rest, between-split, drop-add, get-take, some-done, some-skipped, take-more}
 use Rattle.hgs_machine.proofs.Pieces.{done-behind, done-both, left-before-end, some-behind}
 
@@ -35,9 +35,9 @@ pub commit-within : (t : Tree) (p : Plan) → IsPlanned t p → p.commit < lengt
 commit-within t p h = slice_get_within p.ops.items p.commit (Remove journal_path) (at-commit t p h)
 
 -- how many operations a plan has
-pub so-many : (t : Tree) (p : Plan) → IsPlanned t p → length p.ops.items ≡ p.commit + 12
+pub so-many : (t : Tree) (p : Plan) → IsPlanned t p → length p.ops.items ≡ p.commit + 13
 so-many t p h =
-    let rest : length (drop p.commit p.ops.items) ≡ 12 = ap (λ (l : List Op). length l) h.commit in
+    let rest : length (drop p.commit p.ops.items) ≡ 13 = ap (λ (l : List Op). length l) h.commit in
     let size = length-drop p.commit p.ops.items in
     let within = commit-within t p h in
     omega arith
@@ -48,8 +48,8 @@ removals-behind t p h = drop-add p.ops.items p.commit 1 ∙ ap (λ (l : List Op)
 pub locks-behind : (t : Tree) (p : Plan) → IsPlanned t p → drop (stray_end p) p.ops.items ≡ lock_removals
 locks-behind t p h =
     let many = so-many t p h in
-    let place : stray_end p ≡ p.commit + 10 = omega arith in
-    ap (λ n. drop n p.ops.items) place ∙ drop-add p.ops.items p.commit 10 ∙ ap (λ (l : List Op). drop 10 l) h.commit
+    let place : stray_end p ≡ p.commit + 11 = omega arith in
+    ap (λ n. drop n p.ops.items) place ∙ drop-add p.ops.items p.commit 11 ∙ ap (λ (l : List Op). drop 11 l) h.commit
 
 pub to-commit : (t : Tree) (p : Plan) → IsPlanned t p → take (p.commit + 1) p.ops.items ≡ take p.commit p.ops.items ++ Remove journal_path ∷ []
 to-commit t p h = take-more p.ops.items p.commit (Remove journal_path) (at-commit t p h)
@@ -186,25 +186,6 @@ breaks-undoing t p place op log more planned at h failed =
     subst (BreaksOff p No) (sym (ap (λ (l : List Op). l ++ more) h.whole ∙ append_assoc h.working h.undoing more)) (while_undone h.working (h.undoing ++ more) h.op h.left left.0 left.1 h.has_begun whole)
 
 -- ---- a journal whose creation failed
-
-pub drops-first : (p : Plan) (op : Op) (log more left : List Op) → p.journal < p.publish → slice_get p.ops.items p.journal ≡ Some op → IsDone (before_journal p) log [] → IsDone (op ∷ []) more left → Drops p (log ++ more)
-drops-first p op log more left before at h part = record {
-  prepared = log;
-  begun = more;
-  front = left;
-  all_prepared = h;
-  creation =
-      subst (λ (l : List Op). IsDone l more (left ++ to_publishing p)) (sym (between-rest p.ops.items p.journal p.journal (p.publish + 1) op (omega arith) (omega arith) at ∙ ap (λ (l : List Op). l ++ op ∷ between (suc p.journal) (p.publish + 1) p.ops.items) (between-none p.journal p.ops.items) ∙ ap (λ n. op ∷ between n (p.publish + 1) p.ops.items) (sym (add-one p.journal))))
-      (done-behind (op ∷ []) (to_publishing p) more left part);
-  whole = refl;
-}
-
-pub is-dropped : (p : Plan) (log more : List Op) → Drops p log → more ≡ Remove journal_path ∷ [] → IsTakenBack p (log ++ more)
-is-dropped p log more h e =
-    subst (IsTakenBack p) (ap (λ (l : List Op). l ++ Remove journal_path ∷ []) (sym h.whole) ∙ ap (λ (l : List Op). log ++ l) (sym e)) (dropped h.prepared h.begun h.front h.all_prepared h.creation)
-
-pub breaks-dropping : (p : Plan) (log : List Op) → Drops p log → BreaksOff p No log
-breaks-dropping p log h = subst (BreaksOff p No) (sym h.whole) (while_dropped h.prepared h.begun h.front h.all_prepared h.creation)
 
 -- ---- the removals
 

@@ -12,18 +12,18 @@ use Rattle.hgs_machine.specs.declared.ended.Short.TheVariants.{Fault, Unfinished
 use Rattle.hgs_machine.specs.declared.machine.Machine.{Machine}
 use Rattle.hgs_machine.specs.declared.machine.Reply.TheVariants.{Failed}
 use Rattle.hgs_machine.specs.declared.machine.Stage.{Stage}
-use Rattle.hgs_machine.specs.declared.machine.Stage.TheVariants.{Preparing, Beginning, Working, Publishing, Asking, Finishing, Undoing, Dropping, Sweeping, Removing}
+use Rattle.hgs_machine.specs.declared.machine.Stage.TheVariants.{Preparing, Beginning, Working, Publishing, Asking, Finishing, Undoing, Sweeping, Removing}
 use Rattle.hgs_machine.specs.Asked.{Question, Doing, Sizing, Ending, asked, bytes_in, op_at}
 use Rattle.hgs_machine.specs.Course.{AreSome, CarriedOut, Ends, between, removals_after, unsure}
 use Rattle.hgs_machine.specs.Planned.{IsPlanned}
 use Rattle.hgs_machine.specs.SoFar.{IsInPart, Leaves, Replies, SoFar, SweepsTo, stops_as, sweep_from}
 use Rattle.hgs_machine.proofs.Ending.{past}
-use Rattle.hgs_machine.proofs.Feeding.{asking-not, begins-not, drops-not, gives-up, is-removal, removed-none, works-stopped}
+use Rattle.hgs_machine.proofs.Feeding.{asking-not, gives-up, gives-up-beginning, named-none, is-removal, removed-none, works-stopped}
 use Rattle.hgs_machine.proofs.Lists.{between-split}
 use Rattle.hgs_machine.proofs.Pieces.{done-in-part, done-none}
 use Rattle.hgs_machine.proofs.Publishing.{unpublished}
 use Rattle.hgs_machine.proofs.Replied.{AtHand, at-stage, is-here}
-use Rattle.hgs_machine.proofs.Stages.{breaks-behind, breaks-dropping, breaks-undoing, none-there, removals-left, take-all}
+use Rattle.hgs_machine.proofs.Stages.{breaks-behind, breaks-undoing, none-there, removals-left, take-all}
 
 none_of : (all : List Op) → AreSome all []
 none_of [] = refl
@@ -99,9 +99,6 @@ undoes-so t m log e h =
     by (inl is) less = subst (CarriedOut t m.plan (Unfinished No) false) (append-nil log) (undoing-so t m log [] e h (record { op = is.0; there = is.1; leaves = nothing-of is.0 }))
     by (inr none) less = let most = none-there m.plan.undo.items m.place none in absurd (omega arith)
 
-drops-so : (t : Tree) (m : Machine) (log : List Op) → m.stage ≡ Dropping → SoFar t m log → CarriedOut t m.plan (Unfinished No) false log
-drops-so t m log e h = let here = is-here t m Dropping log e h in ends-so t m.plan (Unfinished No) log (breaks-dropping m.plan log here.1)
-
 asks-so : (t : Tree) (m : Machine) (log : List Op) → m.stage ≡ Asking → SoFar t m log → CarriedOut t m.plan (Unfinished Unknown) false log
 asks-so t m log e h =
     let here = is-here t m Asking log e h in
@@ -158,8 +155,7 @@ stops-at t m Preparing log more e h i =
 stops-at t m Beginning log more e h i =
     let here = is-here t m Beginning log e h in
     let hand = at-hand-by t m Beginning more (planned-at t m.plan m.done h.planned (let a = h.planned.journal in let b = h.planned.publish in let c = here.0 in omega arith)) e i in
-    let next = record m { stage = Dropping; outcome = Fault } in
-    drops-so t next (log ++ more) refl (begins-not t m next log more e refl h hand)
+    ends-so t m.plan Fault (log ++ more) (gives-up-beginning t m log more e h (named-none t m Failed log more e h hand (λ op leaves. leaves)))
 stops-at t m Working log more e h i =
     let here = is-here t m Working log e h in
     let hand = at-hand-by t m Working more (planned-at t m.plan m.done h.planned (let b = h.planned.publish in let c = here.1 in omega arith)) e i in
@@ -178,11 +174,6 @@ stops-at t m Undoing log more e h i =
     let here = is-here t m Undoing log e h in
     let hand = at-hand-by t m Undoing more (λ none. let most = none-there m.plan.undo.items m.place none in let less = here.0 in absurd (omega arith)) e i in
     undoing-so t m log more e h hand
-stops-at t m Dropping log more e h i =
-    let here = is-here t m Dropping log e h in
-    let hand = at-hand-by t m Dropping more (planned-at t m.plan m.plan.commit h.planned (omega arith)) e i in
-    let next = record m { stage = Sweeping; place = sweep_from m.plan (Unfinished No); outcome = Unfinished No } in
-    sweeps-at t next (log ++ more) refl (drops-not t m next log more e refl h hand)
 stops-at t m Sweeping log more e h i = swept-by t m Sweeping (asked m) log more e refl (is-here t m Sweeping log e h) h refl i
 stops-at t m Removing log more e h i = swept-by t m Removing (asked m) log more e refl (is-here t m Removing log e h) h refl i
 

@@ -10,7 +10,7 @@ use Rattle.hgs_machine.specs.declared.machine.Machine.{Machine}
 use Rattle.hgs_machine.specs.declared.machine.Next.{Next}
 use Rattle.hgs_machine.specs.declared.machine.Next.TheVariants.{Do, Size, End}
 use Rattle.hgs_machine.specs.declared.machine.Stage.{Stage}
-use Rattle.hgs_machine.specs.declared.machine.Stage.TheVariants.{Asking, Undoing, Dropping, Sweeping, Removing}
+use Rattle.hgs_machine.specs.declared.machine.Stage.TheVariants.{Asking, Undoing, Sweeping, Removing}
 
 -- an operation, the size of a file, or nothing more
 pub data Question : Type 0 where
@@ -47,7 +47,6 @@ asks_size m op = asks_size_in m.stage (is_size_asked_of m op)
 -- the operation at a stage: of the plan, or of its list of undoing
 abbrev pub op_at : Plan → Stage → ℕ → ℕ → Option Op
 op_at p Undoing done place = slice_get p.undo.items place
-op_at p Dropping done place = slice_get p.ops.items p.commit
 op_at p Sweeping done place = slice_get p.ops.items place
 op_at p Removing done place = slice_get p.ops.items place
 op_at p _ done place = slice_get p.ops.items done

@@ -5,7 +5,6 @@ use Rattle.hgs_files.specs.declared.op.Op.{Op}
 use Rattle.hgs_files.specs.declared.op.Op.TheVariants.{Append, Remove}
 use Rattle.hgs_files.specs.Log.{IsDone, append_of_rest}
 use Rattle.hgs_files.specs.Tree.{Tree, after_all}
-use Rattle.hgs_journal.specs.Names.{journal_path}
 use Rattle.hgs_ops.specs.Operations.{lock_path, removals, wlock_path}
 use Rattle.hgs_transaction.specs.declared.assemble.Plan.{Plan}
 use Rattle.hgs_machine.specs.declared.ended.Published.{Published}
@@ -19,17 +18,13 @@ use Rattle.hgs_machine.specs.declared.ended.Short.TheVariants.{Done, Fault, Unfi
 abbrev pub between : ℕ → ℕ → List Op → List Op
 between from to ops = drop from (take to ops)
 
--- what is done before the journal's creation
+-- what is done before the journal gets its name
 abbrev pub before_journal : Plan → List Op
 before_journal p = take p.journal p.ops.items
 
--- from the journal's creation through the publishing operation
+-- from the rename that gives the journal its name through the publishing operation
 abbrev pub through_publishing : Plan → List Op
 through_publishing p = between p.journal (p.publish + 1) p.ops.items
-
--- behind the journal's creation, through the publishing operation
-abbrev pub to_publishing : Plan → List Op
-to_publishing p = between (p.journal + 1) (p.publish + 1) p.ops.items
 
 -- behind the publishing operation, through the journal's removal
 abbrev pub through_removal : Plan → List Op
@@ -64,19 +59,15 @@ pub record IsCarried (p : Plan) (log : List Op) : Type 0 where
 
 -- It was taken back, before it was published.
 pub data IsTakenBack (p : Plan) : List Op → Type 0 where
-  -- the journal's creation has not begun, so there is nothing to undo
+  -- the journal has not its name, so there is nothing to undo
   given_up : (a left : List Op) → IsDone (before_journal p) a left → IsTakenBack p a
   -- the whole list of undoing
   undone : (a b : List Op) (op : Op) (left : List Op) → HasBegun p (through_publishing p) a (op ∷ left) → IsDone p.undo.items b [] → IsTakenBack p (a ++ b)
-  -- the journal's creation failed, and it is removed alone
-  dropped : (a b front : List Op) → IsDone (before_journal p) a [] → IsDone (through_publishing p) b (front ++ to_publishing p) → IsTakenBack p (a ++ b ++ Remove journal_path ∷ [])
 
 -- It broke off.
 pub data BreaksOff (p : Plan) : Published → List Op → Type 0 where
   -- within the list of undoing
   while_undone : (a b : List Op) (op : Op) (left : List Op) (o : Op) (rest : List Op) → HasBegun p (through_publishing p) a (op ∷ left) → IsDone p.undo.items b (o ∷ rest) → BreaksOff p No (a ++ b)
-  -- at the removal of a journal whose creation failed
-  while_dropped : (a b front : List Op) → IsDone (before_journal p) a [] → IsDone (through_publishing p) b (front ++ to_publishing p) → BreaksOff p No (a ++ b)
   -- behind the publishing operation, with the journal's removal left
   behind : (a b : List Op) (o : Op) (rest : List Op) → HasBegun p (through_publishing p) a [] → IsDone (through_removal p) b (o ∷ rest) → BreaksOff p Yes (a ++ b)
   -- in the publishing append, of which a rest may be left

@@ -8,7 +8,7 @@ use Rattle.hgs_machine.specs.declared.machine.Machine.{Machine}
 use Rattle.hgs_machine.specs.declared.machine.Reply.{Reply}
 use Rattle.hgs_machine.specs.declared.machine.Reply.TheVariants.{Done, Failed, Memory, Size, SizeFailed, SizeMemory}
 use Rattle.hgs_machine.specs.declared.machine.Stage.{Stage}
-use Rattle.hgs_machine.specs.declared.machine.Stage.TheVariants.{Preparing, Beginning, Working, Publishing, Asking, Finishing, Undoing, Dropping, Sweeping, Removing}
+use Rattle.hgs_machine.specs.declared.machine.Stage.TheVariants.{Preparing, Beginning, Working, Publishing, Asking, Finishing, Undoing, Sweeping, Removing}
 use Rattle.hgs_machine.specs.Asked.{bytes_in}
 use Rattle.hgs_machine.specs.SoFar.{sweep_from}
 
@@ -89,7 +89,6 @@ fed_done Publishing m = advanced Finishing m
 fed_done Asking m = advanced Finishing m
 fed_done Finishing m = if nat_lt m.done m.plan.commit then advanced Finishing m else sweeping AllDone (advanced Finishing m)
 fed_done Undoing m = if nat_lt (m.place + 1) (length m.plan.undo.items) then record m { place = m.place + 1 } else sweeping m.outcome m
-fed_done Dropping m = sweeping m.outcome m
 fed_done Sweeping m = passed true m
 fed_done Removing m = passed true m
 
@@ -100,13 +99,12 @@ unpublished bytes m = if nat_lt 0 bytes then record m { stage = Asking; outcome 
 -- it failed
 abbrev pub fed_failed : Stage → Machine → Machine
 fed_failed Preparing m = sweeping Fault m
-fed_failed Beginning m = record m { stage = Dropping; outcome = Fault }
+fed_failed Beginning m = sweeping Fault m
 fed_failed Working m = undoing Fault m
 fed_failed Asking m = undoing Fault m
 fed_failed Publishing m = unpublished (bytes_in (slice_get m.plan.ops.items m.done)) m
 fed_failed Finishing m = sweeping (Unfinished Yes) m
 fed_failed Undoing m = sweeping (Unfinished No) m
-fed_failed Dropping m = sweeping (Unfinished No) m
 fed_failed Sweeping m = passed false m
 fed_failed Removing m = passed false m
 
@@ -119,7 +117,6 @@ fed_denied Publishing m = undoing OutOfMemory m
 fed_denied Asking m = undoing OutOfMemory m
 fed_denied Finishing m = sweeping (Unfinished Yes) m
 fed_denied Undoing m = sweeping (Unfinished No) m
-fed_denied Dropping m = sweeping (Unfinished No) m
 fed_denied Sweeping m = passed false m
 fed_denied Removing m = passed false m
 

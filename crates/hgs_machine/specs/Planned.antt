@@ -3,7 +3,7 @@ use Rattle.std.specs.Prelude.{◌≡◌, ℕ, ◌<◌, List, [], ◌∷◌, ◌+
 use Rattle.hgs_files.specs.declared.op.Op.{Op}
 use Rattle.hgs_files.specs.declared.op.Op.TheVariants.{Append, Rename, Remove}
 use Rattle.hgs_files.specs.Tree.{Tree, after_all, apply, bytes_at}
-use Rattle.hgs_journal.specs.Names.{journal_path}
+use Rattle.hgs_journal.specs.Names.{journal_path, new_journal_path}
 use Rattle.hgs_ops.specs.Operations.{removals}
 use Rattle.hgs_transaction.specs.declared.assemble.Plan.{Plan}
 
@@ -23,13 +23,14 @@ Publishes t before (Append path bytes) = (0 < length bytes) × (length (bytes_at
 Publishes t before (Rename from to) = Unit {0}
 Publishes t before _ = ⊥
 
--- A plan that can be carried out from this tree: its places are in order, the journal's removal and the removals behind it stand
+-- A plan that can be carried out from this tree: its places are in order, at the journal's place it gets its name, the journal's removal and the removals behind it stand
 -- at its end, and in its list of undoing the journal's removal; the files that it renames stand when they come, also where it is
 -- undone from anywhere; and the file that its publishing operation appends to is as long as it says.
 pub record IsPlanned (t : Tree) (p : Plan) : Type 0 where
   pub begins : 0 < p.journal
   pub journal : p.journal < p.publish
   pub publish : p.publish < p.commit
+  pub named : slice_get p.ops.items p.journal ≡ Some (Rename new_journal_path journal_path)
   pub commit : drop p.commit p.ops.items ≡ Remove journal_path ∷ removals
   pub undo : (front : List Op) × (p.undo.items ≡ front ++ Remove journal_path ∷ [])
   pub publishing : Op

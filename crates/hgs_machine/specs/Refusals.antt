@@ -12,7 +12,7 @@ use Rattle.hgs_machine.specs.declared.machine.Machine.{Machine}
 use Rattle.hgs_machine.specs.declared.machine.Reply.{Reply}
 use Rattle.hgs_machine.specs.declared.machine.Reply.TheVariants.{Done, Size}
 use Rattle.hgs_machine.specs.declared.machine.Stage.{Stage}
-use Rattle.hgs_machine.specs.declared.machine.Stage.TheVariants.{Asking, Undoing, Dropping}
+use Rattle.hgs_machine.specs.declared.machine.Stage.TheVariants.{Asking, Undoing}
 
 -- So many calls were refused since the old counts, or more: each failed or found no memory, and was counted.
 pub record WereRefused (calls faults_old faults_new denied_old denied_new : ℕ) : Type 0 where
@@ -45,7 +45,6 @@ refusals_of_ended outcome swept = refusals_of_short outcome + refusals_of_left s
 abbrev pub refusals_at : Stage → Short → ℕ
 refusals_at Asking outcome = max 1 (refusals_of_short outcome)
 refusals_at Undoing outcome = max 1 (refusals_of_short outcome)
-refusals_at Dropping outcome = max 1 (refusals_of_short outcome)
 refusals_at _ outcome = refusals_of_short outcome
 
 abbrev pub refusals_so_far : Machine → ℕ

@@ -15,14 +15,14 @@ use Rattle.hgs_machine.specs.declared.machine.Machine.{Machine}
 use Rattle.hgs_machine.specs.declared.machine.Reply.{Reply}
 use Rattle.hgs_machine.specs.declared.machine.Reply.TheVariants.{Done, Failed, Memory, Size, SizeFailed, SizeMemory}
 use Rattle.hgs_machine.specs.declared.machine.Stage.{Stage}
-use Rattle.hgs_machine.specs.declared.machine.Stage.TheVariants.{Preparing, Beginning, Working, Publishing, Asking, Finishing, Undoing, Dropping, Sweeping, Removing}
+use Rattle.hgs_machine.specs.declared.machine.Stage.TheVariants.{Preparing, Beginning, Working, Publishing, Asking, Finishing, Undoing, Sweeping, Removing}
 use Rattle.hgs_machine.specs.Asked.{Question, Doing, Sizing, Ending, asked, bytes_in, stray_end}
-use Rattle.hgs_machine.specs.Course.{AreGone, AreSome, CarriedOut, Ends, HasBegun, before_journal, between, through_publishing, to_publishing}
+use Rattle.hgs_machine.specs.Course.{AreGone, AreSome, CarriedOut, Ends, HasBegun, before_journal, between, through_publishing}
 use Rattle.hgs_machine.specs.Planned.{IsPlanned}
 
 -- ---- stages
 
--- all before the journal is done, and of the operations from its creation on those up to this place, at least one
+-- all before the journal is done, and of the operations from its rename on those up to this place, at least one
 abbrev pub WorksTo : Plan → ℕ → List Op → Type 0
 WorksTo p done log = HasBegun p (between p.journal done p.ops.items) log []
 
@@ -51,15 +51,6 @@ pub record UndoesTo (p : Plan) (place : ℕ) (log : List Op) : Type 0 where
   pub has_begun : HasBegun p (through_publishing p) working (op ∷ left)
   pub undone : IsDone (take place p.undo.items) undoing []
   pub whole : log ≡ working ++ undoing
-
--- The journal's creation failed.
-pub record Drops (p : Plan) (log : List Op) : Type 0 where
-  pub prepared : List Op
-  pub begun : List Op
-  pub front : List Op
-  pub all_prepared : IsDone (before_journal p) prepared []
-  pub creation : IsDone (through_publishing p) begun (front ++ to_publishing p)
-  pub whole : log ≡ prepared ++ begun
 
 -- the place of the first removal behind a transaction that ended so
 abbrev pub sweep_from : Plan → Short → ℕ
@@ -93,7 +84,6 @@ IsAt t p Publishing done place outcome log = (done ≡ p.publish) × WorksTo p p
 IsAt t p Asking done place outcome log = (done ≡ p.publish) × IsRefusal outcome × StandsInPart t p log
 IsAt t p Finishing done place outcome log = (p.publish < done) × (done ≤ p.commit) × FinishesTo p done log
 IsAt t p Undoing done place outcome log = (place < length p.undo.items) × IsRefusal outcome × UndoesTo p place log
-IsAt t p Dropping done place outcome log = IsRefusal outcome × Drops p log
 IsAt t p Sweeping done place outcome log = SweepsTo p place outcome log
 IsAt t p Removing done place outcome log = SweepsTo p place outcome log
 
@@ -185,7 +175,6 @@ pub record Blames (old : Machine) (reply : Reply) (new : Machine) : Type 0 where
 abbrev pub left_at : Plan → Stage → ℕ → ℕ → ℕ
 left_at p Asking done place = 2 * (length p.ops.items - done) + length p.undo.items + 2 * length p.ops.items
 left_at p Undoing done place = (length p.undo.items - place) + 2 * length p.ops.items
-left_at p Dropping done place = 2 * length p.ops.items + 1
 left_at p Sweeping done place = 2 * (length p.ops.items - place)
 left_at p Removing done place = 2 * (length p.ops.items - place) - 1
 left_at p _ done place = 2 * (length p.ops.items - done) + length p.undo.items + 2 * length p.ops.items + 1
@@ -205,6 +194,7 @@ IsInPart _ more = more ≡ []
 -- append stands in part that is not known.
 abbrev pub stops_as : Stage → ℕ → Short → Short
 stops_as Preparing bytes outcome = Fault
+stops_as Beginning bytes outcome = Fault
 stops_as Publishing bytes outcome = if nat_lt 0 bytes then Unfinished Unknown else Unfinished No
 stops_as Asking bytes outcome = Unfinished Unknown
 stops_as Finishing bytes outcome = Unfinished Yes

@@ -48,7 +48,7 @@ pub enum Reply {
 enum Stage {
     /// Before its journal.
     Preparing,
-    /// At the creation of its journal.
+    /// At the rename that gives its journal the name.
     Beginning,
     /// Behind that, and before its publishing operation.
     Working,
@@ -60,8 +60,6 @@ enum Stage {
     Finishing,
     /// It is taken back.
     Undoing,
-    /// The creation of its journal failed: that alone is taken back.
-    Dropping,
     /// The removals behind it.
     Sweeping,
     /// At the removal of a file that stands.
@@ -213,7 +211,6 @@ impl Machine {
     {
         match self.stage {
             Stage::Undoing => self.plan.undo.get(self.place),
-            Stage::Dropping => self.plan.ops.get(self.plan.commit as usize),
             Stage::Sweeping | Stage::Removing => self.plan.ops.get(self.place),
             _ => self.plan.ops.get(self.done),
         }
@@ -283,7 +280,7 @@ impl Machine {
         }
     }
 
-    /// The stage behind the operation at hand, from the journal's creation on.
+    /// The stage behind the operation at hand, from the journal's rename on.
     fn after_working(&self) -> Stage
         requires { self.now.done < length self.now.plan.ops.items }
         ensures { result ≡ (if self.now.done + 1 == self.now.plan.publish then Stage.Publishing else Stage.Working) }
@@ -329,14 +326,6 @@ impl Machine {
             Some(Op::Append { bytes, .. }) => bytes.len() as u64,
             _ => 0,
         }
-    }
-
-    /// Takes back a journal whose creation failed.
-    fn drop_journal(&mut self)
-        ensures { self.new ≡ record self.old { stage = Stage.Dropping; outcome = Short.Fault } }
-    {
-        self.outcome = Short::Fault;
-        self.stage = Stage::Dropping;
     }
 
     /// The publishing operation failed. An append may stand in part, or whole.
@@ -408,7 +397,6 @@ impl Machine {
             Stage::Publishing | Stage::Asking => self.advance(Stage::Finishing),
             Stage::Finishing => self.finished(),
             Stage::Undoing => self.undone(),
-            Stage::Dropping => self.sweep(self.outcome),
             Stage::Sweeping | Stage::Removing => self.pass(true),
         }
     }
@@ -423,12 +411,11 @@ impl Machine {
         ensures exact { self.new ≡ fed self.old Reply.Failed }
     {
         match self.stage {
-            Stage::Preparing => self.sweep(Short::Fault),
-            Stage::Beginning => self.drop_journal(),
+            Stage::Preparing | Stage::Beginning => self.sweep(Short::Fault),
             Stage::Working | Stage::Asking => self.undo(Short::Fault),
             Stage::Publishing => self.unpublished(),
             Stage::Finishing => self.sweep(Short::Unfinished(Published::Yes)),
-            Stage::Undoing | Stage::Dropping => self.sweep(Short::Unfinished(Published::No)),
+            Stage::Undoing => self.sweep(Short::Unfinished(Published::No)),
             Stage::Sweeping | Stage::Removing => self.pass(false),
         }
     }
@@ -446,7 +433,7 @@ impl Machine {
             Stage::Preparing | Stage::Beginning => self.sweep(Short::Memory),
             Stage::Working | Stage::Publishing | Stage::Asking => self.undo(Short::Memory),
             Stage::Finishing => self.sweep(Short::Unfinished(Published::Yes)),
-            Stage::Undoing | Stage::Dropping => self.sweep(Short::Unfinished(Published::No)),
+            Stage::Undoing => self.sweep(Short::Unfinished(Published::No)),
             Stage::Sweeping | Stage::Removing => self.pass(false),
         }
     }

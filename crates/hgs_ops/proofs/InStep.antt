@@ -8,14 +8,15 @@ use Rattle.hgs_files.specs.declared.op.Op.TheVariants.{Append, Cut, Rename, Remo
 use Rattle.hgs_files.specs.Tree.{Tree, after_all, apply, renamed, same_path}
 use Rattle.hgs_files.specs.Theorems.TreeLemmas.{after_all-append, with_file-same}
 use Rattle.hgs_journal.specs.Covers.{is_loose, no_repeat}
-use Rattle.hgs_journal.specs.Names.{backups_path, journal_path, new_name, place}
+use Rattle.hgs_journal.specs.Names.{backups_path, journal_path, new_name, place, new_journal_path}
 use Rattle.hgs_journal.specs.Texts.{backups_text}
 use Rattle.hgs_ops.specs.Operations.{lock_path, strays, preparations, wlock_path}
 use Rattle.hgs_ops.specs.Replaced.{Replacement, backup_line_of, backup_put, new_put, standing_file}
-use Rattle.hgs_ops.specs.Theorems.Touch.{and-left, and-right, apply-other, at, or-both, or-left, or-right, same-sym, touched, untouched}
+use Rattle.hgs_ops.specs.Theorems.Touch.{and-left, and-right, apply-other, at, or-both, or-left, or-right, same-sym, touched, untouched, bool, never}
 use Rattle.hgs_ops.proofs.JournalLemmas.{IsOneFile, place_of_file, prep-stays}
 use Rattle.hgs_ops.proofs.SmallFiles.{IsOne, is-one}
 use Rattle.hgs_ops.proofs.SmallFiles.IsOne.{phaseroots, dirstate, bookmarks}
+use Rattle.hgs_bytes.specs.Theorems.ByteLemmas.{same-eq}
 
 -- what an operation reads is the same in both
 abbrev pub ReadsAlike : Op → Tree → Tree → Type 0
@@ -122,6 +123,11 @@ journal-new p x phaseroots = refl
 journal-new p x dirstate = refl
 journal-new p x bookmarks = refl
 
+first-new : (p : Bool) (x : List ℕ) → IsOne p x → same new_journal_path (place p (new_name x)) ≡ false
+first-new p x phaseroots = refl
+first-new p x dirstate = refl
+first-new p x bookmarks = refl
+
 pub list-new : (p : Bool) (x : List ℕ) → IsOne p x → same backups_path (place p (new_name x)) ≡ false
 list-new p x phaseroots = refl
 list-new p x dirstate = refl
@@ -134,20 +140,27 @@ all-turned P Q (x ∷ xs) f ones all = (f x ones.0 all.0, all-turned P Q xs f on
 -- ---- the tree once the journal stands
 
 module _ (t : Tree) (who : List ℕ) (files : List Replacement) (ones : AllByRecursion IsOneFile files) (once : no_repeat (map place_of_file files) ≡ true) (text : List ℕ) where
-  -- the journal was created
+  -- the journal got its name
   abbrev pub created : Tree
-  created = apply (Create journal_path text) (after_all (preparations t who files (map (backup_line_of t) files)) t)
+  created = apply (Rename new_journal_path journal_path) (after_all (preparations t who files (map (backup_line_of t) files) text) t)
 
   pub created-stays : (q : List ℕ) → is_loose strays q ≡ false → same q journal_path ≡ false → created q ≡ t q
   created-stays q l j =
-      apply-other (Create journal_path text) (after_all (preparations t who files (map (backup_line_of t) files)) t) q (same-sym q journal_path j)
-      ∙ prep-stays t who files ones once q (or-both _ _ l j)
+      apply-other (Rename new_journal_path journal_path) (after_all (preparations t who files (map (backup_line_of t) files) text) t) q (or-both _ _ (not-new q l) (same-sym q journal_path j))
+      ∙ prep-stays t who files ones once text q (or-both _ _ l j)
+    where
+      not-new : (p : List ℕ) → is_loose strays p ≡ false → same new_journal_path p ≡ false
+      not-new p free = elim (bool (same new_journal_path p)) [
+        | inl e ↦ never (ap (is_loose strays) (same-eq new_journal_path p e) ∙ free)
+        | inr e ↦ e
+      ]
 
   pub created-new : AllByRecursion (StandsNew created) files
   created-new = all-turned (StandsNew (after_all (map new_put files) (after_all lead t))) (StandsNew created) files (λ x one h.
       let path = place x.plain (new_name x.file) in
-      apply-other (Create journal_path text) (after_all (preparations t who files (map (backup_line_of t) files)) t) path (journal-new x.plain x.file (is-one x.plain x.file one))
-      ∙ ap (λ (v : Tree). v path) (after_all-append (lead ++ map new_put files) (Create backups_path (backups_text (map (backup_line_of t) files)) ∷ []) t)
+      apply-other (Rename new_journal_path journal_path) (after_all (preparations t who files (map (backup_line_of t) files) text) t) path (or-both _ _ (first-new x.plain x.file (is-one x.plain x.file one)) (journal-new x.plain x.file (is-one x.plain x.file one)))
+      ∙ ap (λ (v : Tree). v path) (after_all-append (lead ++ map new_put files) (Create backups_path (backups_text (map (backup_line_of t) files)) ∷ Create new_journal_path text ∷ []) t)
+      ∙ apply-other (Create new_journal_path text) (apply (Create backups_path (backups_text (map (backup_line_of t) files))) (after_all (lead ++ map new_put files) t)) path (first-new x.plain x.file (is-one x.plain x.file one))
       ∙ apply-other (Create backups_path (backups_text (map (backup_line_of t) files))) (after_all (lead ++ map new_put files) t) path (list-new x.plain x.file (is-one x.plain x.file one))
       ∙ ap (λ (v : Tree). v path) (after_all-append lead (map new_put files) t) ∙ h) ones (news-in files (after_all lead t) ones once)
     where

@@ -12,14 +12,15 @@ use Rattle.hgs_files.specs.Theorems.TreeLemmas.{after_all-append, with_file-same
 use Rattle.hgs_journal.specs.declared.backups.BackupLine.{BackupLine}
 use Rattle.hgs_journal.specs.Begun.{HasOffset}
 use Rattle.hgs_journal.specs.Covers.{KeepsBackup, backup_places, is_loose, journal_paths, no_repeat}
-use Rattle.hgs_journal.specs.Names.{backup_name, backups_path, in_store, is_replaced, journal_path, new_name, place}
+use Rattle.hgs_journal.specs.Names.{backup_name, backups_path, in_store, is_replaced, journal_path, new_name, place, new_journal_path}
 use Rattle.hgs_journal.specs.Texts.{IsJournalLine, backups_text}
 use Rattle.hgs_stands.specs.Places.{bookmarks_path, dirstate_path, roots_path}
 use Rattle.hgs_ops.specs.Operations.{journal_lines, lock_path, preparations, strays, wlock_path}
 use Rattle.hgs_ops.specs.Replaced.{Replacement, backup_line_of, backup_put, new_put, standing_file}
-use Rattle.hgs_ops.proofs.SmallFiles.{apart, backups-apart, is-one, list-apart, names-loose, new-backup}
+use Rattle.hgs_ops.proofs.SmallFiles.{apart, backups-apart, is-one, list-apart, names-loose, new-backup, IsOne}
 use Rattle.hgs_ops.specs.Theorems.Touch.{and-both, and-left, and-right, apply-other, or-both, or-left, or-right, same-sym, touched, touched-append, touched-within, untouched, within}
 use Rattle.hgs_ops.specs.Theorems.CommitTree.{IsSmall, preparations-within}
+use Rattle.hgs_ops.proofs.SmallFiles.IsOne.{phaseroots, dirstate, bookmarks}
 
 -- ---- what is known of the operations
 
@@ -175,21 +176,26 @@ keeps t u x h = by (standing_file t x) refl
     by None e = inr (refl, e)
     by (Some b) e = inl (refl, b, h b e, e)
 
+journal-apart : (p : Bool) (x : List ℕ) → IsOne p x → same new_journal_path (place p (backup_name x)) ≡ false
+journal-apart p x phaseroots = refl
+journal-apart p x dirstate = refl
+journal-apart p x bookmarks = refl
+
 -- ---- the whole of the preparations
 
-module _ (t : Tree) (who : List ℕ) (files : List Replacement) (ones : AllByRecursion IsOneFile files) (once : no_repeat (map place_of_file files) ≡ true) where
+module _ (t : Tree) (who : List ℕ) (files : List Replacement) (ones : AllByRecursion IsOneFile files) (once : no_repeat (map place_of_file files) ≡ true) (text : List ℕ) where
   abbrev backups : List BackupLine
   backups = map (backup_line_of t) files
 
   abbrev prep : List Op
-  prep = preparations t who files backups
+  prep = preparations t who files backups text
 
   small-own : (xs : List Replacement) → AllByRecursion IsOneFile xs → AllByRecursion (IsSmall (is_loose strays)) xs
   small-own [] all = tt
   small-own (x ∷ xs) all = (names-loose x.plain x.file (is-one x.plain x.file all.0), small-own xs all.1)
 
   pub prep-loose : list_all (within (is_loose strays)) prep ≡ true
-  prep-loose = preparations-within (is_loose strays) t who files backups refl refl refl (small-own files ones)
+  prep-loose = preparations-within (is_loose strays) t who files backups text refl refl refl refl (small-own files ones)
 
   pub prep-stays : (path : List ℕ) → (is_loose strays path || same path journal_path) ≡ false → after_all prep t path ≡ t path
   prep-stays path e = untouched prep t path (touched-within (is_loose strays) prep path prep-loose (or-left _ _ e))
@@ -199,7 +205,8 @@ module _ (t : Tree) (who : List ℕ) (files : List Replacement) (ones : AllByRec
 
   backup-laid : (x : Replacement) → IsOneFile x → Stands_as t (after_all lead_ops t) x → Stands_as t (after_all prep t) x
   backup-laid x one h b e =
-      ap (λ (w : Tree). w (backup_place x)) (after_all-append (lead_ops ++ map new_put files) (Create backups_path (backups_text backups) ∷ []) t)
+      ap (λ (w : Tree). w (backup_place x)) (after_all-append (lead_ops ++ map new_put files) (Create backups_path (backups_text backups) ∷ Create new_journal_path text ∷ []) t)
+      ∙ apply-other (Create new_journal_path text) (apply (Create backups_path (backups_text backups)) (after_all (lead_ops ++ map new_put files) t)) (backup_place x) (journal-apart x.plain x.file (is-one x.plain x.file one))
       ∙ apply-other (Create backups_path (backups_text backups)) (after_all (lead_ops ++ map new_put files) t) (backup_place x) (list-apart x.plain x.file (is-one x.plain x.file one))
       ∙ ap (λ (w : Tree). w (backup_place x)) (after_all-append lead_ops (map new_put files) t)
       ∙ untouched (map new_put files) (after_all lead_ops t) (backup_place x) (news-apart x files one ones)
@@ -214,5 +221,11 @@ module _ (t : Tree) (who : List ℕ) (files : List Replacement) (ones : AllByRec
 
   pub list-stands : after_all prep t backups_path ≡ Some (backups_text backups)
   list-stands =
-      ap (λ (w : Tree). w backups_path) (after_all-append (lead_ops ++ map new_put files) (Create backups_path (backups_text backups) ∷ []) t)
+      ap (λ (w : Tree). w backups_path) (after_all-append (lead_ops ++ map new_put files) (Create backups_path (backups_text backups) ∷ Create new_journal_path text ∷ []) t)
+      ∙ apply-other (Create new_journal_path text) (apply (Create backups_path (backups_text backups)) (after_all (lead_ops ++ map new_put files) t)) backups_path refl
       ∙ with_file-same (after_all (lead_ops ++ map new_put files) t) backups_path (Some (backups_text backups))
+
+  pub text-stands : after_all prep t new_journal_path ≡ Some text
+  text-stands =
+      ap (λ (w : Tree). w new_journal_path) (after_all-append (lead_ops ++ map new_put files) (Create backups_path (backups_text backups) ∷ Create new_journal_path text ∷ []) t)
+      ∙ with_file-same (apply (Create backups_path (backups_text backups)) (after_all (lead_ops ++ map new_put files) t)) new_journal_path (Some text)

@@ -9,7 +9,7 @@ use Rattle.hgs_files.specs.declared.op.Op.TheVariants.{Append, Create, Remove, R
 use Rattle.hgs_files.specs.Tree.{Tree, after_all, apply, renamed, with_file}
 use Rattle.hgs_files.specs.Theorems.TreeLemmas.{after_all-append}
 use Rattle.hgs_journal.specs.Covers.{is_loose}
-use Rattle.hgs_journal.specs.Names.{journal_path, new_name, place}
+use Rattle.hgs_journal.specs.Names.{journal_path, new_name, place, new_journal_path}
 use Rattle.hgs_journal.specs.Texts.{journal_text}
 use Rattle.hgs_model.specs.Repo.{Repo}
 use Rattle.hgs_model.specs.Theorems.ListLemmas.{all-join}
@@ -20,7 +20,7 @@ use Rattle.hgs_ops.specs.Growth.{growth, new_changelog_entry}
 use Rattle.hgs_ops.specs.Laid.{laid, put_whole}
 use Rattle.hgs_ops.specs.Operations.{backups_of, journal_of, operations, preparations, removals, strays, transaction_of}
 use Rattle.hgs_ops.specs.Replaced.{Replacement, dirstate_with, marks_with, new_bookmarks, new_dirstate, new_rename, new_roots, only_if, roots_change, roots_of, roots_with}
-use Rattle.hgs_ops.specs.Theorems.Beside.{AreSameAside, entry-same, fewer, growth-same}
+use Rattle.hgs_ops.specs.Theorems.Beside.{AreSameAside, entry-same, growth-same}
 use Rattle.hgs_ops.specs.Theorems.Clear.{IsAppend, growth-clear}
 use Rattle.hgs_ops.specs.Theorems.CommitLemmas.{growth-quiet}
 use Rattle.hgs_journal.specs.Covers.{no_repeat}
@@ -36,7 +36,7 @@ Kept q = (is_loose strays q ≡ false) × (same q journal_path ≡ false)
 
 appends-read : (xs : List Op) → AllByRecursion IsAppend xs → AllByRecursion (Reads Kept) xs
 appends-read [] all = tt
-appends-read (Append path bytes ∷ xs) all = ((fewer path (or-left _ (same path journal_path) all.0.0), or-right _ (same path journal_path) all.0.0), appends-read xs all.1)
+appends-read (Append path bytes ∷ xs) all = ((or-left _ (same path journal_path) all.0.0, or-right _ (same path journal_path) all.0.0), appends-read xs all.1)
 appends-read (Rename from to ∷ xs) all = absurd all.0
 appends-read (Remove path ∷ xs) all = absurd all.0
 appends-read (Create path bytes ∷ xs) all = absurd all.0
@@ -160,8 +160,8 @@ module _ (t : Tree) (r next : Repo) (n : NewChange) (who : List ℕ) where
 
   whole : after_all (operations (transaction_of t r (Commit n) who next)) t ≡ after_all end (after_all second (apply entry (after_all first (after_all (growth t r next) opened))))
   whole =
-      let prep = preparations t who files (backups_of t r (Commit n) next) in
-      let changes = Create journal_path text ∷ (growth t r next ++ first) in
+      let prep = preparations t who files (backups_of t r (Commit n) next) text in
+      let changes = Rename new_journal_path journal_path ∷ (growth t r next ++ first) in
       ap (λ l. after_all l t) listed
       ∙ after_all-append ((prep ++ changes) ++ (entry ∷ second)) end t
       ∙ ap (after_all end)
@@ -198,7 +198,7 @@ lays-alike (_ ∷ ops) v w all a = absurd all.0
 
 appends-lay : (xs : List Op) → AllByRecursion IsAppend xs → AllByRecursion Lays xs
 appends-lay [] all = tt
-appends-lay (Append path bytes ∷ xs) all = (fewer path (or-left _ (same path journal_path) all.0.0), appends-lay xs all.1)
+appends-lay (Append path bytes ∷ xs) all = (or-left _ (same path journal_path) all.0.0, appends-lay xs all.1)
 appends-lay (Rename from to ∷ xs) all = absurd all.0
 appends-lay (Remove path ∷ xs) all = absurd all.0
 appends-lay (Create path bytes ∷ xs) all = absurd all.0

@@ -1,7 +1,7 @@
 -- One transaction, in parts: wherever it is stopped the tree stands for one of its two repositories, or can be taken back to
 -- the first, and undoing it leads there.
 use Rattle.std.proofs.Common.{◌≡◌, ◌⊎◌, ℕ, List, [], ◌∷◌, ◌++◌, Bool, true, false, cond, ◌||◌, not, map, drop, refl, sym, ◌∙◌, ap, subst, inl, inr, append_assoc}
-use Rattle.std.specs.Prelude.{Some, is_some, length, unwrap_or}
+use Rattle.std.specs.Prelude.{is_some, length, unwrap_or}
 use Rattle.std.specs.List.{AllByRecursion, list_any}
 use Rattle.std.proofs.lemmas.List.Elements.{filter_map-append}
 use Rattle.hgs_bytes.specs.Bytes.{same, among}
@@ -16,8 +16,8 @@ use Rattle.hgs_files.specs.Theorems.TreeLemmas.{after_all-append}
 use Rattle.hgs_journal.specs.declared.backups.BackupLine.{BackupLine}
 use Rattle.hgs_journal.specs.declared.journal.JournalLine.{JournalLine}
 use Rattle.hgs_journal.specs.Begun.{HasOffset, IsAllowed, IsPrepared, LeadsBack, bytes_before, is_free}
-use Rattle.hgs_journal.specs.Covers.{Covers, Restores, undo_ops, is_loose, journal_paths, no_repeat}
-use Rattle.hgs_journal.specs.Names.{backup_name, in_store, journal_path, place}
+use Rattle.hgs_journal.specs.Covers.{Restores, undo_ops, is_loose, journal_paths, no_repeat}
+use Rattle.hgs_journal.specs.Names.{backup_name, in_store, journal_path, place, new_journal_path}
 use Rattle.hgs_journal.specs.Texts.{IsJournalLine, journal_text}
 use Rattle.hgs_journal.specs.Undo.{undo_list}
 use Rattle.hgs_model.specs.Repo.{Repo}
@@ -29,12 +29,12 @@ use Rattle.hgs_ops.specs.Replaced.{Replacement, backup_line_of, standing_file}
 use Rattle.hgs_ops.specs.Stops.{IsBetween}
 use Rattle.hgs_ops.proofs.Below.{Below}
 use Rattle.hgs_ops.proofs.ImportParts.{ComesTo}
-use Rattle.hgs_ops.proofs.JournalLemmas.{IsGood, IsOneFile, backups-kept, list-stands, offsets, or-true, paths-fail, place_of_file, places-same, prep-loose, prep-stays, replaced-all, small-unnamed, small_paths}
+use Rattle.hgs_ops.proofs.JournalLemmas.{IsGood, IsOneFile, backups-kept, list-stands, offsets, or-true, paths-fail, place_of_file, places-same, prep-loose, prep-stays, replaced-all, small-unnamed, small_paths, text-stands}
 use Rattle.hgs_ops.proofs.Parts.{done-split, done-within}
 use Rattle.hgs_ops.specs.Theorems.Replace.{gone-none}
 use Rattle.hgs_ops.proofs.SmallFiles.{IsOne, is-one}
 use Rattle.hgs_ops.proofs.SmallFiles.IsOne.{phaseroots, dirstate, bookmarks}
-use Rattle.hgs_ops.specs.Theorems.Touch.{away, bool, bytes-same, never, or-both, touched-within, untouched}
+use Rattle.hgs_ops.specs.Theorems.Touch.{bool, bytes-same, never, or-both, touched-within, untouched, apply-other}
 
 -- What the laws of a journal ask of a transaction, whose journal names what is appended to in some operations: what is done of
 -- it comes to appends to paths that a journal may name, and renames of new texts to the files that it replaces, each once,
@@ -97,17 +97,17 @@ module _ (below : Below) (t : Tree) (who : List ℕ) (files : List Replacement) 
   abbrev list : List BackupLine
   list = map (backup_line_of t) files
 
-  abbrev prep : List Op
-  prep = preparations t who files list
-
   abbrev text : List ℕ
   text = journal_text lines
+
+  abbrev prep : List Op
+  prep = preparations t who files list text
 
   abbrev t0 : Tree
   t0 = after_all prep t
 
   abbrev t1 : Tree
-  t1 = apply (Create journal_path text) t0
+  t1 = apply (Rename new_journal_path journal_path) t0
 
   abbrev undo : List Op
   undo = undo_list lines list (old_bytes t files)
@@ -125,11 +125,12 @@ module _ (below : Below) (t : Tree) (who : List ℕ) (files : List Replacement) 
     offsets = subst (AllByRecursion (HasOffset t)) plan.lines (offsets t files plan.ops plan.good);
     apart = ap (λ l. list_any (λ path. is_loose strays path || same path journal_path) (journal_paths l)) (sym plan.lines) ∙ paths-fail t files (λ path. is_loose strays path || same path journal_path) plan.ops (λ path g. g.kept) plan.good;
     unnamed = ap (list_any (λ path. among path (journal_paths lines))) (places-same t files) ∙ none-named files plan.ones;
-    list_stands = list-stands t who files plan.ones plan.once;
+    text_stands = text-stands t who files plan.ones plan.once text;
+    list_stands = list-stands t who files plan.ones plan.once text;
     replaced = replaced-all t files plan.ones;
     once = ap no_repeat (places-same t files) ∙ plan.once;
-    kept = backups-kept t who files plan.ones plan.once;
-    others = prep-stays t who files plan.ones plan.once;
+    kept = backups-kept t who files plan.ones plan.once text;
+    others = prep-stays t who files plan.ones plan.once text;
     undone = s.no_journal;
   }
 
@@ -148,10 +149,10 @@ module _ (below : Below) (t : Tree) (who : List ℕ) (files : List Replacement) 
   -- whatever part is done behind the whole journal, the tree leads back
   pub changes-lead-back : (done left : List Op) → IsDone all_ops done left → LeadsBack strays lines list (after_all done t1) t
   changes-lead-back done left h =
-      let index : bytes_at t1 changelog_index ≡ bytes_at t changelog_index = bytes-same t t1 changelog_index (away t0 journal_path changelog_index (Some text) refl ∙ prep-stays t who files plan.ones plan.once changelog_index refl) in
+      let index : bytes_at t1 changelog_index ≡ bytes_at t changelog_index = bytes-same t t1 changelog_index (apply-other (Rename new_journal_path journal_path) t0 changelog_index refl ∙ prep-stays t who files plan.ones plan.once text changelog_index refl) in
       let d = plan.comes t1 index done left h in
       below.free strays (after_all d.other t1) (after_all done t1) t lines list
-      (below.changed strays t1 t lines list plan.ops d.other d.rest refl (below.whole strays lines list t0 t refl ready) (allowed-of plan.ops plan.good (λ path e. ap (λ l. among path (journal_paths l)) (sym plan.lines) ∙ e)) d.is_done)
+      (below.changed strays t1 t lines list plan.ops d.other d.rest refl (below.named strays lines list t0 t refl ready) (allowed-of plan.ops plan.good (λ path e. ap (λ l. among path (journal_paths l)) (sym plan.lines) ∙ e)) d.is_done)
       (λ p bound. d.agree p (not-new p bound))
     where
       -- what undoing needs is not the new index
@@ -167,16 +168,7 @@ module _ (below : Below) (t : Tree) (who : List ℕ) (files : List Replacement) 
   -- before the journal the tree stands for the repository
   pub before-stands : (done left : List Op) → IsDone prep done left → Stands (after_all done t) r
   before-stands done left h =
-      below.loose strays t (after_all done t) r refl (λ path free. untouched done t path (touched-within (is_loose strays) done path (done-within (is_loose strays) prep done left h (prep-loose t who files plan.ones plan.once)) free)) s
-
-  -- a journal that was begun makes the tree open
-  pub created-open : (done left : List Op) → IsDone (Create journal_path text ∷ []) done left → (done ≡ []) ⊎ IsOpen strays (after_all done t0) r
-  created-open done left h = by (done-in-part (Create journal_path text) done left h)
-    where
-      by : IsInPart (Create journal_path text) done → (done ≡ []) ⊎ IsOpen strays (after_all done t0) r
-      by (inl e) = inl e
-      by (inr (piece, rest, (front, back, e, f, g), leaves)) =
-          inr (subst (λ (u : Tree). IsOpen strays u r) (sym (leaves t0 ∙ ap (λ op. apply op t0) f)) (t, (below.fronts strays lines list t0 t front back refl ready e).3.covers, s))
+      below.loose strays t (after_all done t) r refl (λ path free. untouched done t path (touched-within (is_loose strays) done path (done-within (is_loose strays) prep done left h (prep-loose t who files plan.ones plan.once text)) free)) s
 
   -- it stays open until the journal goes
   pub changes-open : (done left : List Op) → IsDone all_ops done left → IsOpen strays (after_all done t1) r
@@ -226,39 +218,11 @@ module _ (below : Below) (t : Tree) (who : List ℕ) (files : List Replacement) 
     pub undo-files : (log rest : List Op) → IsDone undo log rest → (path : List ℕ) → is_loose strays path ≡ false → same path journal_path ≡ false → (bytes_at (after_all log u) path ≡ bytes_at u path) ⊎ (bytes_at (after_all log u) path ≡ bytes_at t path)
     undo-files log rest k path free off = below.files strays u t lines list path log rest refl (changes-lead-back done left h) free off (as-read log rest k)
 
-  early-read : (log rest : List Op) → IsDone undo log rest → IsDone (undo_list lines list (bytes_before t list)) log rest
-  early-read log rest k = subst (λ (ops : List Op). IsDone ops log rest) (sym (ap (undo_list lines list) (kept-bytes t files))) k
-
-  -- it may begin while the journal is being made
-  pub early-lead : (front back : List ℕ) → text ≡ front ++ back → (log rest : List Op) → IsDone undo log rest → ((p : Tree) × Covers strays (after_all log (apply (Create journal_path front) t0)) p × Restores strays p t) ⊎ ((rest ≡ []) × Stands (after_all log (apply (Create journal_path front) t0)) r)
-  early-lead front back e log rest k = elim (below.early strays lines list t0 t front back log rest refl ready e (early-read log rest k)) [
-    | inl (first, p, lead, same_files) ↦ inl (p, lead.covers, same_files)
-    | inr ends ↦ inr (ends.0, below.restored strays (after_all log (apply (Create journal_path front) t0)) t r refl ends.1 s)
-  ]
-
-  pub early-back : (front back : List ℕ) → text ≡ front ++ back → (log rest : List Op) → IsDone undo log rest → ((p : Tree) × Covers strays (after_all log (apply (Create journal_path front) t0)) p × Restores strays p t) ⊎ ((rest ≡ []) × Restores strays (after_all log (apply (Create journal_path front) t0)) t)
-  early-back front back e log rest k = elim (below.early strays lines list t0 t front back log rest refl ready e (early-read log rest k)) [
-    | inl (first, p, lead, same_files) ↦ inl (p, lead.covers, same_files)
-    | inr ends ↦ inr ends
-  ]
-
-  pub early-files : (front back : List ℕ) → text ≡ front ++ back → (log rest : List Op) → IsDone undo log rest → (path : List ℕ) → is_loose strays path ≡ false → same path journal_path ≡ false → bytes_at (after_all log (apply (Create journal_path front) t0)) path ≡ bytes_at t path
-  early-files front back e log rest k path free off = below.early_files strays lines list t0 t front back path log rest refl ready e free off (early-read log rest k)
-
-  pub front-covers : (front back : List ℕ) → text ≡ front ++ back → Covers strays (apply (Create journal_path front) t0) t
-  front-covers front back e = (below.fronts strays lines list t0 t front back refl ready e).3.covers
-
-  pub undo-early : (front back : List ℕ) → text ≡ front ++ back → (log rest : List Op) → IsDone undo log rest → IsOpen strays (after_all log (apply (Create journal_path front) t0)) r ⊎ ((rest ≡ []) × Stands (after_all log (apply (Create journal_path front) t0)) r)
-  undo-early front back e log rest k = elim (early-lead front back e log rest k) [
-    | inl (p, covers, same_files) ↦ inl (p, covers, below.restored strays p t r refl same_files s)
-    | inr ends ↦ inr ends
-  ]
-
   -- ---- behind the removal of the journal, and the whole
 
-  module _ (next : Repo) (leads : Stands (after_all (prep ++ (Create journal_path text ∷ changes) ++ (publish ∷ renames) ++ (Remove journal_path ∷ removals)) t) next) where
+  module _ (next : Repo) (leads : Stands (after_all (prep ++ (Rename new_journal_path journal_path ∷ changes) ++ (publish ∷ renames) ++ (Remove journal_path ∷ removals)) t) next) where
     abbrev whole : List Op
-    whole = prep ++ (Create journal_path text ∷ changes) ++ (publish ∷ renames) ++ (Remove journal_path ∷ removals)
+    whole = prep ++ (Rename new_journal_path journal_path ∷ changes) ++ (publish ∷ renames) ++ (Remove journal_path ∷ removals)
 
     abbrev t2 : Tree
     t2 = after_all all_ops t1
@@ -266,15 +230,15 @@ module _ (below : Below) (t : Tree) (who : List ℕ) (files : List Replacement) 
     abbrev t3 : Tree
     t3 = apply (Remove journal_path) t2
 
-    regroup : whole ≡ prep ++ (Create journal_path text ∷ (all_ops ++ (Remove journal_path ∷ removals)))
+    regroup : whole ≡ prep ++ (Rename new_journal_path journal_path ∷ (all_ops ++ (Remove journal_path ∷ removals)))
     regroup =
-        append_assoc (prep ++ (Create journal_path text ∷ changes)) (publish ∷ renames) (Remove journal_path ∷ removals)
-        ∙ append_assoc prep (Create journal_path text ∷ changes) ((publish ∷ renames) ++ (Remove journal_path ∷ removals))
-        ∙ ap (λ l. prep ++ (Create journal_path text ∷ l)) (sym (append_assoc changes (publish ∷ renames) (Remove journal_path ∷ removals)))
+        append_assoc (prep ++ (Rename new_journal_path journal_path ∷ changes)) (publish ∷ renames) (Remove journal_path ∷ removals)
+        ∙ append_assoc prep (Rename new_journal_path journal_path ∷ changes) ((publish ∷ renames) ++ (Remove journal_path ∷ removals))
+        ∙ ap (λ l. prep ++ (Rename new_journal_path journal_path ∷ l)) (sym (append_assoc changes (publish ∷ renames) (Remove journal_path ∷ removals)))
 
     ends : after_all whole t ≡ after_all removals t3
     ends =
-        ap (λ l. after_all l t) regroup ∙ after_all-append prep (Create journal_path text ∷ (all_ops ++ (Remove journal_path ∷ removals))) t
+        ap (λ l. after_all l t) regroup ∙ after_all-append prep (Rename new_journal_path journal_path ∷ (all_ops ++ (Remove journal_path ∷ removals))) t
         ∙ after_all-append all_ops (Remove journal_path ∷ removals) t1
 
     -- behind the journal's removal the tree stands for the next repository
@@ -305,18 +269,18 @@ module _ (below : Below) (t : Tree) (who : List ℕ) (files : List Replacement) 
           subst Says (sym (ap (λ l. after_all l t1) e ∙ after_all-append a b t1 ∙ ap (after_all b) same_tree)) (last b left (subst (λ (u : Tree). IsOpen strays u r) same_tree (changes-open a [] k)) m)
     ]
 
-    second : (done left : List Op) → Stands t0 r → IsDone ((Create journal_path text ∷ []) ++ (all_ops ++ (Remove journal_path ∷ removals))) done left → Says (after_all done t0)
-    second done left stands h = elim (done-split (Create journal_path text ∷ []) (all_ops ++ (Remove journal_path ∷ removals)) done left h) [
-      | inl (l, k) ↦ one (created-open done l k)
-      | inr (a, b, e, k, m) ↦ subst Says (sym (ap (λ l. after_all l t0) e ∙ after_all-append a b t0 ∙ ap (after_all b) (after-done (Create journal_path text ∷ []) a [] t0 k))) (middle b left m)
+    second : (done left : List Op) → Stands t0 r → IsDone ((Rename new_journal_path journal_path ∷ []) ++ (all_ops ++ (Remove journal_path ∷ removals))) done left → Says (after_all done t0)
+    second done left stands h = elim (done-split (Rename new_journal_path journal_path ∷ []) (all_ops ++ (Remove journal_path ∷ removals)) done left h) [
+      | inl (l, k) ↦ one (done-in-part (Rename new_journal_path journal_path) done l k)
+      | inr (a, b, e, k, m) ↦ subst Says (sym (ap (λ l. after_all l t0) e ∙ after_all-append a b t0 ∙ ap (after_all b) (after-done (Rename new_journal_path journal_path ∷ []) a [] t0 k))) (middle b left m)
     ]
       where
-        one : (done ≡ []) ⊎ IsOpen strays (after_all done t0) r → Says (after_all done t0)
+        one : IsInPart (Rename new_journal_path journal_path) done → Says (after_all done t0)
         one (inl e) = subst Says (sym (ap (λ l. after_all l t0) e)) (inl stands)
-        one (inr is_open) = inr (inl is_open)
+        one (inr (piece, rest, (f, g), leaves)) = subst Says (sym (leaves t0 ∙ ap (λ op. apply op t0) f)) (inr (inl (changes-open [] all_ops refl)))
 
     pub may-stop : (done left : List Op) → IsDone whole done left → Says (after_all done t)
-    may-stop done left h = elim (done-split prep ((Create journal_path text ∷ []) ++ (all_ops ++ (Remove journal_path ∷ removals))) done left (subst (λ l. IsDone l done left) regroup h)) [
+    may-stop done left h = elim (done-split prep ((Rename new_journal_path journal_path ∷ []) ++ (all_ops ++ (Remove journal_path ∷ removals))) done left (subst (λ l. IsDone l done left) regroup h)) [
       | inl (l, k) ↦ inl (before-stands done l k)
       | inr (a, b, e, k, m) ↦
           let same_tree = after-done prep a [] t k in

@@ -15,7 +15,7 @@ use Rattle.hgs_files.specs.Tree.{Tree, after_all, apply}
 use Rattle.hgs_files.specs.Theorems.TreeLemmas.{after_all-append}
 use Rattle.hgs_journal.specs.declared.journal.JournalLine.{JournalLine}
 use Rattle.hgs_journal.specs.Covers.{is_loose, journal_paths, no_repeat}
-use Rattle.hgs_journal.specs.Names.{journal_path, new_name, place}
+use Rattle.hgs_journal.specs.Names.{journal_path, new_journal_path, new_name, place}
 use Rattle.hgs_journal.specs.Texts.{journal_text}
 use Rattle.hgs_model.specs.Repo.{Repo}
 use Rattle.hgs_model.specs.Step.{Answer, sets_bookmark, step}
@@ -23,7 +23,6 @@ use Rattle.hgs_model.specs.Valid.{IsValid}
 use Rattle.hgs_model.specs.declared.command.NewChange.{NewChange}
 use Rattle.hgs_model.specs.declared.command.Command.{Command}
 use Rattle.hgs_model.specs.declared.command.Command.TheVariants.{Commit, Import, Move, Mark, Unmark}
-use Rattle.hgs_power.specs.Calm.{new_journal_path}
 use Rattle.hgs_power.specs.Course.{AllWithin, IsCourse, IsOpenFor, IsUnmoved, disk_after, Part, place_after}
 use Rattle.hgs_power.specs.Disk.{Disk, Leaves, at_rest, run, tree_now}
 use Rattle.hgs_power.specs.Held.{IsOrderly, IsQuiet}
@@ -37,15 +36,14 @@ use Rattle.hgs_power.specs.Theorems.Orderly.{start-whole}
 use Rattle.hgs_power.specs.Theorems.Puts.{has-tree, put-all-has}
 use Rattle.hgs_power.specs.Theorems.Shapes.{put-left, put-right}
 use Rattle.hgs_ops.specs.Growth.{growth, new_changelog_entry}
-use Rattle.hgs_ops.specs.Operations.{journal_lines, journal_of, new_changelog_index, new_changelog_path, preparations}
+use Rattle.hgs_ops.specs.Operations.{journal_lines, journal_of, new_changelog_index, new_changelog_path, preparations, strays}
 use Rattle.hgs_ops.specs.PowerCourses.{AreCalls, Call, parts_of_call, parts_of_calls, Fate, HasFate, number_after, parts_as}
-use Rattle.hgs_ops.specs.PowerSteps.{as_new, power_locks, power_steps, power_strays, rename_shape, resting_at}
+use Rattle.hgs_ops.specs.PowerSteps.{as_new, power_locks, power_steps, rename_shape, resting_at}
 use Rattle.hgs_ops.specs.Replaced.{Replacement, backup_line_of, dirstate_with, marks_with, new_bookmarks, new_dirstate, new_rename, new_roots, only_if, roots_change, roots_of, roots_with}
 use Rattle.hgs_ops.specs.Theorems.Touch.{and-both, and-left, and-right, apply-other, at, bool, never, or-both, or-left, or-right, same-sym, touched-within, untouched, within}
 use Rattle.hgs_ops.specs.Theorems.CommitTree.{files_of, first_of, second_of}
 use Rattle.hgs_ops.proofs.Below.{Below}
 use Rattle.hgs_ops.proofs.PowerShape.{command-transaction}
-use Rattle.hgs_ops.specs.Theorems.Beside.{fewer}
 use Rattle.hgs_ops.specs.Theorems.Clear.{IsAppend, growth-clear}
 use Rattle.hgs_stands.specs.Stands.{Stands}
 use Rattle.hgs_ops.specs.Unhindered.{IsReady}
@@ -62,7 +60,7 @@ use Rattle.hgs_ops.proofs.SmallFiles.IsOne.{phaseroots, dirstate, bookmarks}
 -- ---- the paths that are watched: those of the repository, and the new texts
 
 abbrev Watched : List Replacement → List ℕ → Type 0
-Watched files q = ((is_loose power_strays q ≡ false) × (same q journal_path ≡ false)) ⊎ (among q (map new_of (map as_new files)) ≡ true)
+Watched files q = ((is_loose strays q ≡ false) × (same q journal_path ≡ false)) ⊎ (among q (map new_of (map as_new files)) ≡ true)
 
 syncs-none : (paths : List (List ℕ)) (v : Tree) → after_all (map sync_of paths) v ≡ v
 syncs-none [] v = refl
@@ -81,12 +79,12 @@ puts-within : (ok : List ℕ → Bool) (puts : List Put) → list_all ok (put_pa
 puts-within ok [] e = refl
 puts-within ok (x ∷ puts) e = and-both _ _ (and-left _ _ e) (puts-within ok puts (and-right (ok x.0) _ e))
 
-loose-off : (p : List ℕ) → is_loose power_strays p ≡ false → same new_journal_path p ≡ false
+loose-off : (p : List ℕ) → is_loose strays p ≡ false → same new_journal_path p ≡ false
 loose-off p e = by (bool (same new_journal_path p))
   where
     by : (same new_journal_path p ≡ true) ⊎ (same new_journal_path p ≡ false) → same new_journal_path p ≡ false
     by (inr h) = h
-    by (inl h) = never (sym (ap (is_loose power_strays) (sym (same-eq new_journal_path p h)) ∙ refl) ∙ e)
+    by (inl h) = never (sym (ap (is_loose strays) (sym (same-eq new_journal_path p h)) ∙ refl) ∙ e)
 
 watched-new : (v w : Tree) (xs : List Replacement) (q : List ℕ) → AllByRecursion (StandsNew v) xs → AllByRecursion (StandsNew w) xs → among q (map new_of (map as_new xs)) ≡ true → v q ≡ w q
 watched-new v w [] q a b e = never (sym e)
@@ -101,7 +99,7 @@ news-put puts [] sub = tt
 news-put puts (x ∷ xs) sub = (sub (place x.plain (new_name x.file)) x.text (inl (refl, refl)), news-put puts xs (λ path b p. sub path b (inr p)))
 
 module _ (t : Tree) (who : List ℕ) (files : List Replacement) (ones : AllByRecursion IsOneFile files) (once : no_repeat (map place_of_file files) ≡ true)
-    (journal : List JournalLine) (text : List ℕ) (each_once : no_repeat (put_paths (puts_of t (map as_new files) journal)) ≡ true) (loose : list_all (is_loose power_strays) (put_paths (puts_of t (map as_new files) journal)) ≡ true) where
+    (journal : List JournalLine) (text : List ℕ) (each_once : no_repeat (put_paths (puts_of t (map as_new files) journal)) ≡ true) (loose : list_all (is_loose strays) (put_paths (puts_of t (map as_new files) journal)) ≡ true) where
   abbrev puts : List Put
   puts = puts_of t (map as_new files) journal
 
@@ -109,10 +107,10 @@ module _ (t : Tree) (who : List ℕ) (files : List Replacement) (ones : AllByRec
   abbrev named : Tree
   named = apply (Rename new_journal_path journal_path) (after_all (put_all puts) t)
 
-  named-stays : (q : List ℕ) → is_loose power_strays q ≡ false → same q journal_path ≡ false → named q ≡ t q
+  named-stays : (q : List ℕ) → is_loose strays q ≡ false → same q journal_path ≡ false → named q ≡ t q
   named-stays q l j =
       apply-other (Rename new_journal_path journal_path) (after_all (put_all puts) t) q (or-both _ _ (loose-off q l) (same-sym q journal_path j))
-      ∙ untouched (put_all puts) t q (touched-within (is_loose power_strays) (put_all puts) q (puts-within (is_loose power_strays) puts loose) l)
+      ∙ untouched (put_all puts) t q (touched-within (is_loose strays) (put_all puts) q (puts-within (is_loose strays) puts loose) l)
 
   named-new : AllByRecursion (StandsNew named) files
   named-new = all-turned (λ (x : Replacement). IsPut (place x.plain (new_name x.file)) x.text puts) (StandsNew named) files (λ x one p.
@@ -124,14 +122,14 @@ module _ (t : Tree) (who : List ℕ) (files : List Replacement) (ones : AllByRec
 
   -- so far they agree
   pub both-agree : Agree (Watched files) named (created t who files ones once text)
-  both-agree q (inl k) = named-stays q k.0 k.1 ∙ sym (created-stays t who files ones once text q (fewer q k.0) k.1)
+  both-agree q (inl k) = named-stays q k.0 k.1 ∙ sym (created-stays t who files ones once text q k.0 k.1)
   both-agree q (inr k) = watched-new named (created t who files ones once text) files q named-new (created-new t who files ones once text) k
 
 -- ---- to the removal of the journal
 
 clear-reads : (files : List Replacement) (xs : List Op) → AllByRecursion IsAppend xs → AllByRecursion (Reads (Watched files)) xs
 clear-reads files [] all = tt
-clear-reads files (Append path bytes ∷ xs) all = (inl (or-left (is_loose power_strays path) (same path journal_path) all.0.0, or-right (is_loose power_strays path) (same path journal_path) all.0.0), clear-reads files xs all.1)
+clear-reads files (Append path bytes ∷ xs) all = (inl (or-left (is_loose strays path) (same path journal_path) all.0.0, or-right (is_loose strays path) (same path journal_path) all.0.0), clear-reads files xs all.1)
 clear-reads files (Cut path len ∷ xs) all = absurd all.0
 clear-reads files (Rename from to ∷ xs) all = absurd all.0
 clear-reads files (Remove path ∷ xs) all = absurd all.0
@@ -159,7 +157,7 @@ second-same true b c = refl
 second-same false b c = refl
 
 -- two trees that agree still do once the journal is gone
-gone-agree : (files : List Replacement) (v w : Tree) → Agree (Watched files) v w → (p : List ℕ) → is_loose power_strays p ≡ false → apply (Remove journal_path) v p ≡ apply (Remove journal_path) w p
+gone-agree : (files : List Replacement) (v w : Tree) → Agree (Watched files) v w → (p : List ℕ) → is_loose strays p ≡ false → apply (Remove journal_path) v p ≡ apply (Remove journal_path) w p
 gone-agree files v w a p l = by (bool (same journal_path p))
   where
     by : (same journal_path p ≡ true) ⊎ (same journal_path p ≡ false) → apply (Remove journal_path) v p ≡ apply (Remove journal_path) w p
@@ -170,26 +168,26 @@ module _ (below : Below) where
   -- where two lists of operations do the same to each tree, both lead to the next repository
   leads-as : (t0 : Tree) (who : List ℕ) (files : List Replacement) (ones : AllByRecursion IsOneFile files) (once : no_repeat (map place_of_file files) ≡ true) (s : Steps) (text : List ℕ)
       → s.locks ≡ power_locks who → s.puts ≡ puts_of (after_all (power_locks who) t0) (map as_new files) s.journal
-      → (plan : (no_repeat (put_paths s.puts) ≡ true) × (list_all (is_loose power_strays) (put_paths s.puts) ≡ true))
+      → (plan : (no_repeat (put_paths s.puts) ≡ true) × (list_all (is_loose strays) (put_paths s.puts) ≡ true))
       → (changes renames : List Op) → ((v : Tree) → after_all s.changes v ≡ after_all changes v) → ((v : Tree) → after_all s.renames v ≡ after_all renames v)
       → ((v w : Tree) → Agree (Watched files) v w → Agree (Watched files) (after_all renames (after_all changes v)) (after_all renames (after_all changes w))) → (next : Repo)
-      → Stands (after_all (renames ++ (Remove journal_path ∷ [])) (after_all changes (apply (Create journal_path text) (after_all (preparations (after_all (power_locks who) t0) who files (map (backup_line_of (after_all (power_locks who) t0)) files)) (after_all (power_locks who) t0))))) next
+      → Stands (after_all (renames ++ (Remove journal_path ∷ [])) (after_all changes (apply (Rename new_journal_path journal_path) (after_all (preparations (after_all (power_locks who) t0) who files (map (backup_line_of (after_all (power_locks who) t0)) files) text) (after_all (power_locks who) t0))))) next
       → Stands (after_all (ops_to_removal s) t0) next
   leads-as t0 who files ones once s text locks_are puts_are plan changes renames same_changes same_renames agrees next stands =
-      below.restored power_strays (after_all (ops_to_removal s) t0) old next refl (λ p l. inl (ap (λ (v : Tree). v p) mine ∙ gone-agree files (after_all renames (after_all changes first)) (after_all renames (after_all changes second)) agree p l ∙ sym (ap (λ (v : Tree). v p) theirs))) stands
+      below.restored strays (after_all (ops_to_removal s) t0) old next refl (λ p l. inl (ap (λ (v : Tree). v p) mine ∙ gone-agree files (after_all renames (after_all changes first)) (after_all renames (after_all changes second)) agree p l ∙ sym (ap (λ (v : Tree). v p) theirs))) stands
     where
       first : Tree
       first = apply (Rename new_journal_path journal_path) (after_all (put_all (puts_of (after_all (power_locks who) t0) (map as_new files) s.journal)) (after_all (power_locks who) t0))
 
       second : Tree
-      second = apply (Create journal_path text) (after_all (preparations (after_all (power_locks who) t0) who files (map (backup_line_of (after_all (power_locks who) t0)) files)) (after_all (power_locks who) t0))
+      second = apply (Rename new_journal_path journal_path) (after_all (preparations (after_all (power_locks who) t0) who files (map (backup_line_of (after_all (power_locks who) t0)) files) text) (after_all (power_locks who) t0))
 
       old : Tree
-      old = after_all (renames ++ (Remove journal_path ∷ [])) (after_all changes (apply (Create journal_path text) (after_all (preparations (after_all (power_locks who) t0) who files (map (backup_line_of (after_all (power_locks who) t0)) files)) (after_all (power_locks who) t0))))
+      old = after_all (renames ++ (Remove journal_path ∷ [])) (after_all changes (apply (Rename new_journal_path journal_path) (after_all (preparations (after_all (power_locks who) t0) who files (map (backup_line_of (after_all (power_locks who) t0)) files) text) (after_all (power_locks who) t0))))
 
       agree : Agree (Watched files) (after_all renames (after_all changes first)) (after_all renames (after_all changes second))
       agree = agrees first second (both-agree (after_all (power_locks who) t0) who files ones once s.journal text
-          (ap (λ l. no_repeat (put_paths l)) (sym puts_are) ∙ plan.0) (ap (λ l. list_all (is_loose power_strays) (put_paths l)) (sym puts_are) ∙ plan.1))
+          (ap (λ l. no_repeat (put_paths l)) (sym puts_are) ∙ plan.0) (ap (λ l. list_all (is_loose strays) (put_paths l)) (sym puts_are) ∙ plan.1))
 
       theirs : old ≡ apply (Remove journal_path) (after_all renames (after_all changes second))
       theirs = after_all-append renames (Remove journal_path ∷ []) (after_all changes second)
@@ -208,7 +206,7 @@ module _ (below : Below) where
           ∙ ap (λ (v : Tree). apply (Remove journal_path) (after_all s.renames v)) (same_changes first)
           ∙ ap (apply (Remove journal_path)) (same_renames (after_all changes first))
 
-  plan-facts : (t : Tree) (s : Steps) → IsTransaction power_strays s t → (no_repeat (put_paths s.puts) ≡ true) × (list_all (is_loose power_strays) (put_paths s.puts) ≡ true)
+  plan-facts : (t : Tree) (s : Steps) → IsTransaction strays s t → (no_repeat (put_paths s.puts) ≡ true) × (list_all (is_loose strays) (put_paths s.puts) ≡ true)
   plan-facts t s h = (h.plan.each_once, h.plan.loose)
 
   -- ---- a commit and an import
@@ -335,13 +333,13 @@ module _ (below : Below) where
 
   one-leads : (t0 : Tree) (r next : Repo) (command : Command) (who : List ℕ) (x : Replacement) → IsOneFile x → power_steps (after_all (power_locks who) t0) r command who next ≡ steps_of (after_all (power_locks who) t0) (rename_shape who x) → Reads (Watched (x ∷ [])) (new_rename x)
       → IsReady (after_all (power_locks who) t0) r command next
-      → Stands (after_all (Remove journal_path ∷ []) (after_all (new_rename x ∷ []) (apply (Create journal_path (journal_text [])) (after_all (preparations (after_all (power_locks who) t0) who (x ∷ []) (map (backup_line_of (after_all (power_locks who) t0)) (x ∷ []))) (after_all (power_locks who) t0))))) next
+      → Stands (after_all (Remove journal_path ∷ []) (after_all (new_rename x ∷ []) (apply (Rename new_journal_path journal_path) (after_all (preparations (after_all (power_locks who) t0) who (x ∷ []) (map (backup_line_of (after_all (power_locks who) t0)) (x ∷ [])) (journal_text [])) (after_all (power_locks who) t0))))) next
       → Leads t0 r command who next
   one-leads t0 r next command who x one is reads ready stands =
       let t = after_all (power_locks who) t0 in
       let s : Steps = steps_of t (rename_shape who x) in
       subst (λ (s : Steps). Stands (after_all (ops_to_removal s) t0) next) (sym is)
-      (leads-as t0 who (x ∷ []) (one, tt) refl s (journal_text []) refl refl (plan-facts t s (subst (λ (s : Steps). IsTransaction power_strays s t) is (command-transaction t r next command who ready)))
+      (leads-as t0 who (x ∷ []) (one, tt) refl s (journal_text []) refl refl (plan-facts t s (subst (λ (s : Steps). IsTransaction strays s t) is (command-transaction t r next command who ready)))
       (new_rename x ∷ []) [] (λ v. refl) (λ v. refl) (λ v w a. agree-all (Watched (x ∷ [])) (new_rename x ∷ []) v w (reads, tt) a) next stands)
 
   pub command-leads : (t0 : Tree) (r next : Repo) (command : Command) (who : List ℕ) (answer : Answer) → Stands (after_all (power_locks who) t0) r → IsValid command → step r command ≡ Ok (next, answer) → IsReady (after_all (power_locks who) t0) r command next
@@ -360,11 +358,11 @@ module _ (below : Below) where
   abbrev StandsBy : (ℕ → Repo) → ℕ → Tree → Type 0
   StandsBy repos m t = Stands t (repos m)
 
-  unmoved : (repos : ℕ → Repo) → IsUnmoved power_strays (StandsBy repos)
-  unmoved repos m t u r s = below.restored power_strays t u (repos m) refl r s
+  unmoved : (repos : ℕ → Repo) → IsUnmoved strays (StandsBy repos)
+  unmoved repos m t u r s = below.restored strays t u (repos m) refl r s
 
   -- the tree with the locks, on a disk
-  locked-tree : (who : List ℕ) (d : Disk) → IsOrderly power_strays d → tree_now (run (power_locks who) d) ≡ after_all (power_locks who) (tree_now d)
+  locked-tree : (who : List ℕ) (d : Disk) → IsOrderly strays d → tree_now (run (power_locks who) d) ≡ after_all (power_locks who) (tree_now d)
   locked-tree who d o = run-tree (power_locks who) d o.whole
 
   abbrev steps_on : (ℕ → Repo) → ℕ → Disk → Command → List ℕ → Repo → Steps
@@ -378,40 +376,40 @@ module _ (below : Below) where
   same-locked repos a d (Unmark name) who next = refl
 
   abbrev Resting : (ℕ → Repo) → Disk → ℕ → Type 0
-  Resting repos d a = IsResting power_strays refl refl refl (StandsBy repos) (unmoved repos) d a
+  Resting repos d a = IsResting strays refl refl refl (StandsBy repos) (unmoved repos) d a
 
   module _ (repos : ℕ → Repo) (d : Disk) (a : ℕ) (command : Command) (who : List ℕ) (next : Repo) (answer : Answer) (i : Resting repos d a) (valid : IsValid command) (accepted : step (repos a) command ≡ Ok (next, answer))
       (ready : IsReady (after_all (power_locks who) (tree_now d)) (repos a) command next) where
-    is-transaction : IsTransaction power_strays (steps_on repos a d command who next) (tree_now (run (steps_on repos a d command who next).locks d))
+    is-transaction : IsTransaction strays (steps_on repos a d command who next) (tree_now (run (steps_on repos a d command who next).locks d))
     is-transaction =
         let t = after_all (power_locks who) (tree_now d) in
-        subst (IsTransaction power_strays (steps_on repos a d command who next)) (sym (same-locked repos a d command who next ∙ locked-tree who d i.orderly)) (command-transaction t (repos a) next command who ready)
+        subst (IsTransaction strays (steps_on repos a d command who next)) (sym (same-locked repos a d command who next ∙ locked-tree who d i.orderly)) (command-transaction t (repos a) next command who ready)
 
     before : Stands (tree_now d) (repos a)
-    before = open-stands power_strays refl refl refl (StandsBy repos) (unmoved repos) a (tree_now d) (ap (option_map (bytes_of d)) i.quiet.no_journal) (i.good (tree_now d) (now-left d i.orderly.whole))
+    before = open-stands strays refl refl refl (StandsBy repos) (unmoved repos) a (tree_now d) (ap (option_map (bytes_of d)) i.quiet.no_journal) (i.good (tree_now d) (now-left d i.orderly.whole))
 
     stands : Stands (after_all (power_locks who) (tree_now d)) (repos a)
-    stands = below.loose power_strays (tree_now d) (after_all (power_locks who) (tree_now d)) (repos a) refl (λ p l. untouched (power_locks who) (tree_now d) p (touched-within (is_loose power_strays) (power_locks who) p refl l)) before
+    stands = below.loose strays (tree_now d) (after_all (power_locks who) (tree_now d)) (repos a) refl (λ p l. untouched (power_locks who) (tree_now d) p (touched-within (is_loose strays) (power_locks who) p refl l)) before
 
-    whole-course : next ≡ repos (suc a) → IsCourse power_strays (StandsBy repos) (parts_of (steps_on repos a d command who next)) d (resting_at a)
+    whole-course : next ≡ repos (suc a) → IsCourse strays (StandsBy repos) (parts_of (steps_on repos a d command who next)) d (resting_at a)
     whole-course e =
-        transaction-course-tree power_strays refl refl refl (StandsBy repos) (unmoved repos) (steps_on repos a d command who next) d a i is-transaction
+        transaction-course-tree strays refl refl refl (StandsBy repos) (unmoved repos) (steps_on repos a d command who next) d a i is-transaction
         (subst (Stands (after_all (ops_to_removal (steps_on repos a d command who next)) (tree_now d))) e (command-leads (tree_now d) (repos a) next command who answer stands valid accepted ready))
 
     abbrev kept : List (List ℕ)
     kept = bytes_before (tree_now (run (steps_on repos a d command who next).locks d)) (steps_on repos a d command who next).backups
 
     back-course : (done left ops : List Op) → IsDone (steps_on repos a d command who next).changes done left → IsDone (undo_list (steps_on repos a d command who next).journal (steps_on repos a d command who next).backups kept) ops []
-        → IsCourse power_strays (StandsBy repos) (undone_parts_of (steps_on repos a d command who next) kept done ops) d (resting_at a)
-    back-course done left ops h k = undone-course power_strays refl refl refl (StandsBy repos) (unmoved repos) (steps_on repos a d command who next) d a i is-transaction done left ops h k
+        → IsCourse strays (StandsBy repos) (undone_parts_of (steps_on repos a d command who next) kept done ops) d (resting_at a)
+    back-course done left ops h k = undone-course strays refl refl refl (StandsBy repos) (unmoved repos) (steps_on repos a d command who next) d a i is-transaction done left ops h k
 
     recover-course : (done left ops : List Op) → IsDone (steps_on repos a d command who next).renames done left → IsDone (undo_list (steps_on repos a d command who next).journal (steps_on repos a d command who next).backups kept) ops []
-        → IsCourse power_strays (StandsBy repos) (recovered_parts_of (steps_on repos a d command who next) kept done ops) d (resting_at a)
-    recover-course done left ops h k = recovered-course power_strays refl refl refl (StandsBy repos) (unmoved repos) (steps_on repos a d command who next) d a i is-transaction done left ops h k
+        → IsCourse strays (StandsBy repos) (recovered_parts_of (steps_on repos a d command who next) kept done ops) d (resting_at a)
+    recover-course done left ops h k = recovered-course strays refl refl refl (StandsBy repos) (unmoved repos) (steps_on repos a d command who next) d a i is-transaction done left ops h k
 
-  pub command-course : (repos : ℕ → Repo) (d : Disk) (a : ℕ) (command : Command) (who : List ℕ) (answer : Answer) → IsOrderly power_strays d → IsQuiet power_strays d → ((t : Tree) → Leaves d t → IsOpenFor power_strays (StandsBy repos) a t)
+  pub command-course : (repos : ℕ → Repo) (d : Disk) (a : ℕ) (command : Command) (who : List ℕ) (answer : Answer) → IsOrderly strays d → IsQuiet strays d → ((t : Tree) → Leaves d t → IsOpenFor strays (StandsBy repos) a t)
       → IsValid command → step (repos a) command ≡ Ok (repos (suc a), answer) → IsReady (after_all (power_locks who) (tree_now d)) (repos a) command (repos (suc a))
-      → IsCourse power_strays (StandsBy repos) (parts_of (steps_on repos a d command who (repos (suc a)))) d (resting_at a)
+      → IsCourse strays (StandsBy repos) (parts_of (steps_on repos a d command who (repos (suc a)))) d (resting_at a)
   command-course repos d a command who answer o quiet good valid accepted ready = whole-course repos d a command who (repos (suc a)) answer (record { orderly = o; quiet = quiet; good = good }) valid accepted ready refl
 
   -- ---- commands, one after another
@@ -420,35 +418,35 @@ module _ (below : Below) where
   call-course : (repos : ℕ → Repo) (d : Disk) (a : ℕ) (who : List ℕ) (command : Command) (next : Repo) (answer : Answer) (fate : Fate) → Resting repos d a → IsValid command → step (repos a) command ≡ Ok (next, answer)
       → IsReady (after_all (power_locks who) (tree_now d)) (repos a) command next
       → HasFate repos a next fate (steps_on repos a d command who next) (bytes_before (tree_now (run (steps_on repos a d command who next).locks d)) (steps_on repos a d command who next).backups)
-      → IsCourse power_strays (StandsBy repos) (parts_as fate (steps_on repos a d command who next) (bytes_before (tree_now (run (steps_on repos a d command who next).locks d)) (steps_on repos a d command who next).backups)) d (resting_at a)
+      → IsCourse strays (StandsBy repos) (parts_as fate (steps_on repos a d command who next) (bytes_before (tree_now (run (steps_on repos a d command who next).locks d)) (steps_on repos a d command who next).backups)) d (resting_at a)
       × Resting repos (disk_after (parts_as fate (steps_on repos a d command who next) (bytes_before (tree_now (run (steps_on repos a d command who next).locks d)) (steps_on repos a d command who next).backups)) d (resting_at a)) (number_after fate a)
       × (place_after (parts_as fate (steps_on repos a d command who next) (bytes_before (tree_now (run (steps_on repos a d command who next).locks d)) (steps_on repos a d command who next).backups)) d (resting_at a) ≡ resting_at (number_after fate a))
   call-course repos d a who command next answer whole i valid accepted ready f =
       let s = steps_on repos a d command who next in
       let c = whole-course repos d a command who next answer i valid accepted ready f in
-      (c, (course-kept power_strays refl refl refl (StandsBy repos) (unmoved repos) (parts_of s) d (resting_at a) c (i, refl)).0, refl)
+      (c, (course-kept strays refl refl refl (StandsBy repos) (unmoved repos) (parts_of s) d (resting_at a) c (i, refl)).0, refl)
   call-course repos d a who command next answer (undone done ops) i valid accepted ready f =
       let s = steps_on repos a d command who next in
       let kept_bytes = bytes_before (tree_now (run s.locks d)) s.backups in
       let c = back-course repos d a command who next answer i valid accepted ready done f.0 ops f.1 f.2 in
-      (c, (course-kept power_strays refl refl refl (StandsBy repos) (unmoved repos) (undone_parts_of s kept_bytes done ops) d (resting_at a) c (i, refl)).0, refl)
+      (c, (course-kept strays refl refl refl (StandsBy repos) (unmoved repos) (undone_parts_of s kept_bytes done ops) d (resting_at a) c (i, refl)).0, refl)
   call-course repos d a who command next answer (recovered done ops) i valid accepted ready f =
       let s = steps_on repos a d command who next in
       let kept_bytes = bytes_before (tree_now (run s.locks d)) s.backups in
       let c = recover-course repos d a command who next answer i valid accepted ready done f.0 ops f.1 f.2 in
-      (c, (course-kept power_strays refl refl refl (StandsBy repos) (unmoved repos) (recovered_parts_of s kept_bytes done ops) d (resting_at a) c (i, refl)).0, refl)
+      (c, (course-kept strays refl refl refl (StandsBy repos) (unmoved repos) (recovered_parts_of s kept_bytes done ops) d (resting_at a) c (i, refl)).0, refl)
 
-  calls-course : (repos : ℕ → Repo) (d : Disk) (a : ℕ) (calls : List Call) → Resting repos d a → AreCalls repos a d calls → IsCourse power_strays (StandsBy repos) (parts_of_calls repos a d calls) d (resting_at a)
+  calls-course : (repos : ℕ → Repo) (d : Disk) (a : ℕ) (calls : List Call) → Resting repos d a → AreCalls repos a d calls → IsCourse strays (StandsBy repos) (parts_of_calls repos a d calls) d (resting_at a)
   calls-course repos d a [] i c = tt
   calls-course repos d a (call ∷ calls) i c =
       let one = call-course repos d a call.who call.command call.next call.answer call.fate i c.0.0 c.0.1 c.0.2 c.0.3 in
       let parts : List Part = parts_of_call (repos a) d call in
-      course-append power_strays refl refl refl (StandsBy repos) (unmoved repos) parts (parts_of_calls repos (number_after call.fate a) (disk_after parts d (resting_at a)) calls) d (resting_at a) one.0
-      (subst (IsCourse power_strays (StandsBy repos) (parts_of_calls repos (number_after call.fate a) (disk_after parts d (resting_at a)) calls) (disk_after parts d (resting_at a))) (sym one.2)
+      course-append strays refl refl refl (StandsBy repos) (unmoved repos) parts (parts_of_calls repos (number_after call.fate a) (disk_after parts d (resting_at a)) calls) d (resting_at a) one.0
+      (subst (IsCourse strays (StandsBy repos) (parts_of_calls repos (number_after call.fate a) (disk_after parts d (resting_at a)) calls) (disk_after parts d (resting_at a))) (sym one.2)
       (calls-course repos (disk_after parts d (resting_at a)) (number_after call.fate a) calls one.1 c.1))
 
   -- From a tree that stands for the first repository: wherever the power fails, a tree of the window is left.
-  pub calls-safe : (repos : ℕ → Repo) (start : Tree) (calls : List Call) → Stands start (repos 0) → AreCalls repos 0 (at_rest start) calls → AllWithin power_strays (StandsBy repos) (parts_of_calls repos 0 (at_rest start) calls) (at_rest start) (resting_at 0)
+  pub calls-safe : (repos : ℕ → Repo) (start : Tree) (calls : List Call) → Stands start (repos 0) → AreCalls repos 0 (at_rest start) calls → AllWithin strays (StandsBy repos) (parts_of_calls repos 0 (at_rest start) calls) (at_rest start) (resting_at 0)
   calls-safe repos start calls s c =
-      let i : Resting repos (at_rest start) 0 = calm-rests power_strays refl refl refl (StandsBy repos) (unmoved repos) (at_rest start) start 0 (start-kept power_strays refl refl refl (StandsBy repos) (unmoved repos) start s.no_journal s) in
-      course-within power_strays refl refl refl (StandsBy repos) (unmoved repos) (parts_of_calls repos 0 (at_rest start) calls) (at_rest start) (resting_at 0) (calls-course repos (at_rest start) 0 calls i c) (i, refl)
+      let i : Resting repos (at_rest start) 0 = calm-rests strays refl refl refl (StandsBy repos) (unmoved repos) (at_rest start) start 0 (start-kept strays refl refl refl (StandsBy repos) (unmoved repos) start s.no_journal s) in
+      course-within strays refl refl refl (StandsBy repos) (unmoved repos) (parts_of_calls repos 0 (at_rest start) calls) (at_rest start) (resting_at 0) (calls-course repos (at_rest start) 0 calls i c) (i, refl)

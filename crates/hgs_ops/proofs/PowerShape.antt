@@ -23,8 +23,8 @@ use Rattle.hgs_power.specs.Theorems.Shapes.{shape-transaction}
 use Rattle.hgs_power.specs.Transaction.{IsTransaction}
 use Rattle.hgs_stands.specs.Places.{changelog_index}
 use Rattle.hgs_ops.specs.Growth.{new_changelog_entry, growth, new_paths}
-use Rattle.hgs_ops.specs.Operations.{appending, journal_lines, new_changelog_path}
-use Rattle.hgs_ops.specs.PowerSteps.{as_new, commit_shape, new_index, power_removals, power_steps, power_strays, rename_shape}
+use Rattle.hgs_ops.specs.Operations.{appending, journal_lines, new_changelog_path, strays, removals}
+use Rattle.hgs_ops.specs.PowerSteps.{as_new, commit_shape, new_index, power_steps, rename_shape}
 use Rattle.hgs_ops.specs.Replaced.{Replacement, dirstate_with, marks_with, new_bookmarks, new_dirstate, new_roots, roots_with, only_if, roots_change, roots_of}
 use Rattle.hgs_ops.specs.Unhindered.{IsReady}
 use Rattle.hex.specs.Hex.{IsBytes}
@@ -74,7 +74,7 @@ second-among true false a b c = ((refl, refl, refl), tt)
 second-among false true a b c = ((refl, refl, refl), ((refl, refl, refl), tt))
 second-among false false a b c = ((refl, refl, refl), tt)
 
-removals-sweep : AllByRecursion (Sweeps power_strays) power_removals
+removals-sweep : AllByRecursion (Sweeps strays) removals
 removals-sweep = (refl, (refl, (refl, (refl, (refl, (refl, (refl, (refl, (refl, (refl, (refl, (refl, tt))))))))))))
 
 -- ---- a commit and an import
@@ -110,12 +110,12 @@ from-files false true a b c = refl
 from-files false false a b c = refl
 
 -- a path that is a stray's is not among those of which none is
-not-among : (p : List ℕ) (paths : List (List ℕ)) → is_loose power_strays p ≡ true → list_any (λ path. is_loose power_strays path || same path journal_path) paths ≡ false → among p paths ≡ false
+not-among : (p : List ℕ) (paths : List (List ℕ)) → is_loose strays p ≡ true → list_any (λ path. is_loose strays path || same path journal_path) paths ≡ false → among p paths ≡ false
 not-among p [] loose e = refl
-not-among p (q ∷ paths) loose e = by (bool (same p q)) (not-among p paths loose (or-right (is_loose power_strays q || same q journal_path) _ e))
+not-among p (q ∷ paths) loose e = by (bool (same p q)) (not-among p paths loose (or-right (is_loose strays q || same q journal_path) _ e))
   where
     by : (same p q ≡ true) ⊎ (same p q ≡ false) → among p paths ≡ false → (same p q || among p paths) ≡ false
-    by (inl h) rest = never (sym loose ∙ ap (is_loose power_strays) (same-eq p q h) ∙ or-left (is_loose power_strays q) (same q journal_path) (or-left (is_loose power_strays q || same q journal_path) _ e))
+    by (inl h) rest = never (sym loose ∙ ap (is_loose strays) (same-eq p q h) ∙ or-left (is_loose strays q) (same q journal_path) (or-left (is_loose strays q || same q journal_path) _ e))
     by (inr h) rest = or-both _ _ h rest
 
 -- what is not touched is touched by none of its operations; syncs and settles aside, which growth has none of
@@ -180,13 +180,13 @@ module _ (t : Tree) (r next : Repo) (marks : Bool) (who : List ℕ) (paths : All
       by (inl g) (inl i) = inr (ap (λ b. b || false) i)
       by (inl g) (inr i) = inl (g, ap (λ b. not b && true) (other-path changelog_index p (same-sym p changelog_index i)))
 
-  pub commit-shape : IsShape power_strays t (commit_shape t r marks who next)
+  pub commit-shape : IsShape strays t (commit_shape t r marks who next)
   commit-shape = record {
     locks = (refl, (refl, tt));
     lines = spelled;
     offsets = offsets t files all good;
-    apart = ap (list_any (λ path. is_loose power_strays path || same path journal_path)) paths-are
-        ∙ any-append (λ path. is_loose power_strays path || same path journal_path) grown_paths (changelog_index ∷ []) (clear-apart t (growth t r next) (growth-clear t r next)) refl;
+    apart = ap (list_any (λ path. is_loose strays path || same path journal_path)) paths-are
+        ∙ any-append (λ path. is_loose strays path || same path journal_path) grown_paths (changelog_index ∷ []) (clear-apart t (growth t r next) (growth-clear t r next)) refl;
     ones = ones-new files ones;
     once = ap no_repeat (places-new files) ∙ files-once (roots_change r next) (marks) (roots_of next) (new_dirstate next).text (new_bookmarks next).text;
     unnamed = λ p e. small-unnamed t files all p (places-small files p ones (sym (ap (among p) (places-new files)) ∙ e)) good;
@@ -199,7 +199,7 @@ module _ (t : Tree) (r next : Repo) (marks : Bool) (who : List ℕ) (paths : All
   }
 
   -- an import, whose new index takes the place of the one that stands
-  pub import-shape : IsOnward power_strays t (commit_shape t r marks who next) (new_index t r next)
+  pub import-shape : IsOnward strays t (commit_shape t r marks who next) (new_index t r next)
   import-shape = record {
     shape = commit-shape;
     loose = refl;
@@ -222,7 +222,7 @@ module _ (t : Tree) (r next : Repo) (marks : Bool) (who : List ℕ) (paths : All
 
 -- ---- the other commands
 
-roots-shape : (t : Tree) (who text : List ℕ) → IsShape power_strays t (rename_shape who (roots_with text))
+roots-shape : (t : Tree) (who text : List ℕ) → IsShape strays t (rename_shape who (roots_with text))
 roots-shape t who text = record {
   locks = (refl, (refl, tt));
   lines = tt;
@@ -239,7 +239,7 @@ roots-shape t who text = record {
   removals = removals-sweep;
 }
 
-marks-shape : (t : Tree) (who text : List ℕ) → IsShape power_strays t (rename_shape who (marks_with text))
+marks-shape : (t : Tree) (who text : List ℕ) → IsShape strays t (rename_shape who (marks_with text))
 marks-shape t who text = record {
   locks = (refl, (refl, tt));
   lines = tt;
@@ -258,10 +258,10 @@ marks-shape t who text = record {
 
 -- ---- each command
 
-pub command-transaction : (t : Tree) (r next : Repo) (command : Command) (who : List ℕ) → IsReady t r command next → IsTransaction power_strays (power_steps t r command who next) t
-command-transaction t r next (Commit n) who ready = shape-transaction power_strays refl refl t (commit_shape t r (is_some n.bookmark) who next) (commit-shape t r next (is_some n.bookmark) who ready.1.paths (plan-of t r next (Commit n) ready).spelled)
+pub command-transaction : (t : Tree) (r next : Repo) (command : Command) (who : List ℕ) → IsReady t r command next → IsTransaction strays (power_steps t r command who next) t
+command-transaction t r next (Commit n) who ready = shape-transaction strays refl refl t (commit_shape t r (is_some n.bookmark) who next) (commit-shape t r next (is_some n.bookmark) who ready.1.paths (plan-of t r next (Commit n) ready).spelled)
 command-transaction t r next (Import changes) who ready =
-    onward-transaction power_strays refl refl t (commit_shape t r (sets_bookmark changes) who next) (new_index t r next) (import-shape t r next (sets_bookmark changes) who ready.1.paths (plan-of t r next (Import changes) ready).spelled)
-command-transaction t r next (Move rev phase force) who ready = shape-transaction power_strays refl refl t (rename_shape who (new_roots next)) (roots-shape t who (roots_of next))
-command-transaction t r next (Mark name rev) who ready = shape-transaction power_strays refl refl t (rename_shape who (new_bookmarks next)) (marks-shape t who (new_bookmarks next).text)
-command-transaction t r next (Unmark name) who ready = shape-transaction power_strays refl refl t (rename_shape who (new_bookmarks next)) (marks-shape t who (new_bookmarks next).text)
+    onward-transaction strays refl refl t (commit_shape t r (sets_bookmark changes) who next) (new_index t r next) (import-shape t r next (sets_bookmark changes) who ready.1.paths (plan-of t r next (Import changes) ready).spelled)
+command-transaction t r next (Move rev phase force) who ready = shape-transaction strays refl refl t (rename_shape who (new_roots next)) (roots-shape t who (roots_of next))
+command-transaction t r next (Mark name rev) who ready = shape-transaction strays refl refl t (rename_shape who (new_bookmarks next)) (marks-shape t who (new_bookmarks next).text)
+command-transaction t r next (Unmark name) who ready = shape-transaction strays refl refl t (rename_shape who (new_bookmarks next)) (marks-shape t who (new_bookmarks next).text)

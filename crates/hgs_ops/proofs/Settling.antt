@@ -10,7 +10,7 @@ use Rattle.hgs_index.specs.Revision.{Revision}
 use Rattle.hgs_index.specs.Either.{BeginsEither}
 use Rattle.hgs_index.specs.Inline.{index_apart}
 use Rattle.hgs_journal.specs.Covers.{is_loose}
-use Rattle.hgs_journal.specs.Names.{journal_path, new_name, place}
+use Rattle.hgs_journal.specs.Names.{journal_path, new_name, place, new_journal_path}
 use Rattle.hgs_marks.specs.Bookmarks.{read_bookmarks}
 use Rattle.hgs_marks.specs.Dirstate.{read_dirstate}
 use Rattle.hgs_model.specs.History.{changeset_nodes}
@@ -32,7 +32,7 @@ use Rattle.hgs_ops.specs.Replaced.{only_if, new_rename, new_roots}
 use Rattle.hgs_ops.specs.Theorems.CommitTree.{is_quiet}
 use Rattle.hgs_ops.proofs.Parts.{remove-done}
 use Rattle.hgs_ops.specs.Theorems.Apart.{among-part, fixed, stores-fixed}
-use Rattle.hgs_ops.specs.Theorems.Touch.{bytes-same, or-both, touched, touched-within, untouched}
+use Rattle.hgs_ops.specs.Theorems.Touch.{bytes-same, touched, touched-within, untouched}
 use Rattle.hgs_ops.proofs.TransactionLemmas.{before-loose, commit-quiet, import-quiet}
 use Rattle.hgs_ops.specs.Shown.{lacks_bookmarks, lacks_dirstate}
 
@@ -145,16 +145,16 @@ module _ (t : Tree) (r next : Repo) (s : Stands t r) where
   published_tree x = after_all (to_publishing x) (apply x.journal (after_all x.before t))
 
   -- a commit or an import has not come to these files when it is published
-  commit-old : (n : NewChange) (who q : List ℕ) → is_quiet q ≡ true → is_loose strays q ≡ false → touched q (new_rename (new_roots next) ∷ []) ≡ false → same changelog_index q ≡ false → same journal_path q ≡ false → published_tree (transaction_of t r (Commit n) who next) q ≡ t q
+  commit-old : (n : NewChange) (who q : List ℕ) → is_quiet q ≡ true → is_loose strays q ≡ false → touched q (new_rename (new_roots next) ∷ []) ≡ false → same changelog_index q ≡ false → touched q (Rename new_journal_path journal_path ∷ []) ≡ false → published_tree (transaction_of t r (Commit n) who next) q ≡ t q
   commit-old n who q quiet free a b c =
       untouched (to_publishing (transaction_of t r (Commit n) who next)) (apply (transaction_of t r (Commit n) who next).journal (after_all (transaction_of t r (Commit n) who next).before t)) q (commit-quiet t r next n who q quiet a b)
-      ∙ untouched ((transaction_of t r (Commit n) who next).journal ∷ []) (after_all (transaction_of t r (Commit n) who next).before t) q (or-both _ _ c refl)
+      ∙ untouched ((transaction_of t r (Commit n) who next).journal ∷ []) (after_all (transaction_of t r (Commit n) who next).before t) q c
       ∙ untouched (transaction_of t r (Commit n) who next).before t q (touched-within (is_loose strays) (transaction_of t r (Commit n) who next).before q (before-loose t r next (Commit n) who) free)
 
-  import-old : (changes : List NewChange) (who q : List ℕ) → is_quiet q ≡ true → is_loose strays q ≡ false → touched q (new_rename (new_roots next) ∷ []) ≡ false → same new_changelog_path q ≡ false → same changelog_index q ≡ false → same journal_path q ≡ false → published_tree (transaction_of t r (Import changes) who next) q ≡ t q
+  import-old : (changes : List NewChange) (who q : List ℕ) → is_quiet q ≡ true → is_loose strays q ≡ false → touched q (new_rename (new_roots next) ∷ []) ≡ false → same new_changelog_path q ≡ false → same changelog_index q ≡ false → touched q (Rename new_journal_path journal_path ∷ []) ≡ false → published_tree (transaction_of t r (Import changes) who next) q ≡ t q
   import-old changes who q quiet free a b c d =
       untouched (to_publishing (transaction_of t r (Import changes) who next)) (apply (transaction_of t r (Import changes) who next).journal (after_all (transaction_of t r (Import changes) who next).before t)) q (import-quiet t r next changes who q quiet a b c)
-      ∙ untouched ((transaction_of t r (Import changes) who next).journal ∷ []) (after_all (transaction_of t r (Import changes) who next).before t) q (or-both _ _ d refl)
+      ∙ untouched ((transaction_of t r (Import changes) who next).journal ∷ []) (after_all (transaction_of t r (Import changes) who next).before t) q d
       ∙ untouched (transaction_of t r (Import changes) who next).before t q (touched-within (is_loose strays) (transaction_of t r (Import changes) who next).before q (before-loose t r next (Import changes) who) free)
 
   pub settling : (command : Command) (who : List ℕ) → Stands (after_all (through_removal (transaction_of t r command who next)) (published_tree (transaction_of t r command who next))) next → (log : List Op) (o : Op) (l : List Op) → IsDone (through_removal (transaction_of t r command who next)) log (o ∷ l) → Shown (published_tree (transaction_of t r command who next)) log (o ∷ l)

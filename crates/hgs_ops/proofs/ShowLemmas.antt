@@ -48,9 +48,9 @@ use Rattle.hgs_ops.proofs.ImportParts.{before-comes, nothing-of, rename-all}
 use Rattle.hgs_ops.proofs.Parts.{append-less, done-split, part-other}
 use Rattle.hgs_ops.specs.Theorems.GrowLemmas.{drop-front}
 use Rattle.hgs_ops.specs.Theorems.RootsLemmas.{written-phases}
-use Rattle.hgs_ops.proofs.ShowPlan.{begun-same, begun-shows, begun-still, early-shows, undoing-shows, working-shows}
+use Rattle.hgs_ops.proofs.ShowPlan.{begun-same, begun-still, undoing-shows, working-shows}
 use Rattle.hgs_ops.specs.Theorems.Touch.{apply-other, bytes-same, or-both, touched, touched-append}
-use Rattle.hgs_ops.proofs.TransactionLemmas.{first-untouched, plan-of, text-of}
+use Rattle.hgs_ops.proofs.TransactionLemmas.{first-untouched, plan-of}
 
 -- ---- an operation that is never done in part
 
@@ -209,7 +209,7 @@ module _ (below : Below) (t : Tree) (r next : Repo) (who : List ℕ) (s : Stands
   opened_of command = apply (transaction_of t r command who next).journal (after_all (transaction_of t r command who next).before t)
 
   same-files : (command : Command) (ready : IsReady t r command next) (p : List ℕ) → is_loose strays p ≡ false → same p journal_path ≡ false → opened_of command p ≡ t p
-  same-files command ready p free off = begun-same below t who (replacements r command next) (journalled t r command next) (changes_before t r command next) (publishing t r command next) (renames_after command next) (plan-of t r next command ready) r s (journal_text (journal_of t r command next)) p free off
+  same-files command ready p free off = begun-same below t who (replacements r command next) (journalled t r command next) (changes_before t r command next) (publishing t r command next) (renames_after command next) (plan-of t r next command ready) r s p free off
 
   commit-begun : (n : NewChange) (answer : Answer) → IsNewChange n → step r (Commit n) ≡ Ok (next, answer) → (ready : IsReady t r (Commit n) next) → IsBegun t (opened_of (Commit n)) r next
   commit-begun n answer good accepted ready =
@@ -260,12 +260,6 @@ module _ (below : Below) (t : Tree) (r next : Repo) (command : Command) (who : L
   abbrev opened_all : Tree
   opened_all = apply (transaction_of t r command who next).journal laid
 
-  pub created-shows : (front back : List ℕ) → (transaction_of t r command who next).journal ≡ Create journal_path (front ++ back) → Shows (apply (Create journal_path front) laid) r r r
-  created-shows front back e = begun-shows below t who (replacements r command next) (journalled t r command next) (changes_before t r command next) (publishing t r command next) (renames_after command next) (plan-of t r next command ready) r s front back (text-of e)
-
-  pub created-undone : (front back : List ℕ) → (transaction_of t r command who next).journal ≡ Create journal_path (front ++ back) → (undone rest : List Op) → IsDone (transaction_of t r command who next).undo undone rest → Shows (after_all undone (apply (Create journal_path front) laid)) r r r
-  created-undone front back e undone rest k = early-shows below t who (replacements r command next) (journalled t r command next) (changes_before t r command next) (publishing t r command next) (renames_after command next) (plan-of t r next command ready) r s front back (text-of e) undone rest k
-
   module _ (still : (done : List Op) (o : Op) (l : List Op) → IsDone ((transaction_of t r command who next).changes ++ (transaction_of t r command who next).publish ∷ []) done (o ∷ l) → IsStill r t (after_all done opened_all)) (done : List Op) (o : Op) (l : List Op) (h : IsDone ((transaction_of t r command who next).changes ++ (transaction_of t r command who next).publish ∷ []) done (o ∷ l)) where
     pub work-shows : Shows (after_all done opened_all) r r r
     work-shows = working-shows below t who (replacements r command next) (journalled t r command next) (changes_before t r command next) (publishing t r command next) (renames_after command next) (plan-of t r next command ready) r s still done o l h
@@ -280,10 +274,10 @@ all-still below t r next (Commit n) who answer s valid e ready done o l h = comm
 all-still below t r next (Import changes) who answer s valid e ready done o l h = import-still below t r next who s changes answer valid e ready done o l h
 all-still below t r next (Move rev phase force) who answer s valid e ready done o l h =
     subst (λ (x : List Op). IsStill r t (after_all x (apply (transaction_of t r (Move rev phase force) who next).journal (after_all (transaction_of t r (Move rev phase force) who next).before t)))) (sym (rename-none _ _ done o l h))
-    (begun-still below t who (replacements r (Move rev phase force) next) (journalled t r (Move rev phase force) next) [] (publishing t r (Move rev phase force) next) [] (plan-of t r next (Move rev phase force) ready) r s (journal_text (journal_of t r (Move rev phase force) next)))
+    (begun-still below t who (replacements r (Move rev phase force) next) (journalled t r (Move rev phase force) next) [] (publishing t r (Move rev phase force) next) [] (plan-of t r next (Move rev phase force) ready) r s)
 all-still below t r next (Mark name rev) who answer s valid e ready done o l h =
     subst (λ (x : List Op). IsStill r t (after_all x (apply (transaction_of t r (Mark name rev) who next).journal (after_all (transaction_of t r (Mark name rev) who next).before t)))) (sym (rename-none _ _ done o l h))
-    (begun-still below t who (replacements r (Mark name rev) next) (journalled t r (Mark name rev) next) [] (publishing t r (Mark name rev) next) [] (plan-of t r next (Mark name rev) ready) r s (journal_text (journal_of t r (Mark name rev) next)))
+    (begun-still below t who (replacements r (Mark name rev) next) (journalled t r (Mark name rev) next) [] (publishing t r (Mark name rev) next) [] (plan-of t r next (Mark name rev) ready) r s)
 all-still below t r next (Unmark name) who answer s valid e ready done o l h =
     subst (λ (x : List Op). IsStill r t (after_all x (apply (transaction_of t r (Unmark name) who next).journal (after_all (transaction_of t r (Unmark name) who next).before t)))) (sym (rename-none _ _ done o l h))
-    (begun-still below t who (replacements r (Unmark name) next) (journalled t r (Unmark name) next) [] (publishing t r (Unmark name) next) [] (plan-of t r next (Unmark name) ready) r s (journal_text (journal_of t r (Unmark name) next)))
+    (begun-still below t who (replacements r (Unmark name) next) (journalled t r (Unmark name) next) [] (publishing t r (Unmark name) next) [] (plan-of t r next (Unmark name) ready) r s)

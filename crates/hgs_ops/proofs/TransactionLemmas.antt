@@ -23,7 +23,7 @@ use Rattle.hgs_stands.specs.Open.{IsOpen}
 use Rattle.hgs_stands.specs.Places.{changelog_index}
 use Rattle.hgs_stands.specs.Stands.{IsClean, Stands}
 use Rattle.hgs_ops.specs.Growth.{growth, new_changelog_entry, new_paths}
-use Rattle.hgs_ops.specs.Operations.{appending, changes_before, journal_lines, journalled, new_changelog_index, new_changelog_path, operations, publishing, removals, renames_after, strays, transaction_of}
+use Rattle.hgs_ops.specs.Operations.{appending, changes_before, journal_lines, journalled, new_changelog_index, new_changelog_path, operations, publishing, removals, renames_after, strays, transaction_of, journal_of}
 use Rattle.hgs_ops.specs.Replaced.{Replacement, new_bookmarks, new_dirstate, new_rename, new_roots, replacements, roots_with, roots_change, roots_of}
 use Rattle.hgs_ops.specs.Stops.{IsBetween}
 use Rattle.hgs_ops.specs.Unhindered.{CanBeJournalled, IsReady}
@@ -34,9 +34,9 @@ use Rattle.hgs_ops.proofs.GoodLemmas.{files-ones, files-once, first-good, growth
 use Rattle.hgs_ops.proofs.ImportParts.{ComesTo, comes-self, import-comes, whole-made}
 use Rattle.hgs_ops.proofs.JournalLemmas.{IsGood, IsOneFile, lines-good, place_of_file, prep-loose}
 use Rattle.hgs_ops.proofs.OneLemmas.{mark-leads, move-leads, unmark-leads}
-use Rattle.hgs_ops.proofs.Plan.{IsPlan, lines-through, before-stands, changes-lead-back, changes-open, created-open, early-back, front-covers, may-stop, removed-stands, undo-back, undo-may-stop, undone-clean}
-use Rattle.hgs_ops.proofs.Plan.{undo-early as plan-early}
+use Rattle.hgs_ops.proofs.Plan.{IsPlan, lines-through, before-stands, changes-lead-back, changes-open, may-stop, removed-stands, undo-back, undo-may-stop, undone-clean}
 use Rattle.hgs_ops.specs.Theorems.Touch.{or-both, touched, touched-append, touches, within}
+use Rattle.hgs_journal.specs.Texts.{journal_text}
 
 -- the operations of a transaction of any command lead to the next repository
 pub transaction-leads : (t : Tree) (r next : Repo) (command : Command) (who : List ℕ) (answer : Answer) → Stands t r → IsValid command → step r command ≡ Ok (next, answer) → IsReady t r command next → IsClean (after_all (operations (transaction_of t r command who next)) t) next
@@ -146,9 +146,6 @@ plan-of t r next (Move rev phase force) ready = one-plan t (new_roots next) refl
 plan-of t r next (Mark name rev) ready = one-plan t (new_bookmarks next) refl
 plan-of t r next (Unmark name) ready = one-plan t (new_bookmarks next) refl
 
-pub text-of : {a b : List ℕ} → Create journal_path a ≡ Create journal_path b → a ≡ b
-text-of e = cc
-
 module _ (below : Below) (t : Tree) (r next : Repo) (command : Command) (who : List ℕ) (s : Stands t r) (ready : IsReady t r command next) where
   abbrev plan : IsPlan t (replacements r command next) (journalled t r command next) (changes_before t r command next) (publishing t r command next) (renames_after command next)
   plan = plan-of t r next command ready
@@ -168,7 +165,7 @@ module _ (below : Below) (t : Tree) (r next : Repo) (command : Command) (who : L
   abbrev renames : List Op
   renames = renames_after command next
 
-  -- the tree before the journal, and that with the whole journal
+  -- the tree before the journal has its name, and that in which it has it
   abbrev laid : Tree
   laid = after_all (transaction_of t r command who next).before t
 
@@ -180,10 +177,6 @@ module _ (below : Below) (t : Tree) (r next : Repo) (command : Command) (who : L
 
   pub before : (done left : List Op) → IsDone (transaction_of t r command who next).before done left → Stands (after_all done t) r
   before done left h = before-stands below t who files named changes publish renames plan r s done left h
-
-  -- a journal that was begun makes the tree open
-  pub created : (done left : List Op) → IsDone ((transaction_of t r command who next).journal ∷ []) done left → (done ≡ []) ⊎ IsOpen strays (after_all done laid) r
-  created done left h = created-open below t who files named changes publish renames plan r s done left h
 
   -- it stays open until the journal goes
   pub stays-open : (done left : List Op) → IsDone behind_it done left → IsOpen strays (after_all done opened) r
@@ -199,21 +192,11 @@ module _ (below : Below) (t : Tree) (r next : Repo) (command : Command) (who : L
 
   -- ---- the tree before the transaction is the one that is led back to
 
-  pub created-covers : (front back : List ℕ) → (transaction_of t r command who next).journal ≡ Create journal_path (front ++ back) → Covers strays (apply (Create journal_path front) laid) t
-  created-covers front back e = front-covers below t who files named changes publish renames plan r s front back (text-of e)
-
   pub kept-covers : (done left : List Op) → IsDone behind_it done left → Covers strays (after_all done opened) t
   kept-covers done left h = (changes-lead-back below t who files named changes publish renames plan r s done left h).covers
 
   pub undone-covers : (done left : List Op) → IsDone behind_it done left → (undone rest : List Op) → IsDone (transaction_of t r command who next).undo undone rest → Covers strays (after_all undone (after_all done opened)) t ⊎ ((rest ≡ []) × Restores strays (after_all undone (after_all done opened)) t)
   undone-covers done left h undone rest k = elim (undo-back below t who files named changes publish renames plan r s done left h undone rest k) [ inl lead ↦ inl lead.covers | inr ends ↦ inr ends ]
-
-  pub early-covers : (front back : List ℕ) → (transaction_of t r command who next).journal ≡ Create journal_path (front ++ back) → (undone rest : List Op) → IsDone (transaction_of t r command who next).undo undone rest → ((p : Tree) × Covers strays (after_all undone (apply (Create journal_path front) laid)) p × Restores strays p t) ⊎ ((rest ≡ []) × Restores strays (after_all undone (apply (Create journal_path front) laid)) t)
-  early-covers front back e undone rest k = early-back below t who files named changes publish renames plan r s front back (text-of e) undone rest k
-
-  -- the writer's undo list may begin while its journal is being made
-  pub undo-early : (front back : List ℕ) → (transaction_of t r command who next).journal ≡ Create journal_path (front ++ back) → (undone rest : List Op) → IsDone (transaction_of t r command who next).undo undone rest → IsOpen strays (after_all undone (apply (Create journal_path front) laid)) r ⊎ ((rest ≡ []) × Stands (after_all undone (apply (Create journal_path front) laid)) r)
-  undo-early front back e undone rest k = plan-early below t who files named changes publish renames plan r s front back (text-of e) undone rest k
 
   module _ (answer : Answer) (valid : IsValid command) (accepted : step r command ≡ Ok (next, answer)) where
     -- the whole, grouped as a plan has it
@@ -233,11 +216,11 @@ module _ (below : Below) (t : Tree) (r next : Repo) (command : Command) (who : L
 
 -- before the journal only locks and strays are written
 pub before-loose : (t : Tree) (r next : Repo) (command : Command) (who : List ℕ) → list_all (within (is_loose strays)) (transaction_of t r command who next).before ≡ true
-before-loose t r next (Commit n) who = prep-loose t who (commit_files r (is_some n.bookmark) next) (files-ones (roots_change r next) (is_some n.bookmark) (roots_of next) (new_dirstate next).text (new_bookmarks next).text) (files-once (roots_change r next) (is_some n.bookmark) (roots_of next) (new_dirstate next).text (new_bookmarks next).text)
-before-loose t r next (Import changes) who = prep-loose t who (commit_files r (sets_bookmark changes) next) (files-ones (roots_change r next) (sets_bookmark changes) (roots_of next) (new_dirstate next).text (new_bookmarks next).text) (files-once (roots_change r next) (sets_bookmark changes) (roots_of next) (new_dirstate next).text (new_bookmarks next).text)
-before-loose t r next (Move rev phase force) who = prep-loose t who (new_roots next ∷ []) (refl, tt) refl
-before-loose t r next (Mark name rev) who = prep-loose t who (new_bookmarks next ∷ []) (refl, tt) refl
-before-loose t r next (Unmark name) who = prep-loose t who (new_bookmarks next ∷ []) (refl, tt) refl
+before-loose t r next (Commit n) who = prep-loose t who (commit_files r (is_some n.bookmark) next) (files-ones (roots_change r next) (is_some n.bookmark) (roots_of next) (new_dirstate next).text (new_bookmarks next).text) (files-once (roots_change r next) (is_some n.bookmark) (roots_of next) (new_dirstate next).text (new_bookmarks next).text) (journal_text (journal_of t r (Commit n) next))
+before-loose t r next (Import changes) who = prep-loose t who (commit_files r (sets_bookmark changes) next) (files-ones (roots_change r next) (sets_bookmark changes) (roots_of next) (new_dirstate next).text (new_bookmarks next).text) (files-once (roots_change r next) (sets_bookmark changes) (roots_of next) (new_dirstate next).text (new_bookmarks next).text) (journal_text (journal_of t r (Import changes) next))
+before-loose t r next (Move rev phase force) who = prep-loose t who (new_roots next ∷ []) (refl, tt) refl (journal_text (journal_of t r (Move rev phase force) next))
+before-loose t r next (Mark name rev) who = prep-loose t who (new_bookmarks next ∷ []) (refl, tt) refl (journal_text (journal_of t r (Mark name rev) next))
+before-loose t r next (Unmark name) who = prep-loose t who (new_bookmarks next ∷ []) (refl, tt) refl (journal_text (journal_of t r (Unmark name) next))
 
 -- a commit comes to the dirstate and the bookmarks behind its publishing operation alone
 pub commit-quiet : (t : Tree) (r next : Repo) (n : NewChange) (who q : List ℕ) → is_quiet q ≡ true → touched q (new_rename (new_roots next) ∷ []) ≡ false → touches q (commit_publish t r next) ≡ false

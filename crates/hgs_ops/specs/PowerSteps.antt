@@ -1,35 +1,27 @@
 -- The transaction of a command, so that a loss of power does no harm.
 use Rattle.std.specs.Prelude.{ℕ, Bool, List, [], ◌∷◌, ◌++◌, map, is_some}
 use Rattle.hgs_files.specs.declared.op.Op.{Op}
-use Rattle.hgs_files.specs.declared.op.Op.TheVariants.{Append, Remove, Create}
+use Rattle.hgs_files.specs.declared.op.Op.TheVariants.{Append, Create}
 use Rattle.hgs_files.specs.Tree.{Tree}
 use Rattle.hgs_journal.specs.Covers.{journal_paths}
 use Rattle.hgs_model.specs.Repo.{Repo}
 use Rattle.hgs_model.specs.Step.{sets_bookmark}
 use Rattle.hgs_model.specs.declared.command.Command.{Command}
 use Rattle.hgs_model.specs.declared.command.Command.TheVariants.{Commit, Import, Move, Mark, Unmark}
-use Rattle.hgs_power.specs.Calm.{new_journal_path}
 use Rattle.hgs_power.specs.Course.{Place}
 use Rattle.hgs_power.specs.Course.Phase.{rest}
 use Rattle.hgs_power.specs.Shape.{New, Onward, Shape, onward_steps, steps_of}
 use Rattle.hgs_power.specs.Transaction.{Steps}
 use Rattle.hgs_stands.specs.Places.{changelog_index}
 use Rattle.hgs_ops.specs.Growth.{growth, new_changelog_entry}
-use Rattle.hgs_ops.specs.Operations.{appending, journal_lines, lock_path, new_changelog_path, strays, wlock_path}
+use Rattle.hgs_ops.specs.Operations.{appending, journal_lines, lock_path, new_changelog_path, removals, wlock_path}
 use Rattle.hgs_ops.specs.Replaced.{Replacement, new_bookmarks, new_dirstate, new_roots, only_if, roots_change}
-
--- the strays, with the journal before it gets its name
-abbrev pub power_strays : List (List ℕ)
-power_strays = strays ++ new_journal_path ∷ []
 
 abbrev pub as_new : Replacement → New
 as_new x = record { plain = x.plain; file = x.file; text = x.text }
 
 abbrev pub power_locks : List ℕ → List Op
 power_locks who = Create wlock_path who ∷ Create lock_path who ∷ []
-
-abbrev pub power_removals : List Op
-power_removals = map (λ path. Remove path) power_strays ++ Remove lock_path ∷ Remove wlock_path ∷ []
 
 -- the new texts of a commit or an import, which sets a bookmark or does not: those that get their names before it is published, and those behind that
 abbrev pub texts_before : Repo → Repo → List New
@@ -50,7 +42,7 @@ commit_shape t r marks who next = record {
   entries = Append changelog_index (new_changelog_entry t r next) ∷ [];
   second = texts_behind marks next;
   last = changelog_index ∷ [];
-  removals = power_removals;
+  removals = removals;
 }
 
 -- an import by the rename of a new index, which goes on from the one that stands
@@ -69,7 +61,7 @@ rename_shape who x = record {
   entries = [];
   second = [];
   last = [];
-  removals = power_removals;
+  removals = removals;
 }
 
 -- the parts of the transaction of a command over a tree with the writer's locks

@@ -9,9 +9,9 @@ ghost use Rattle.hgs_stands.specs.Places.{bookmarks_path, changelog_data, change
 ghost use Rattle.hgs_stands.specs.Samples.{two_drafts, two_drafts_files};
 ghost use Rattle.hgs_stands.specs.Stands.{IsClean, Stands};
 ghost use Rattle.hgs_ops.specs.Laid.{AreLaid, appended_by, changes_roots, names_with};
-ghost use Rattle.hgs_ops.specs.Operations.{operations, transaction_of};
+ghost use Rattle.hgs_ops.specs.Operations.{operations, transaction_of, strays};
 ghost use Rattle.hgs_ops.specs.PowerCourses.{AreCalls, parts_of_calls};
-ghost use Rattle.hgs_ops.specs.PowerSteps.{power_strays, resting_at};
+ghost use Rattle.hgs_ops.specs.PowerSteps.{resting_at};
 ghost use Rattle.hgs_power.specs.Course.{AllWithin};
 ghost use Rattle.hgs_power.specs.Disk.{at_rest};
 ghost use Rattle.hgs_ops.specs.Samples.{after_both, after_delete, after_publish, after_set, bare, both_changes, delete_here, first_call, first_change, first_repos, one_draft, one_marked, one_public, one_unmarked, publish_here, set_here};
@@ -33,7 +33,7 @@ pub fn first_commit()
 /// repository or lead back to it, or, once it is published, for the one with its changeset.
 pub fn first_commit_bears_a_loss_of_power()
     ensures calls { (who : List ℕ) → AreCalls first_repos 0 (at_rest bare) (first_call who ∷ []) }
-    ensures safe { (who : List ℕ) → AllWithin power_strays (λ m t. Stands t (first_repos m)) (parts_of_calls first_repos 0 (at_rest bare) (first_call who ∷ [])) (at_rest bare) (resting_at 0) }
+    ensures safe { (who : List ℕ) → AllWithin strays (λ m t. Stands t (first_repos m)) (parts_of_calls first_repos 0 (at_rest bare) (first_call who ∷ [])) (at_rest bare) (resting_at 0) }
 {
     transactions_bear_a_loss_of_power();
 }

@@ -27,7 +27,7 @@ ghost use Rattle.hgs_power.specs.Disk.{Disk, Leaves, at_rest, tree_now};
 ghost use Rattle.hgs_power.specs.Held.{IsOrderly, IsQuiet};
 ghost use Rattle.hgs_power.specs.Transaction.{IsTransaction, ops_to_removal, parts_of};
 ghost use Rattle.hgs_ops.specs.PowerCourses.{AreCalls, Call, parts_of_calls};
-ghost use Rattle.hgs_ops.specs.PowerSteps.{power_locks, power_steps, power_strays, resting_at};
+ghost use Rattle.hgs_ops.specs.PowerSteps.{power_locks, power_steps, resting_at};
 ghost use Rattle.hgs_ops.specs.Growth.{IsRevlogFile, appended, growth, growth_of, new_changelog_entry, new_names_of, new_paths};
 ghost use Rattle.hgs_ops.specs.Laid.{AreLaid, Record, appended_by, changes_of, changes_roots, laid, names_with, repo_behind, tree_behind};
 ghost use Rattle.hgs_ops.specs.Operations.{appending, changes_before, journal_lines, journal_of, journalled, new_changelog_path, operations, publishing, removals, strays, transaction_of};
@@ -89,12 +89,11 @@ pub fn journals_name_once()
     ensures { (t : Tree) (r next : Repo) (command : Command) → IsReady t r command next → no_repeat (journal_paths (journal_of t r command next)) ≡ true }
 {}
 
-/// Whatever part of the operations before the journal is done, the tree stands for the repository. From the first byte of
-/// the journal on, through every part of the changes, the publishing operation and the renames, it is open for it. Behind
-/// the journal's removal it stands for the next one.
+/// Whatever part of the operations before the journal is done, the tree stands for the repository. Once the journal has its
+/// name, through every part of the changes, the publishing operation and the renames, it is open for it. Behind the journal's
+/// removal it stands for the next one.
 pub fn transactions_stay_open()
     ensures before { (t : Tree) (r next : Repo) (command : Command) (who : List ℕ) → Stands t r → IsReady t r command next → (done left : List Op) → IsDone (transaction_of t r command who next).before done left → Stands (after_all done t) r }
-    ensures created { (t : Tree) (r next : Repo) (command : Command) (who : List ℕ) → Stands t r → IsReady t r command next → (done left : List Op) → IsDone ((transaction_of t r command who next).journal ∷ []) done left → (done ≡ []) ⊎ IsOpen strays (after_all done (after_all (transaction_of t r command who next).before t)) r }
     ensures kept { (t : Tree) (r next : Repo) (command : Command) (who : List ℕ) → Stands t r → IsReady t r command next → (done left : List Op) → IsDone ((transaction_of t r command who next).changes ++ (transaction_of t r command who next).publish ∷ (transaction_of t r command who next).renames) done left → IsOpen strays (after_all done (apply (transaction_of t r command who next).journal (after_all (transaction_of t r command who next).before t))) r }
     ensures removed { (t : Tree) (r next : Repo) (command : Command) (who : List ℕ) (answer : Answer) → Stands t r → IsValid command → step r command ≡ Ok (next, answer) → IsReady t r command next → (done left : List Op) → IsDone removals done left → Stands (after_all done (apply (Op.Remove journal_path) (after_all ((transaction_of t r command who next).changes ++ (transaction_of t r command who next).publish ∷ (transaction_of t r command who next).renames) (apply (transaction_of t r command who next).journal (after_all (transaction_of t r command who next).before t))))) next }
 {
@@ -121,11 +120,10 @@ pub fn transactions_may_stop()
 
 /// And from wherever a writer breaks off, behind any part of the changes, its own list of undoing and the removals lead back
 /// to a tree that stands for the repository before, without locks. Wherever that list is stopped the tree is still open for
-/// it, or all of it is done and the tree stands for it. The list may also begin while the journal is being made.
+/// it, or all of it is done and the tree stands for it.
 pub fn undo_leads_back()
     ensures leads { (t : Tree) (r next : Repo) (command : Command) (who : List ℕ) → Stands t r → IsReady t r command next → (done left : List Op) → IsDone ((transaction_of t r command who next).changes ++ (transaction_of t r command who next).publish ∷ (transaction_of t r command who next).renames) done left → IsClean (after_all ((transaction_of t r command who next).undo ++ removals) (after_all done (apply (transaction_of t r command who next).journal (after_all (transaction_of t r command who next).before t)))) r }
     ensures stops { (t : Tree) (r next : Repo) (command : Command) (who : List ℕ) → Stands t r → IsReady t r command next → (done left : List Op) → IsDone ((transaction_of t r command who next).changes ++ (transaction_of t r command who next).publish ∷ (transaction_of t r command who next).renames) done left → (undone rest : List Op) → IsDone (transaction_of t r command who next).undo undone rest → IsOpen strays (after_all undone (after_all done (apply (transaction_of t r command who next).journal (after_all (transaction_of t r command who next).before t)))) r ⊎ ((rest ≡ []) × Stands (after_all undone (after_all done (apply (transaction_of t r command who next).journal (after_all (transaction_of t r command who next).before t)))) r) }
-    ensures early { (t : Tree) (r next : Repo) (command : Command) (who : List ℕ) → Stands t r → IsReady t r command next → (front back : List ℕ) → (transaction_of t r command who next).journal ≡ Op.Create journal_path (front ++ back) → (undone rest : List Op) → IsDone (transaction_of t r command who next).undo undone rest → IsOpen strays (after_all undone (apply (Op.Create journal_path front) (after_all (transaction_of t r command who next).before t))) r ⊎ ((rest ≡ []) × Stands (after_all undone (apply (Op.Create journal_path front) (after_all (transaction_of t r command who next).before t))) r) }
 {
     journals_begin();
     transactions_stay_covered();
@@ -140,10 +138,8 @@ pub fn undo_leads_back()
 /// From the publishing operation to the journal's removal it shows the next one, but for the bookmarks and the working
 /// parents whose renames are still to do: these are of the one before.
 pub fn transactions_show()
-    ensures created { (t : Tree) (r next : Repo) (command : Command) (who : List ℕ) → Stands t r → IsReady t r command next → (front back : List ℕ) → (transaction_of t r command who next).journal ≡ Op.Create journal_path (front ++ back) → Shows (apply (Op.Create journal_path front) (after_all (transaction_of t r command who next).before t)) r r r }
     ensures working { (t : Tree) (r next : Repo) (command : Command) (who : List ℕ) (answer : Answer) → Stands t r → IsValid command → step r command ≡ Ok (next, answer) → IsReady t r command next → (done : List Op) (op : Op) (left : List Op) → IsDone ((transaction_of t r command who next).changes ++ (transaction_of t r command who next).publish ∷ []) done (op ∷ left) → Shows (after_all done (apply (transaction_of t r command who next).journal (after_all (transaction_of t r command who next).before t))) r r r }
     ensures undone { (t : Tree) (r next : Repo) (command : Command) (who : List ℕ) (answer : Answer) → Stands t r → IsValid command → step r command ≡ Ok (next, answer) → IsReady t r command next → (done : List Op) (op : Op) (left : List Op) → IsDone ((transaction_of t r command who next).changes ++ (transaction_of t r command who next).publish ∷ []) done (op ∷ left) → (undone rest : List Op) → IsDone (transaction_of t r command who next).undo undone rest → Shows (after_all undone (after_all done (apply (transaction_of t r command who next).journal (after_all (transaction_of t r command who next).before t)))) r r r }
-    ensures early { (t : Tree) (r next : Repo) (command : Command) (who : List ℕ) → Stands t r → IsReady t r command next → (front back : List ℕ) → (transaction_of t r command who next).journal ≡ Op.Create journal_path (front ++ back) → (undone rest : List Op) → IsDone (transaction_of t r command who next).undo undone rest → Shows (after_all undone (apply (Op.Create journal_path front) (after_all (transaction_of t r command who next).before t))) r r r }
     ensures settled { (t : Tree) (r next : Repo) (command : Command) (who : List ℕ) (answer : Answer) → Stands t r → IsValid command → step r command ≡ Ok (next, answer) → IsReady t r command next → (done : List Op) (op : Op) (left : List Op) → IsDone ((transaction_of t r command who next).renames ++ Op.Remove journal_path ∷ []) done (op ∷ left) → Shows (after_all done (after_all ((transaction_of t r command who next).changes ++ (transaction_of t r command who next).publish ∷ []) (apply (transaction_of t r command who next).journal (after_all (transaction_of t r command who next).before t)))) (if lacks_bookmarks (op ∷ left) then r else next) (if lacks_dirstate (op ∷ left) then r else next) next }
 {
     journals_begin();
@@ -182,13 +178,11 @@ pub fn imports_write_what_commits_do()
     ensures entries { (t : Tree) (r mid next : Repo) (n : NewChange) (changes : List NewChange) (who : List ℕ) (one last : Answer) → Stands t r → IsNewChange n → IsValid (Import changes) → step r (Commit n) ≡ Ok (mid, one) → step mid (Import changes) ≡ Ok (next, last) → IsUnhindered t r mid → IsUnhindered (after_all (operations (transaction_of t r (Commit n) who mid)) t) mid next → new_changelog_entry t r next ≡ new_changelog_entry t r mid ++ new_changelog_entry (after_all (operations (transaction_of t r (Commit n) who mid)) t) mid next }
 {}
 
-/// While its journal stands, also in part, a transaction's tree leads back to the very tree from which it began, and undoing
+/// While its journal stands a transaction's tree leads back to the very tree from which it began, and undoing
 /// leads there, locks, strays and empty files aside.
 pub fn transactions_cover_their_start()
-    ensures created { (t : Tree) (r next : Repo) (command : Command) (who : List ℕ) → Stands t r → IsReady t r command next → (front back : List ℕ) → (transaction_of t r command who next).journal ≡ Op.Create journal_path (front ++ back) → Covers strays (apply (Op.Create journal_path front) (after_all (transaction_of t r command who next).before t)) t }
     ensures kept { (t : Tree) (r next : Repo) (command : Command) (who : List ℕ) → Stands t r → IsReady t r command next → (done left : List Op) → IsDone ((transaction_of t r command who next).changes ++ (transaction_of t r command who next).publish ∷ (transaction_of t r command who next).renames) done left → Covers strays (after_all done (apply (transaction_of t r command who next).journal (after_all (transaction_of t r command who next).before t))) t }
     ensures undone { (t : Tree) (r next : Repo) (command : Command) (who : List ℕ) → Stands t r → IsReady t r command next → (done left : List Op) → IsDone ((transaction_of t r command who next).changes ++ (transaction_of t r command who next).publish ∷ (transaction_of t r command who next).renames) done left → (undone rest : List Op) → IsDone (transaction_of t r command who next).undo undone rest → Covers strays (after_all undone (after_all done (apply (transaction_of t r command who next).journal (after_all (transaction_of t r command who next).before t)))) t ⊎ ((rest ≡ []) × Restores strays (after_all undone (after_all done (apply (transaction_of t r command who next).journal (after_all (transaction_of t r command who next).before t)))) t) }
-    ensures early { (t : Tree) (r next : Repo) (command : Command) (who : List ℕ) → Stands t r → IsReady t r command next → (front back : List ℕ) → (transaction_of t r command who next).journal ≡ Op.Create journal_path (front ++ back) → (undone rest : List Op) → IsDone (transaction_of t r command who next).undo undone rest → ((p : Tree) × Covers strays (after_all undone (apply (Op.Create journal_path front) (after_all (transaction_of t r command who next).before t))) p × Restores strays p t) ⊎ ((rest ≡ []) × Restores strays (after_all undone (apply (Op.Create journal_path front) (after_all (transaction_of t r command who next).before t))) t) }
 {
     journals_begin();
     transactions_stay_covered();
@@ -270,10 +264,10 @@ pub fn strays_hinder_nothing()
 /// recovery after that: wherever the power fails, a tree is left that stands for a repository, or
 /// leads back to one, no older than the transactions acknowledged and no newer than those published.
 pub fn transactions_bear_a_loss_of_power()
-    ensures transactions { (t : Tree) (r next : Repo) (command : Command) (who : List ℕ) → IsReady t r command next → IsTransaction power_strays (power_steps t r command who next) t }
+    ensures transactions { (t : Tree) (r next : Repo) (command : Command) (who : List ℕ) → IsReady t r command next → IsTransaction strays (power_steps t r command who next) t }
     ensures leads { (t : Tree) (r next : Repo) (command : Command) (who : List ℕ) (answer : Answer) → Stands (after_all (power_locks who) t) r → IsValid command → step r command ≡ Ok (next, answer) → IsReady (after_all (power_locks who) t) r command next → Stands (after_all (ops_to_removal (power_steps (after_all (power_locks who) t) r command who next)) t) next }
-    ensures courses { (repos : ℕ → Repo) (d : Disk) (a : ℕ) (command : Command) (who : List ℕ) (answer : Answer) → IsOrderly power_strays d → IsQuiet power_strays d → ((t : Tree) → Leaves d t → IsOpenFor power_strays (λ m t. Stands t (repos m)) a t) → IsValid command → step (repos a) command ≡ Ok (repos (suc a), answer) → IsReady (after_all (power_locks who) (tree_now d)) (repos a) command (repos (suc a)) → IsCourse power_strays (λ m t. Stands t (repos m)) (parts_of (power_steps (after_all (power_locks who) (tree_now d)) (repos a) command who (repos (suc a)))) d (resting_at a) }
-    ensures calls { (repos : ℕ → Repo) (start : Tree) (calls : List Call) → Stands start (repos 0) → AreCalls repos 0 (at_rest start) calls → AllWithin power_strays (λ m t. Stands t (repos m)) (parts_of_calls repos 0 (at_rest start) calls) (at_rest start) (resting_at 0) }
+    ensures courses { (repos : ℕ → Repo) (d : Disk) (a : ℕ) (command : Command) (who : List ℕ) (answer : Answer) → IsOrderly strays d → IsQuiet strays d → ((t : Tree) → Leaves d t → IsOpenFor strays (λ m t. Stands t (repos m)) a t) → IsValid command → step (repos a) command ≡ Ok (repos (suc a), answer) → IsReady (after_all (power_locks who) (tree_now d)) (repos a) command (repos (suc a)) → IsCourse strays (λ m t. Stands t (repos m)) (parts_of (power_steps (after_all (power_locks who) (tree_now d)) (repos a) command who (repos (suc a)))) d (resting_at a) }
+    ensures calls { (repos : ℕ → Repo) (start : Tree) (calls : List Call) → Stands start (repos 0) → AreCalls repos 0 (at_rest start) calls → AllWithin strays (λ m t. Stands t (repos m)) (parts_of_calls repos 0 (at_rest start) calls) (at_rest start) (resting_at 0) }
 {
     journals_begin();
     transactions_stay_covered();

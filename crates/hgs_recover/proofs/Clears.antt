@@ -152,7 +152,7 @@ loose-stay (op ∷ log) t q h e =
     loose-stay log (apply op t) q h.1 e ∙ ap (λ (o : Op). apply o t q) h.0.1 ∙ away t h.0.0 q h.0.2 e
 
 leftovers-loose : AllByRecursion (λ path. is_loose strays path ≡ true) leftover_paths
-leftovers-loose = (refl, (refl, (refl, (refl, (refl, (refl, (refl, (refl, (refl, (refl, (refl, tt)))))))))))
+leftovers-loose = (refl, (refl, (refl, (refl, (refl, (refl, (refl, (refl, (refl, (refl, (refl, (refl, tt))))))))))))
 
 -- no file but locks and strays is changed, wherever it is stopped
 pub others-stay : (t : Tree) (swept : Bool) (log done : List Op) (q : List ℕ) → Clears leftover_paths t swept log → IsStopped log done → is_loose strays q ≡ false → after_all done t q ≡ t q

@@ -1,10 +1,11 @@
 -- Recovering leads back, and so does each stop in it.
 use Rattle.std.proofs.Common.{◌≡◌, ◌⊎◌, ℕ, List, [], ◌∷◌, Bool, true, false, refl, sym, ◌∙◌, ap, subst, inl, inr}
-use Rattle.std.specs.Prelude.{Option, Some, None, Result, Ok}
+use Rattle.std.specs.Prelude.{Option, Some, None, Result, Ok, unwrap_or}
+use Rattle.hgs_bytes.specs.Bytes.{same}
 use Rattle.hgs_files.specs.declared.op.Op.{Op}
 use Rattle.hgs_files.specs.Log.{IsDone}
 use Rattle.hgs_files.specs.Stop.{IsStopped, StopLeaves}
-use Rattle.hgs_files.specs.Tree.{Tree, after_all}
+use Rattle.hgs_files.specs.Tree.{Tree, after_all, bytes_at}
 use Rattle.hgs_journal.specs.Covers.{Covers, IsRestored, Restores, is_loose, undo_ops}
 use Rattle.hgs_journal.specs.Names.{journal_path}
 use Rattle.hgs_model.specs.Repo.{Repo}
@@ -37,7 +38,7 @@ none-left op left e = absurd (let no : ⊥ = cc in no)
 
 -- no lock is left where all was swept
 no-locks : (t : Tree) (log : List Op) (r : Repo) → Clears leftover_paths t true log → Stands (after_all log t) r → IsClean (after_all log t) r
-no-locks t log r h s = (let gone = (h.gone refl).1.1.1.1.1.1.1.1.1 in record { stands = s; no_locks = (gone.1.0, (gone.0, tt)) })
+no-locks t log r h s = (let gone = (h.gone refl).1.1.1.1.1.1.1.1.1.1 in record { stands = s; no_locks = (gone.1.0, (gone.0, tt)) })
 
 module _ (b : Below) where
   -- what is removed beside a repository does not matter
@@ -131,6 +132,46 @@ module _ (b : Below) where
     where
       undone : after_all h.undone t ≡ after_all (undo_ops t c.journal c.backups) t
       undone = b.joins ops h.undone [] t h.done ∙ ap (λ (l : List Op). after_all l t) (ops-are ops (undo_ops t c.journal c.backups) (sym e ∙ found-open b t q c))
+
+  -- ---- each file on the way
+
+  abbrev HasEither : Tree → Tree → Tree → List ℕ → Type 0
+  HasEither t q u path = (bytes_at u path ≡ bytes_at t path) ⊎ (bytes_at u path ≡ bytes_at q path)
+
+  files-in-part : (t q : Tree) (ops done left : List Op) (path : List ℕ) → Covers strays t q → found_in t ≡ Ok (Some ops) → IsDone ops done left → is_loose strays path ≡ false → same path journal_path ≡ false → HasEither t q (after_all done t) path
+  files-in-part t q ops done left path c e d free apart =
+      b.files strays t q c.journal c.backups path done left refl (leads-back b t q c) free apart (subst (λ (l : List Op). IsDone l done left) (ops-are ops (undo_ops t c.journal c.backups) (sym e ∙ found-open b t q c)) d)
+
+  files-before : (t q : Tree) (log done : List Op) (path : List ℕ) → log ≡ [] → IsStopped log done → HasEither t q (after_all done t) path
+  files-before t q log done path e d = inl (ap (λ (l : List Op). bytes_at (after_all l t) path) (stopped-none log done e d))
+
+  files-cleared : (t q v u : Tree) (path : List ℕ) → bytes_at u path ≡ bytes_at v path → HasEither t q v path → HasEither t q u path
+  files-cleared t q v u path e (inl h) = inl (e ∙ h)
+  files-cleared t q v u path e (inr h) = inr (e ∙ h)
+
+  files-restored : (t q : Tree) (swept : Bool) (log done : List Op) (path : List ℕ) → Covers strays t q → RecoversBy t Restored swept log → IsStopped log done → is_loose strays path ≡ false → same path journal_path ≡ false → HasEither t q (after_all done t) path
+  files-restored t q swept log done path c (ops, e, h) d free apart = elim (stopped-split h.undone h.removed done (subst (λ (l : List Op). IsStopped l done) h.whole d)) [
+    | inl first ↦ (let part = stopped-done b.pieces ops h.undone done [] h.done first in files-in-part t q ops done part.0 path c e part.1 free apart)
+    | inr (more, behind, is) ↦ (
+        let tree : after_all done t ≡ after_all more (after_all h.undone t) = ap (λ (l : List Op). after_all l t) is ∙ after_all-append h.undone more t in
+        let here : bytes_at (after_all done t) path ≡ bytes_at (after_all h.undone t) path =
+        ap (λ (u : Tree). bytes_at u path) tree ∙ ap (λ (f : Option (List ℕ)). unwrap_or f []) (others-stay (after_all h.undone t) swept h.removed more path h.clears behind free) in
+        files-cleared t q (after_all h.undone t) (after_all done t) path here (files-in-part t q ops h.undone [] path c e h.done free apart)
+        )
+  ]
+
+  files-stopped : (t q : Tree) (answer : RecoverAnswer) (swept : Bool) (log done : List Op) (path : List ℕ) → Covers strays t q → RecoversBy t answer swept log → IsStopped log done → is_loose strays path ≡ false → same path journal_path ≡ false → HasEither t q (after_all done t) path
+  files-stopped t q Restored swept log done path c h d free apart = files-restored t q swept log done path c h d free apart
+  files-stopped t q NothingToDo swept log done path c h d free apart = some-none (undo_ops t c.journal c.backups) (sym (found-open b t q c) ∙ h.0)
+  files-stopped t q (Damaged x) swept log done path c h d free apart = files-before t q log done path h.0 d
+  files-stopped t q Fault swept log done path c h d free apart = files-before t q log done path h.0 d
+  files-stopped t q Unfinished swept log done path c (ops, e, h) d free apart =
+      let part = stopped-done b.pieces ops log done (h.op ∷ h.left) h.done d in
+      files-in-part t q ops done part.0 path c e part.1 free apart
+  files-stopped t q Memory swept log done path c h d free apart = files-before t q log done path h.0 d
+
+  pub open-files : (t q u : Tree) (answer : RecoverAnswer) (swept : Bool) (log : List Op) (path : List ℕ) → Covers strays t q → RecoversBy t answer swept log → StopLeaves t log u → is_loose strays path ≡ false → same path journal_path ≡ false → (bytes_at u path ≡ bytes_at t path) ⊎ (bytes_at u path ≡ bytes_at q path)
+  open-files t q u answer swept log path c h (done, d, e) free apart = subst (λ v. HasEither t q v path) (sym e) (files-stopped t q answer swept log done path c h d free apart)
 
   -- ---- from an open tree
 

@@ -1,5 +1,5 @@
 //! What recovering comes to, and its text.
-ghost use Rattle.std.specs.Prelude.{◌≡◌, ◌++◌, OnOk, OnErr, IfOk};
+ghost use Rattle.std.specs.Prelude.{◌≡◌, ◌++◌, OnOk, OnErr};
 ghost use Rattle.hgs_recover.specs.Answer.{outcome_of_read, recovered_text, said_text, status_of};
 
 use hgs_load::answer::ReadAnswer;
@@ -91,16 +91,16 @@ impl Recovered {
         self.outcome.status()
     }
 
-    fn text(&self, alloc: Global) -> Result<Vec<u8>, AllocError>
-        ensures { IfOk result (λ text. text.items ≡ recovered_text self.now) }
+    /// Adds the text. Where there is no memory, a front of it may be added. Nothing is allocated but what `into` lacks of room.
+    pub fn push(&self, into: &mut Vec<u8>) -> Result<(), AllocError>
+        ensures { OnOk result (into.new.items ≡ into.old.items ++ recovered_text self.now) }
     {
-        let mut text = Vec::new(alloc);
-        self.outcome.push_said(&mut text)?;
-        text.push(b'\n')?;
+        self.outcome.push_said(into)?;
+        into.push(b'\n')?;
         if !self.swept {
-            text.extend_from_slice(b"leftover files remain\n")?;
+            return into.extend_from_slice(b"leftover files remain\n");
         }
-        Ok(text)
+        Ok(())
     }
 
     /// Adds the text. Where there is no memory, nothing is added.
@@ -108,7 +108,8 @@ impl Recovered {
         ensures ok { OnOk result (into.new.items ≡ into.old.items ++ recovered_text self.now) }
         ensures err { OnErr result (into.new.items ≡ into.old.items) }
     {
-        let text = self.text(alloc)?;
+        let mut text = Vec::new(alloc);
+        self.push(&mut text)?;
         into.extend_from_slice(&text)
     }
 }

@@ -37,6 +37,7 @@ fn stray_paths(alloc: Global) -> Result<Vec<StorePath>, AllocError>
     paths.push(path_of(alloc, true, b"journal.new.bookmarks")?)?;
     paths.push(path_of(alloc, true, b"journal.new.requires")?)?;
     paths.push(path_of(alloc, true, b"store/00changelog.i.a")?)?;
+    paths.push(path_of(alloc, true, b"store/journal.new.journal")?)?;
     Ok(paths)
 }
 

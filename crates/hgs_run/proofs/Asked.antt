@@ -77,7 +77,7 @@ asked_reads (Err place) is status left h = absurd (cc is)
 -- no command that writes was asked for
 pub asked_makes_none : (words : List (List ℕ)) → is_session (request_of_words words) ≡ true → (input : Option (List ℕ)) (old new : Option (List Op)) (start : Tree) → MakesHistory words input old new start
 asked_makes_none words is input None new start = tt
-asked_makes_none words is input (Some log) new start = λ job asked writing told. let e : is_session (Ok (to_do job)) ≡ true = sym (ap is_session asked) ∙ is in absurd (cc e)
+asked_makes_none words is input (Some log) new start = λ job asked told. let e : is_session (Ok (to_do job)) ≡ true = sym (ap is_session asked) ∙ is in absurd (cc e)
 
 -- ---- something else is asked for
 

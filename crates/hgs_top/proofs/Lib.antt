@@ -14,6 +14,7 @@ pub mod LeftLemmas
 pub mod ListingLemmas
 pub mod LogLemmas
 pub mod OpenLemmas
+pub mod NewLemmas
 pub mod PiecesLemmas
 pub mod PlayLemmas
 pub mod ReplyLemmas

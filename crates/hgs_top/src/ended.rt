@@ -95,8 +95,8 @@ impl Ended {
             Ended::NoInput => into.extend_from_slice(b"abort: input failed\n"),
             Ended::NoRecord(fault) => push_no_record(into, *fault),
             Ended::Refused(refusal) => refusal.print(alloc, into),
-            Ended::Answered { command, answer } => answer.print(alloc, command, into),
-            Ended::Recovered(recovered) => recovered.print(alloc, into),
+            Ended::Answered { command, answer } => answer.push(command, into),
+            Ended::Recovered(recovered) => recovered.push(into),
         }
     }
 }

@@ -1,5 +1,5 @@
 //! What the definitions of this crate imply. Each function is one law; none does anything but to call laws that it rests on.
-ghost use Rattle.std.specs.Prelude.{◌≡◌, ◌⊎◌, ℕ, List, Ok, Option, Some, None, length, slice_get};
+ghost use Rattle.std.specs.Prelude.{◌≡◌, ◌⊎◌, ℕ, List, [], Ok, Option, Some, None, length, slice_get};
 ghost use Rattle.hex.specs.Hex.{IsBytes};
 ghost use Rattle.hgs_files.specs.Tree.{Tree, bytes_at};
 ghost use Rattle.hgs_index.specs.Revision.{nodes};
@@ -7,7 +7,7 @@ ghost use Rattle.hgs_revlog.specs.Held.{AreWithinLimits};
 ghost use Rattle.hgs_load.specs.Asks.{at_rest};
 ghost use Rattle.hgs_reader.specs.Line.{change_asks};
 ghost use Rattle.hgs_load.specs.View.{View, changelog_index};
-ghost use Rattle.hgs_load.specs.Open.{open_asks};
+ghost use Rattle.hgs_load.specs.Open.{open_asks, requires_path};
 ghost use Rattle.hgs_top.specs.History.{Changeset, HoldsHistory, IsReadWhole, Opens, chunks_in, history_text, revisions_of};
 ghost use Rattle.hgs_top.specs.IndexLaws.{IndexLaws};
 ghost use Rattle.hgs_model.specs.Repo.{Repo};
@@ -22,19 +22,24 @@ ghost use Rattle.hgs_top.specs.Verified.{report_status, report_text};
 ghost use Rattle.hgs_top.specs.Words.{Job, Question, request_of_words, to_do};
 ghost use Rattle.hgs_answers.specs.declared.answer.Answer.{Answer};
 ghost use Rattle.hgs_files.specs.declared.op.Op.{Op};
+ghost use Rattle.hgs_files.specs.Log.{IsDone};
+ghost use Rattle.hgs_files.specs.Stop.{IsStopped};
 ghost use Rattle.hgs_files.specs.Tree.{after_all};
 ghost use Rattle.hgs_machine.specs.Refusals.{WereRefused};
 ghost use Rattle.hgs_model.specs.Valid.{IsValid};
 ghost use Rattle.hgs_model.specs.declared.command.Command.{Command};
 ghost use Rattle.hgs_stands.specs.Stands.{Stands};
 ghost use Rattle.hgs_legal.specs.ListsPaths.{ListsOnlyPaths};
-ghost use Rattle.hgs_top.specs.Histories.{GoesOnAs, IsTold, MakesHistory};
-ghost use Rattle.hgs_top.specs.Orders.{ComesTo, IsCommandOf, Obeys};
+ghost use Rattle.hgs_top.specs.Histories.{GoesOnAs, IsBare, IsNew, IsTold, MakesHistory};
+ghost use Rattle.hgs_top.specs.Orders.{ComesTo, IsCommandOf, Obeys, init_operations};
 ghost use Rattle.hgs_top.specs.declared.ended.Ended.TheVariants.{Answered};
 
 use hgs_input::laws::{read_imports_are_imports, read_records_are_records};
+use hgs_legal::list_laws::new_repositories_list_paths;
 use hgs_load::laws::{files_are_read_whole, separate_indexes_are_asked};
+use hgs_recover::laws::{nothing_but_leftovers_is_removed, recovering_leads_back};
 use hgs_revlog::laws::{either_form, inline_index};
+use hgs_stands::laws::requires_alone;
 use hgs_writer::laws::calls_leave_what_they_answer;
 
 // What is asked of the changelog's index in either form, and what it loads as.
@@ -100,13 +105,27 @@ pub fn answered_commands_make_histories()
     calls_leave_what_they_answer();
 }
 
-/// So a run that did what its words ask for, if that is a command whose operations are those of a transaction, made pieces of a
-/// legal log of the repository that the files stood for, or nothing, where their list of filelogs had only names of paths.
+/// A new repository is an empty one: where none of its files stood, and no journal, making `requires` leaves files that stand for it, and
+/// wherever that is stopped, `requires` is as it was or the files do so.
+pub fn new_repositories_are_empty()
+    ensures made { (t : Tree) (done : List Op) → IsBare t → IsDone init_operations done [] → IsNew (after_all done t) }
+    ensures stops { (t : Tree) (done left d : List Op) → IsBare t → IsDone init_operations done left → IsStopped done d → (after_all d t requires_path ≡ t requires_path) ⊎ IsNew (after_all d t) }
+{
+    requires_alone();
+    new_repositories_list_paths();
+}
+
+/// So of a run that did what its words ask for: a command of a transaction did nothing, or made a history of just that command, from files
+/// that stood for a repository and whose list of filelogs had only names of paths; a recovery led back from each of its stops; and a new
+/// repository is an empty one, or is not there yet, wherever making it was stopped.
 pub fn runs_make_histories()
     ensures { (words : List (List ℕ)) (left : Option (List ℕ)) (old new : Option (List Op)) (start : Tree) (status : ℕ) (written_old written_new : Option (List ℕ)) (faults_old faults_new denied_old denied_new : ℕ) → Obeys (λ n. WereRefused n faults_old faults_new denied_old denied_new) (request_of_words words) left old new start status written_old written_new → MakesHistory words left old new start }
 {
     commands_are_valid();
     answered_commands_make_histories();
+    new_repositories_are_empty();
+    recovering_leads_back();
+    nothing_but_leftovers_is_removed();
 }
 
 /// A run that verifies and ends with 0 or 29 has written the whole report of the tree, of which no part passes a limit, and ends

@@ -21,14 +21,15 @@ pub middle : {X : Type 0} (P : X → Type 0) (xs ys : List X) (x : X) → AllByR
 middle P [] ys x h = h.0
 middle P (y ∷ xs) ys x h = middle P xs ys x h.1
 
-pub made : {X : Type 0} (o0 o1 o2 o3 o4 puts texts : List X) (l j : X) → o0 ≡ [] → o1 ≡ o0 ++ puts → o2 ≡ o1 ++ texts → o3 ≡ o2 ++ l ∷ [] → o4 ≡ o3 ++ j ∷ [] → o4 ≡ (puts ++ texts) ++ l ∷ j ∷ []
-made o0 o1 o2 o3 o4 puts texts l j e0 e1 e2 e3 e4 =
-    e4 ∙ ap (λ o. o ++ j ∷ []) (e3 ∙ ap (λ o. o ++ l ∷ []) (e2 ∙ ap (λ o. o ++ texts) (e1 ∙ ap (λ o. o ++ puts) e0)))
-    ∙ append_assoc (puts ++ texts) (l ∷ []) (j ∷ [])
+pub made : {X : Type 0} (o0 o1 o2 o3 o4 o5 puts texts : List X) (l j n : X) → o0 ≡ [] → o1 ≡ o0 ++ puts → o2 ≡ o1 ++ texts → o3 ≡ o2 ++ l ∷ [] → o4 ≡ o3 ++ j ∷ [] → o5 ≡ o4 ++ n ∷ [] → o5 ≡ (puts ++ texts) ++ l ∷ j ∷ n ∷ []
+made o0 o1 o2 o3 o4 o5 puts texts l j n e0 e1 e2 e3 e4 e5 =
+    e5 ∙ ap (λ o. o ++ n ∷ []) (e4 ∙ ap (λ o. o ++ j ∷ []) (e3 ∙ ap (λ o. o ++ l ∷ []) (e2 ∙ ap (λ o. o ++ texts) (e1 ∙ ap (λ o. o ++ puts) e0))))
+    ∙ append_assoc ((puts ++ texts) ++ l ∷ []) (j ∷ []) (n ∷ [])
+    ∙ append_assoc (puts ++ texts) (l ∷ []) (j ∷ n ∷ [])
 
-pub made-length : {X : Type 0} (o puts texts : List X) (l j : X) → o ≡ (puts ++ texts) ++ l ∷ j ∷ [] → length o ≡ length puts + length texts + 2
-made-length o puts texts l j e =
+pub made-length : {X : Type 0} (o puts texts : List X) (l j n : X) → o ≡ (puts ++ texts) ++ l ∷ j ∷ n ∷ [] → length o ≡ length puts + length texts + 3
+made-length o puts texts l j n e =
     let whole = ap (λ l. length l) e in
     let both = length-append puts texts in
-    let all = length-append (puts ++ texts) (l ∷ j ∷ []) in
+    let all = length-append (puts ++ texts) (l ∷ j ∷ n ∷ []) in
     omega arith

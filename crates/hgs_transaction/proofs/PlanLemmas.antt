@@ -5,8 +5,8 @@ use Rattle.std.specs.Cmp.Lexicographic.{bytes_decides}
 use Rattle.std.specs.List.{All, AllByRecursion, list_all}
 use Rattle.std.proofs.lemmas.List.{length-map, take-append-drop}
 use Rattle.hgs_files.specs.declared.op.Op.{Op}
-use Rattle.hgs_files.specs.declared.op.Op.TheVariants.{Create, Remove}
-use Rattle.hgs_journal.specs.Names.{backups_path, journal_path}
+use Rattle.hgs_files.specs.declared.op.Op.TheVariants.{Create, Remove, Rename}
+use Rattle.hgs_journal.specs.Names.{backups_path, journal_path, new_journal_path}
 use Rattle.hgs_journal.specs.Texts.{HasPath, IsBackupLine, backups_text, journal_text}
 use Rattle.hgs_journal.specs.Undo.{undo_list}
 use Rattle.hgs_journal.specs.declared.backups.BackupLine.{BackupLine}
@@ -45,14 +45,14 @@ holds-parts p empty one both all none h k m =
 -- ---- the operations before the changes
 
 prepared-same : (js ls : List JournalLine) (bs cs : List BackupLine) (ks ms : List (List ℕ)) (ts us puts : List Op) → js ≡ ls → bs ≡ cs → ks ≡ ms → ts ≡ us → backup_puts cs ms ≡ puts →
-    (backup_puts bs ks ++ ts) ++ Create backups_path (backups_text bs) ∷ Create journal_path (journal_text js) ∷ []
-    ≡ (puts ++ us) ++ Create backups_path (backups_text cs) ∷ Create journal_path (journal_text ls) ∷ []
+    (backup_puts bs ks ++ ts) ++ Create backups_path (backups_text bs) ∷ Create new_journal_path (journal_text js) ∷ Rename new_journal_path journal_path ∷ []
+    ≡ (puts ++ us) ++ Create backups_path (backups_text cs) ∷ Create new_journal_path (journal_text ls) ∷ Rename new_journal_path journal_path ∷ []
 prepared-same js ls bs cs ks ms ts us puts ej eb ek et ep =
-    ap (λ b. (backup_puts b ks ++ ts) ++ Create backups_path (backups_text b) ∷ Create journal_path (journal_text js) ∷ []) eb
-    ∙ ap (λ k. (backup_puts cs k ++ ts) ++ Create backups_path (backups_text cs) ∷ Create journal_path (journal_text js) ∷ []) ek
-    ∙ ap (λ j. (backup_puts cs ms ++ ts) ++ Create backups_path (backups_text cs) ∷ Create journal_path (journal_text j) ∷ []) ej
-    ∙ ap (λ t. (backup_puts cs ms ++ t) ++ Create backups_path (backups_text cs) ∷ Create journal_path (journal_text ls) ∷ []) et
-    ∙ ap (λ o. (o ++ us) ++ Create backups_path (backups_text cs) ∷ Create journal_path (journal_text ls) ∷ []) ep
+    ap (λ b. (backup_puts b ks ++ ts) ++ Create backups_path (backups_text b) ∷ Create new_journal_path (journal_text js) ∷ Rename new_journal_path journal_path ∷ []) eb
+    ∙ ap (λ k. (backup_puts cs k ++ ts) ++ Create backups_path (backups_text cs) ∷ Create new_journal_path (journal_text js) ∷ Rename new_journal_path journal_path ∷ []) ek
+    ∙ ap (λ j. (backup_puts cs ms ++ ts) ++ Create backups_path (backups_text cs) ∷ Create new_journal_path (journal_text j) ∷ Rename new_journal_path journal_path ∷ []) ej
+    ∙ ap (λ t. (backup_puts cs ms ++ t) ++ Create backups_path (backups_text cs) ∷ Create new_journal_path (journal_text ls) ∷ Rename new_journal_path journal_path ∷ []) et
+    ∙ ap (λ o. (o ++ us) ++ Create backups_path (backups_text cs) ∷ Create new_journal_path (journal_text ls) ∷ Rename new_journal_path journal_path ∷ []) ep
 
 prepared-parts : (p : Parts) (g : Gathered) → Holds g (all_changes p) → prepared g ≡ preparing p
 prepared-parts p g h =
@@ -132,17 +132,18 @@ puts-most (l ∷ lines) (bytes ∷ kept) =
     let both = length-append (put_with l l.backup bytes) (backup_puts lines kept) in
     omega arith
 
-pub ready : (g : Gathered) (o0 o1 o2 o3 o4 : List Op) (slice backup_lines : List BackupLine) (journal_lines : List JournalLine) → o0 ≡ [] → slice ≡ backup_lines → backup_lines ≡ g.backups.items → journal_lines ≡ g.journal.items
-    → o1 ≡ o0 ++ backup_puts slice g.kept.items → o2 ≡ o1 ++ g.texts.items → o3 ≡ o2 ++ Create backups_path (backups_text backup_lines) ∷ [] → o4 ≡ o3 ++ Create journal_path (journal_text journal_lines) ∷ [] → o4 ≡ prepared g
-ready g o0 o1 o2 o3 o4 slice backup_lines journal_lines e0 es eb ej e1 e2 e3 e4 =
-    made o0 o1 o2 o3 o4 (backup_puts g.backups.items g.kept.items) g.texts.items (Create backups_path (backups_text g.backups.items)) (Create journal_path (journal_text g.journal.items))
+pub ready : (g : Gathered) (o0 o1 o2 o3 o4 o5 : List Op) (slice backup_lines : List BackupLine) (journal_lines : List JournalLine) → o0 ≡ [] → slice ≡ backup_lines → backup_lines ≡ g.backups.items → journal_lines ≡ g.journal.items
+    → o1 ≡ o0 ++ backup_puts slice g.kept.items → o2 ≡ o1 ++ g.texts.items → o3 ≡ o2 ++ Create backups_path (backups_text backup_lines) ∷ [] → o4 ≡ o3 ++ Create new_journal_path (journal_text journal_lines) ∷ [] → o5 ≡ o4 ++ Rename new_journal_path journal_path ∷ [] → o5 ≡ prepared g
+ready g o0 o1 o2 o3 o4 o5 slice backup_lines journal_lines e0 es eb ej e1 e2 e3 e4 e5 =
+    made o0 o1 o2 o3 o4 o5 (backup_puts g.backups.items g.kept.items) g.texts.items (Create backups_path (backups_text g.backups.items)) (Create new_journal_path (journal_text g.journal.items)) (Rename new_journal_path journal_path)
     e0 (e1 ∙ ap (λ ls. o0 ++ backup_puts ls g.kept.items) (es ∙ eb)) e2
     (e3 ∙ ap (λ ls. o2 ++ Create backups_path (backups_text ls) ∷ []) eb)
-    (e4 ∙ ap (λ ls. o3 ++ Create journal_path (journal_text ls) ∷ []) ej)
+    (e4 ∙ ap (λ ls. o3 ++ Create new_journal_path (journal_text ls) ∷ []) ej)
+    e5
 
-pub ready-most : (g : Gathered) (o : List Op) → o ≡ prepared g → length o ≤ length g.kept.items + length g.texts.items + 2
+pub ready-most : (g : Gathered) (o : List Op) → o ≡ prepared g → length o ≤ length g.kept.items + length g.texts.items + 3
 ready-most g o e =
-    let size = made-length o (backup_puts g.backups.items g.kept.items) g.texts.items (Create backups_path (backups_text g.backups.items)) (Create journal_path (journal_text g.journal.items)) e in
+    let size = made-length o (backup_puts g.backups.items g.kept.items) g.texts.items (Create backups_path (backups_text g.backups.items)) (Create new_journal_path (journal_text g.journal.items)) (Rename new_journal_path journal_path) e in
     let most = puts-most g.backups.items g.kept.items in
     omega arith
 

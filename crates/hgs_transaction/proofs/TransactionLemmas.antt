@@ -1,5 +1,5 @@
 -- The plan of the parts of a transaction has the operations of that transaction.
-use Rattle.std.proofs.Common.{◌≡◌, ℕ, List, [], ◌∷◌, ◌++◌, length, drop, map, refl, sym, ◌∙◌, ap, append_assoc, append-nil}
+use Rattle.std.proofs.Common.{◌≡◌, ℕ, List, [], ◌∷◌, ◌++◌, length, drop, map, refl, sym, ◌∙◌, ap, append_assoc}
 use Rattle.std.specs.Prelude.{Bool, true, false, Option, Some, None, is_some, unwrap_or, flat_map, if◌then◌else◌, codes}
 use Rattle.std.specs.List.{AllByRecursion, cons_option, filter_map, list_all}
 use Rattle.std.proofs.Math.Seq.{drop-append_seam}
@@ -11,7 +11,7 @@ use Rattle.hgs_files.specs.Tree.{Tree, bytes_at}
 use Rattle.hgs_bytes.specs.Bytes.{same as same_bytes}
 use Rattle.hgs_journal.specs.declared.backups.BackupLine.{BackupLine}
 use Rattle.hgs_journal.specs.declared.journal.JournalLine.{JournalLine}
-use Rattle.hgs_journal.specs.Names.{backup_name, backups_path, journal_path}
+use Rattle.hgs_journal.specs.Names.{backup_name, backups_path, journal_path, new_journal_path}
 use Rattle.hgs_journal.specs.Texts.{backups_text, journal_text}
 use Rattle.hgs_journal.specs.Undo.{undo_list}
 use Rattle.hgs_model.specs.Repo.{Repo}
@@ -186,24 +186,24 @@ same t r next command p h =
     }
 
 prepared-same : (puts puts' texts texts' : List Op) (backups backups' : List BackupLine) (journal journal' : List JournalLine) → puts ≡ puts' → texts ≡ texts' → backups ≡ backups' → journal ≡ journal' →
-    (puts ++ texts) ++ Create backups_path (backups_text backups) ∷ Create journal_path (journal_text journal) ∷ []
-    ≡ (puts' ++ texts') ++ Create backups_path (backups_text backups') ∷ Create journal_path (journal_text journal') ∷ []
+    (puts ++ texts) ++ Create backups_path (backups_text backups) ∷ Create new_journal_path (journal_text journal) ∷ Rename new_journal_path journal_path ∷ []
+    ≡ (puts' ++ texts') ++ Create backups_path (backups_text backups') ∷ Create new_journal_path (journal_text journal') ∷ Rename new_journal_path journal_path ∷ []
 prepared-same puts puts' texts texts' backups backups' journal journal' ep et eb ej =
-    ap (λ o. (o ++ texts) ++ Create backups_path (backups_text backups) ∷ Create journal_path (journal_text journal) ∷ []) ep
-    ∙ ap (λ o. (puts' ++ o) ++ Create backups_path (backups_text backups) ∷ Create journal_path (journal_text journal) ∷ []) et
-    ∙ ap (λ ls. (puts' ++ texts') ++ Create backups_path (backups_text ls) ∷ Create journal_path (journal_text journal) ∷ []) eb
-    ∙ ap (λ ls. (puts' ++ texts') ++ Create backups_path (backups_text backups') ∷ Create journal_path (journal_text ls) ∷ []) ej
+    ap (λ o. (o ++ texts) ++ Create backups_path (backups_text backups) ∷ Create new_journal_path (journal_text journal) ∷ Rename new_journal_path journal_path ∷ []) ep
+    ∙ ap (λ o. (puts' ++ o) ++ Create backups_path (backups_text backups) ∷ Create new_journal_path (journal_text journal) ∷ Rename new_journal_path journal_path ∷ []) et
+    ∙ ap (λ ls. (puts' ++ texts') ++ Create backups_path (backups_text ls) ∷ Create new_journal_path (journal_text journal) ∷ Rename new_journal_path journal_path ∷ []) eb
+    ∙ ap (λ ls. (puts' ++ texts') ++ Create backups_path (backups_text backups') ∷ Create new_journal_path (journal_text ls) ∷ Rename new_journal_path journal_path ∷ []) ej
 
 -- the two ways to write the whole list
-arranged : (l j : Op) (puts changes rest : List Op) → (puts ++ l ∷ j ∷ []) ++ (changes ++ rest) ≡ ((puts ++ l ∷ []) ++ (j ∷ changes)) ++ rest
-arranged l j puts changes rest =
-    ap (λ o. o ++ (changes ++ rest)) (sym (append_assoc puts (l ∷ []) (j ∷ [])))
-    ∙ append_assoc (puts ++ l ∷ []) (j ∷ []) (changes ++ rest)
-    ∙ sym (append_assoc (puts ++ l ∷ []) (j ∷ changes) rest)
+arranged : (l j n : Op) (puts changes rest : List Op) → (puts ++ l ∷ j ∷ n ∷ []) ++ (changes ++ rest) ≡ ((puts ++ l ∷ j ∷ []) ++ (n ∷ changes)) ++ rest
+arranged l j n puts changes rest =
+    ap (λ o. o ++ (changes ++ rest)) (sym (append_assoc puts (l ∷ j ∷ []) (n ∷ [])))
+    ∙ append_assoc (puts ++ l ∷ j ∷ []) (n ∷ []) (changes ++ rest)
+    ∙ sym (append_assoc (puts ++ l ∷ j ∷ []) (n ∷ changes) rest)
 
 prepared-of : (t : Tree) (r next : Repo) (command : Command) (p : Parts) → Same t r command next p → preparing p
     ≡ (flat_map (λ (y : Replacement). backup_put y (standing_file t y)) (replacements r command next) ++ map new_put (replacements r command next))
-    ++ Create backups_path (backups_text (backups_of t r command next)) ∷ Create journal_path (journal_text (journal_of t r command next)) ∷ []
+    ++ Create backups_path (backups_text (backups_of t r command next)) ∷ Create new_journal_path (journal_text (journal_of t r command next)) ∷ Rename new_journal_path journal_path ∷ []
 prepared-of t r next command p h =
     prepared-same (flat_map (λ (x : Replacing). backup_put (replacement_of x) x.standing) (replacings_of (all_changes p))) (flat_map (λ (y : Replacement). backup_put y (standing_file t y)) (replacements r command next))
     (map (λ (x : Replacing). new_put (replacement_of x)) (replacings_of (all_changes p))) (map new_put (replacements r command next))
@@ -216,9 +216,9 @@ all-operations t r next command who p plan h made =
     ap (λ ops. Create wlock_path who ∷ Create lock_path who ∷ ops) (
     made.ops
     ∙ ap (λ ops. (ops ++ map change_op (all_changes p)) ++ Remove journal_path ∷ removals) (prepared-of t r next command p s)
-    ∙ ap (λ ops. (((flat_map (λ (y : Replacement). backup_put y (standing_file t y)) (replacements r command next) ++ map new_put (replacements r command next)) ++ Create backups_path (backups_text (backups_of t r command next)) ∷ Create journal_path (journal_text (journal_of t r command next)) ∷ []) ++ ops) ++ Remove journal_path ∷ removals) s.changes)
+    ∙ ap (λ ops. (((flat_map (λ (y : Replacement). backup_put y (standing_file t y)) (replacements r command next) ++ map new_put (replacements r command next)) ++ Create backups_path (backups_text (backups_of t r command next)) ∷ Create new_journal_path (journal_text (journal_of t r command next)) ∷ Rename new_journal_path journal_path ∷ []) ++ ops) ++ Remove journal_path ∷ removals) s.changes)
     ∙ ap (λ o. Create wlock_path who ∷ Create lock_path who ∷ (o ++ Remove journal_path ∷ removals)) (
-    arranged (Create backups_path (backups_text (backups_of t r command next))) (Create journal_path (journal_text (journal_of t r command next)))
+    arranged (Create backups_path (backups_text (backups_of t r command next))) (Create new_journal_path (journal_text (journal_of t r command next))) (Rename new_journal_path journal_path)
     (flat_map (λ (y : Replacement). backup_put y (standing_file t y)) (replacements r command next) ++ map new_put (replacements r command next))
     (changes_before t r command next) (publishing t r command next ∷ renames_after command next))
 

@@ -1,9 +1,9 @@
 -- What is gathered of changes while a transaction is put together.
 use Rattle.std.specs.Prelude.{◌≡◌, ◌+◌, ℕ, List, [], ◌∷◌, ◌++◌, length, map}
 use Rattle.hgs_files.specs.declared.op.Op.{Op}
-use Rattle.hgs_files.specs.declared.op.Op.TheVariants.{Create, Remove}
+use Rattle.hgs_files.specs.declared.op.Op.TheVariants.{Create, Remove, Rename}
 use Rattle.hgs_journal.specs.declared.backups.BackupLine.{BackupLine}
-use Rattle.hgs_journal.specs.Names.{backups_path, journal_path, place}
+use Rattle.hgs_journal.specs.Names.{backups_path, journal_path, place, new_journal_path}
 use Rattle.hgs_journal.specs.Texts.{backups_text, journal_text}
 use Rattle.hgs_journal.specs.Undo.{undo_list}
 use Rattle.hgs_ops.specs.Operations.{removals}
@@ -52,7 +52,7 @@ backup_puts (l ∷ lines) (bytes ∷ kept) = put_with l l.backup bytes ++ backup
 abbrev pub prepared : Gathered → List Op
 prepared g =
     (backup_puts g.backups.items g.kept.items ++ g.texts.items)
-    ++ Create backups_path (backups_text g.backups.items) ∷ Create journal_path (journal_text g.journal.items) ∷ []
+    ++ Create backups_path (backups_text g.backups.items) ∷ Create new_journal_path (journal_text g.journal.items) ∷ Rename new_journal_path journal_path ∷ []
 
 -- the plan of what was gathered, published behind so many changes by an append to a file of so many bytes, or by a rename
 pub record IsPlanFrom (g : Gathered) (published was : ℕ) (plan : Plan) : Type 0 where

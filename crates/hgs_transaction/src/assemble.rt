@@ -8,7 +8,7 @@ ghost use Rattle.hgs_transaction.specs.Parts.{all_changes, is_in_store};
 
 use crate::gathered::Gathered;
 use crate::parts::Parts;
-use crate::puts::{add_backups, add_journal, add_list, add_removals, extend};
+use crate::puts::{add_backups, add_journal, add_list, add_removals, extend, name_journal};
 use hgs_files::op::Op;
 use hgs_journal::backups::{BackupLines, Backups};
 use hgs_journal::journal::{Journal, JournalLines};
@@ -18,13 +18,13 @@ use std::alloc::{AllocError, Global};
 /// The operations of a transaction behind the making of its locks.
 #[derive(Debug, Drop)]
 pub struct Plan {
-    /// All operations, in their order: the backups of the files that stand, the new texts, the list of backups, the journal,
-    /// the changes before the publishing operation, that operation, the renames behind it, the removal of the journal, and
+    /// All operations, in their order: the backups of the files that stand, the new texts, the list of backups, the journal's
+    /// text, the rename that gives it its name, the changes before the publishing operation, that operation, the renames behind it, the removal of the journal, and
     /// the removals of what means nothing without it and of the locks.
     pub ops: Vec<Op>,
     /// The operations that undo it, by the bytes that its writer has; the removals behind them are not among these.
     pub undo: Vec<Op>,
-    /// The place of the journal's creation in `ops`.
+    /// The place of the journal's rename in `ops`.
     pub journal: u32,
     /// The place of the publishing operation in `ops`.
     pub publish: u32,
@@ -69,8 +69,9 @@ fn plan_of(
     add_backups(alloc, backups.lines.as_slice(), kept, &mut ops)?;
     extend(texts, &mut ops)?;
     add_list(alloc, &backups, &mut ops)?;
-    let journal_place = ops.len() as u32;
     add_journal(alloc, &journal, &mut ops)?;
+    let journal_place = ops.len() as u32;
+    name_journal(alloc, &mut ops)?;
     let publish = (ops.len() + published) as u32;
     extend(changes, &mut ops)?;
     let commit = ops.len() as u32;

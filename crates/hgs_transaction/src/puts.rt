@@ -3,7 +3,7 @@ ghost use Rattle.std.specs.Prelude.{◌≡◌, ◌++◌, ◌∷◌, [], length, 
 ghost use Rattle.std.specs.List.{All};
 ghost use Rattle.hgs_files.specs.declared.op.Op.{Op};
 ghost use Rattle.hgs_files.specs.Path.{is_store_path};
-ghost use Rattle.hgs_journal.specs.Names.{backups_path, journal_path};
+ghost use Rattle.hgs_journal.specs.Names.{backups_path, journal_path, new_journal_path};
 ghost use Rattle.hgs_journal.specs.Texts.{IsBackupLine, backups_text, journal_text};
 ghost use Rattle.hgs_ops.specs.Operations.{removals, strays};
 ghost use Rattle.hgs_transaction.specs.Gathered.{backup_puts, put_with};
@@ -64,15 +64,25 @@ pub fn add_list(alloc: Global, backups: &Backups, ops: &mut Vec<Op>) -> Result<(
     Ok(())
 }
 
-/// Adds the creation of the journal.
+/// Adds the creation of the journal's text, under the name that it has first.
 pub fn add_journal(alloc: Global, journal: &Journal, ops: &mut Vec<Op>) -> Result<(), AllocError>
-    ensures { OnOk result (ops.new.items ≡ ops.old.items ++ Op.Create journal_path (journal_text journal.now.lines) ∷ []) }
+    ensures { OnOk result (ops.new.items ≡ ops.old.items ++ Op.Create new_journal_path (journal_text journal.now.lines) ∷ []) }
 {
     let mut text = Vec::new(alloc);
     journal.print(&mut text)?;
-    let path = path_of(alloc, false, b"journal")?;
+    let path = path_of(alloc, false, b"journal.new.journal")?;
     let bytes = Bytes::from_vec(text);
     ops.push(Op::Create { path, bytes })?;
+    Ok(())
+}
+
+/// Adds the rename that gives the journal its name, so that it appears whole.
+pub fn name_journal(alloc: Global, ops: &mut Vec<Op>) -> Result<(), AllocError>
+    ensures { OnOk result (ops.new.items ≡ ops.old.items ++ Op.Rename new_journal_path journal_path ∷ []) }
+{
+    let from = path_of(alloc, false, b"journal.new.journal")?;
+    let to = path_of(alloc, false, b"journal")?;
+    ops.push(Op::Rename { from, to })?;
     Ok(())
 }
 
@@ -109,6 +119,7 @@ fn add_stray_removals(alloc: Global, ops: &mut Vec<Op>) -> Result<(), AllocError
     add_removal(alloc, b"journal.new.bookmarks", ops)?;
     add_removal(alloc, b"journal.new.requires", ops)?;
     add_removal(alloc, b"store/00changelog.i.a", ops)?;
+    add_removal(alloc, b"store/journal.new.journal", ops)?;
     Ok(())
 }
 

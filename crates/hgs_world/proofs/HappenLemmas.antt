@@ -93,21 +93,21 @@ refused_lists l t r command answer done s lists (has_no_plan fault locking relea
 not_locked : {A : Type 0} → Laws → (t : Tree) (r : Repo) (locking : List Op) → IsOpen strays t r → AreLocked who t locking → A
 not_locked l t r locking o locked = let none = l.no_journal who t locking locked in let some = o.1.journal_stands in absurd (let no : ⊥ = cc in no)
 
-refused_open : Laws → (t : Tree) (r : Repo) (command : Command) (answer : Answer) (done : List Op) → IsOpen strays t r → answer.swept ≡ true → IsRefused who command t answer done → IsOpen strays (after_all done t) r
-refused_open l t r command answer done o swept (has_no_locks why away e) = l.stays_open t r who why done o (subst (λ b. IsTurnedAway who t why b done) swept away)
-refused_open l t r command answer done o swept (has_no_plan fault locking releasing locked plans removed e whole) = not_locked l t r locking o locked
+refused_open : Laws → (t : Tree) (r : Repo) (command : Command) (answer : Answer) (done : List Op) → IsOpen strays t r → IsRefused who command t answer done → IsOpen strays (after_all done t) r
+refused_open l t r command answer done o (has_no_locks why away e) = l.stays_open t r who why answer.swept done done o away (stopped_whole done)
+refused_open l t r command answer done o (has_no_plan fault locking releasing locked plans removed e whole) = not_locked l t r locking o locked
 
 -- and beside a journal
-refused_same : Laws → (t : Tree) (r q : Repo) (command : Command) (answer : Answer) (done : List Op) → IsOpen strays t q → ListsPaths t r → answer.swept ≡ true → IsRefused who command t answer done → ListsPaths (after_all done t) r
-refused_same l t r q command answer done o lists swept (has_no_locks why away e) =
-    l.same_list t (after_all done t) r (ap (λ file. unwrap_or file []) (l.turned_away_others t who why done fncache_path (subst (λ b. IsTurnedAway who t why b done) swept away) refl refl)) lists
-refused_same l t r q command answer done o lists swept (has_no_plan fault locking releasing locked plans removed e whole) = not_locked l t q locking o locked
+refused_same : Laws → (t : Tree) (r q : Repo) (command : Command) (answer : Answer) (done : List Op) → IsOpen strays t q → ListsPaths t r → IsRefused who command t answer done → ListsPaths (after_all done t) r
+refused_same l t r q command answer done o lists (has_no_locks why away e) =
+    l.same_list t (after_all done t) r (ap (λ file. unwrap_or file []) (l.turned_away_others t who why answer.swept done done fncache_path away (stopped_whole done) refl refl)) lists
+refused_same l t r q command answer done o lists (has_no_plan fault locking releasing locked plans removed e whole) = not_locked l t q locking o locked
 
-rests_refused : Laws → (t : Tree) (book : Commands) (command : Command) (answer : Answer) (done : List Op) → AtRest t book → answer.swept ≡ true → IsRefused who command t answer done → AtRest (after_all done t) book
-rests_refused l t _ command answer done (stands r older leads s lists) swept h = stands r older leads (refused_stands l t r command answer done s h) (refused_lists l t r command answer done s lists h)
-rests_refused l t _ command answer done (is_open r older leads o lists) swept h = is_open r older leads (refused_open l t r command answer done o swept h) (refused_same l t r r command answer done o lists swept h)
-rests_refused l t _ command answer done (has_published r older published next leads e o lists) swept h =
-    has_published r older published next leads e (refused_open l t r command answer done o swept h) (refused_same l t r r command answer done o lists swept h)
+rests_refused : Laws → (t : Tree) (book : Commands) (command : Command) (answer : Answer) (done : List Op) → AtRest t book → IsRefused who command t answer done → AtRest (after_all done t) book
+rests_refused l t _ command answer done (stands r older leads s lists) h = stands r older leads (refused_stands l t r command answer done s h) (refused_lists l t r command answer done s lists h)
+rests_refused l t _ command answer done (is_open r older leads o lists) h = is_open r older leads (refused_open l t r command answer done o h) (refused_same l t r r command answer done o lists h)
+rests_refused l t _ command answer done (has_published r older published next leads e o lists) h =
+    has_published r older published next leads e (refused_open l t r command answer done o h) (refused_same l t r r command answer done o lists h)
 
 sets_out : Laws → (t : Tree) (book : Commands) (command : Command) (done : List Op) (planned : Planned) → AtRest t book → IsValid command → Begins who command t (Ready planned) done → IsPlanned (after_all done t) planned.plan
     → AtWork (after_all done t) (new_writer planned) (with_pending command book)
@@ -261,7 +261,7 @@ begins_keep l command old new text valid keeps h = by old.writer keeps refl h
     come (Ready planned) done k b (can, now, said) =
         subst Keeps (sym now) (subst (λ (u : Tree). AtWork u (new_writer planned) (with_pending command old.book)) (sym (after_append old.log done old.start)) (sets_out l (tree_of old) old.book command done planned k valid b can))
     come (Refused answer) done k b (given, swept, now, said) =
-        subst Keeps (sym now) (subst (λ (u : Tree). AtRest u old.book) (sym (after_append old.log done old.start)) (rests_refused l (tree_of old) old.book command answer done k swept b))
+        subst Keeps (sym now) (subst (λ (u : Tree). AtRest u old.book) (sym (after_append old.log done old.start)) (rests_refused l (tree_of old) old.book command answer done k b))
 
     by : (o : Option Working) → KeepsAt (tree_of old) o old.book → old.writer ≡ o → IfRunning o (BeginsIn command old new text) (λ w. OnlySays old new (codes "busy") text) → Keeps new
     by None k e (begun, done, b, h) = come begun done k b h

@@ -139,9 +139,8 @@ done_by : (r : Repo) (older : List Command) (command : Command) (u : Tree) (rev 
 done_by r older command u rev node (Ok next) e lists leads h = stands next.0 (older ++ command ∷ []) (leads_on empty_repo r older command next leads e) h.0 (lists next.0 (inl h.0))
 done_by r older command u rev node (Err x) e lists leads h = absurd h
 
-left_by : (r : Repo) (older : List Command) (command : Command) (u : Tree) → ListsOnlyPaths u → Replays empty_repo older r → IsOpen strays u r ⊎ Stands u r → AtRest u (ended_in (noted false false (book_of older command)))
-left_by r older command u lists leads (inl o) = is_open r older leads o (lists r (inr o))
-left_by r older command u lists leads (inr s) = stands r older leads s (lists r (inl s))
+left_by : (r : Repo) (older : List Command) (command : Command) (u : Tree) → ListsOnlyPaths u → Replays empty_repo older r → IsOpen strays u r → AtRest u (ended_in (noted false false (book_of older command)))
+left_by r older command u lists leads o = is_open r older leads o (lists r (inr o))
 
 publishes_by : (r : Repo) (older : List Command) (command : Command) (u : Tree) → ListsOnlyPaths u → Replays empty_repo older r → IsOk (step r command) → IsOpen strays u r → AtRest u (ended_in (noted true false (book_of older command)))
 publishes_by r older command u lists leads ok o =
@@ -155,23 +154,22 @@ ended_so r older command u rev node Fault lists leads h = stands r older leads h
 ended_so r older command u rev node OutOfMemory lists leads h = stands r older leads h (lists r (inl h))
 ended_so r older command u rev node (Unfinished No) lists leads h = left_by r older command u lists leads h.1
 ended_so r older command u rev node (Unfinished Yes) lists leads h = publishes_by r older command u lists leads h.0 h.1
-ended_so r older command u rev node (Unfinished Unknown) lists leads h = left_by r older command u lists leads (inl h.1)
+ended_so r older command u rev node (Unfinished Unknown) lists leads h = left_by r older command u lists leads h.1
 
 published_in_part : (r : Repo) (older : List Command) (command : Command) (u : Tree) (rev : ℕ) (node : Node) (b : Bool) → ListsOnlyPaths u → Replays empty_repo older r
     → IsAnswered r (step r command) (outcome_of_ended (if b then Unfinished Unknown else Unfinished No) rev node) u → AtRest u (ended_in (noted false false (book_of older command)))
-published_in_part r older command u rev node true lists leads h = left_by r older command u lists leads (inl h.1)
+published_in_part r older command u rev node true lists leads h = left_by r older command u lists leads h.1
 published_in_part r older command u rev node false lists leads h = left_by r older command u lists leads h.1
 
 stopped_so : (r : Repo) (older : List Command) (command : Command) (u : Tree) (rev : ℕ) (node : Node) (s : Stage) (bytes : ℕ) (o : Short) → ListsOnlyPaths u → Replays empty_repo older r → IsAnswered r (step r command) (outcome_of_ended (stops_as s bytes o) rev node) u
     → AtRest u (ended_in (noted (is_published_at s o) (is_acknowledged_at s o) (book_of older command)))
 stopped_so r older command u rev node stages.Preparing bytes o lists leads h = stands r older leads h (lists r (inl h))
-stopped_so r older command u rev node stages.Beginning bytes o lists leads h = left_by r older command u lists leads h.1
+stopped_so r older command u rev node stages.Beginning bytes o lists leads h = stands r older leads h (lists r (inl h))
 stopped_so r older command u rev node stages.Working bytes o lists leads h = left_by r older command u lists leads h.1
 stopped_so r older command u rev node stages.Publishing bytes o lists leads h = published_in_part r older command u rev node (nat_lt 0 bytes) lists leads h
-stopped_so r older command u rev node stages.Asking bytes o lists leads h = left_by r older command u lists leads (inl h.1)
+stopped_so r older command u rev node stages.Asking bytes o lists leads h = left_by r older command u lists leads h.1
 stopped_so r older command u rev node stages.Finishing bytes o lists leads h = publishes_by r older command u lists leads h.0 h.1
 stopped_so r older command u rev node stages.Undoing bytes o lists leads h = left_by r older command u lists leads h.1
-stopped_so r older command u rev node stages.Dropping bytes o lists leads h = left_by r older command u lists leads h.1
 stopped_so r older command u rev node stages.Sweeping bytes o lists leads h = ended_so r older command u rev node o lists leads h
 stopped_so r older command u rev node stages.Removing bytes o lists leads h = ended_so r older command u rev node o lists leads h
 
@@ -241,7 +239,6 @@ shown_so r older command u rev node plan stages.Publishing done place o swept pa
 shown_so r older command u rev node plan stages.Asking done place o swept part count e lists leads h = absurd (let no : ⊥ = cc in no)
 shown_so r older command u rev node plan stages.Finishing done place o swept part count e lists leads h = absurd (let no : ⊥ = cc in no)
 shown_so r older command u rev node plan stages.Undoing done place o swept part count e lists leads h = absurd (let no : ⊥ = cc in no)
-shown_so r older command u rev node plan stages.Dropping done place o swept part count e lists leads h = absurd (let no : ⊥ = cc in no)
 shown_so r older command u rev node plan stages.Sweeping done place o swept part count e lists leads h = absurd (let no : ⊥ = cc in no)
 shown_so r older command u rev node plan stages.Removing done place o swept part count e lists leads h = absurd (let no : ⊥ = cc in no)
 

@@ -19,7 +19,7 @@ use Rattle.hgs_machine.specs.declared.machine.Machine.{Machine}
 use Rattle.hgs_machine.specs.declared.machine.Reply.{Reply}
 use Rattle.hgs_machine.specs.declared.machine.Reply.TheVariants.{Done, Failed, Size}
 use Rattle.hgs_machine.specs.declared.machine.Stage.{Stage}
-use Rattle.hgs_machine.specs.declared.machine.Stage.TheVariants.{Preparing, Beginning, Asking, Finishing, Undoing, Dropping, Sweeping, Removing}
+use Rattle.hgs_machine.specs.declared.machine.Stage.TheVariants.{Preparing, Beginning, Asking, Finishing, Undoing, Sweeping, Removing}
 use Rattle.hgs_machine.specs.declared.machine.Stage.TheVariants as stages
 use Rattle.hgs_model.specs.declared.command.Command.{Command}
 use Rattle.hgs_writer.specs.Outcomes.{outcome_of_ended}
@@ -91,7 +91,6 @@ done_plan stages.Publishing m = refl
 done_plan Asking m = refl
 done_plan Finishing m = if_plan (nat_lt m.done m.plan.commit) (advanced Finishing m) (sweeping AllDone (advanced Finishing m)) m refl refl
 done_plan Undoing m = if_plan (nat_lt (m.place + 1) (length m.plan.undo.items)) (record m { place = m.place + 1 }) (sweeping m.outcome m) m refl refl
-done_plan Dropping m = refl
 done_plan Sweeping m = refl
 done_plan Removing m = refl
 
@@ -103,7 +102,6 @@ failed_plan stages.Publishing m = if_plan (nat_lt 0 (bytes_in (slice_get m.plan.
 failed_plan Asking m = refl
 failed_plan Finishing m = refl
 failed_plan Undoing m = refl
-failed_plan Dropping m = refl
 failed_plan Sweeping m = refl
 failed_plan Removing m = refl
 
@@ -119,7 +117,6 @@ size_plan stages.Working size m = stray_plan size m
 size_plan stages.Publishing size m = stray_plan size m
 size_plan Finishing size m = stray_plan size m
 size_plan Undoing size m = stray_plan size m
-size_plan Dropping size m = stray_plan size m
 size_plan Sweeping size m = stray_plan size m
 size_plan Removing size m = stray_plan size m
 

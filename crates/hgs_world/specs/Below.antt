@@ -4,7 +4,7 @@ use Rattle.hgs_bytes.specs.Bytes.{same}
 use Rattle.std.specs.List.{AllByRecursion}
 use Rattle.hgs_answers.specs.declared.answer.Answer.{Answer}
 use Rattle.hgs_files.specs.declared.op.Op.{Op}
-use Rattle.hgs_files.specs.Stop.{StopLeaves}
+use Rattle.hgs_files.specs.Stop.{IsStopped, StopLeaves}
 use Rattle.hgs_files.specs.Tree.{Tree, after_all, bytes_at}
 use Rattle.hgs_journal.specs.Covers.{Covers, Restores, is_loose}
 use Rattle.hgs_journal.specs.Names.{journal_path}
@@ -65,13 +65,13 @@ pub record Laws : Type 0 where
   pub covered_list : (u q : Tree) (r : Repo) → Covers strays u q → ListsPaths u r → ListsPaths q r
   pub restored_list : (u q : Tree) (r : Repo) → Restores strays u q → ListsPaths q r → ListsPaths u r
   pub no_list : (t : Tree) (r : Repo) → bytes_at t fncache_path ≡ [] → ListsPaths t r
-  pub turned_away_others : (t : Tree) (who : List ℕ) (why : LockRefusal) (log : List Op) (path : List ℕ) → IsTurnedAway who t why true log → same path wlock_path ≡ false → same path lock_path ≡ false → after_all log t path ≡ t path
+  pub turned_away_others : (t : Tree) (who : List ℕ) (why : LockRefusal) (swept : Bool) (log d : List Op) (path : List ℕ) → IsTurnedAway who t why swept log → IsStopped log d → same path wlock_path ≡ false → same path lock_path ≡ false → after_all d t path ≡ t path
   pub recovered_others : (t u : Tree) (answer : RecoverAnswer) (swept : Bool) (log : List Op) (path : List ℕ) → t journal_path ≡ None → RecoversBy t answer swept log → StopLeaves t log u → is_loose strays path ≡ false → u path ≡ t path
   pub restores : (t q : Tree) (swept : Bool) (log : List Op) → Covers strays t q → RecoversBy t Restored swept log → Restores strays (after_all log t) q
   pub turned_away : (t : Tree) (r : Repo) (who : List ℕ) (why : LockRefusal) (swept : Bool) (log : List Op) → IsTurnedAway who t why swept log → (log ≡ []) ⊎ Piece t r log r
   pub released : (t : Tree) (r : Repo) (who : List ℕ) (swept : Bool) (locking releasing : List Op) → AreLocked who t locking → AreRemoved lock_removals swept releasing → Piece t r (locking ++ releasing) r
   pub piece_stands : (t : Tree) (r next : Repo) (log : List Op) → Stands t r → Piece t r log next → Stands (after_all log t) next
-  pub stays_open : (t : Tree) (r : Repo) (who : List ℕ) (why : LockRefusal) (log : List Op) → IsOpen strays t r → IsTurnedAway who t why true log → IsOpen strays (after_all log t) r
+  pub stays_open : (t : Tree) (r : Repo) (who : List ℕ) (why : LockRefusal) (swept : Bool) (log d : List Op) → IsOpen strays t r → IsTurnedAway who t why swept log → IsStopped log d → IsOpen strays (after_all d t) r
   pub no_journal : (who : List ℕ) (t : Tree) (locking : List Op) → AreLocked who t locking → t journal_path ≡ None
   pub found_open : (t : Tree) (r : Repo) → IsOpen strays t r → answer_in t ≡ Restored
   pub leads_back : (t : Tree) (r : Repo) (swept : Bool) (log : List Op) → IsOpen strays t r → RecoversBy t Restored swept log → Stands (after_all log t) r

@@ -1,5 +1,5 @@
-//! Examples of transactions, of what a writer loads and of recovering; and of files that one end writes and others read, alone and by the workers of a
-//! session. There is nothing here but tests.
+//! Examples of files that one end writes and others read, alone and by the workers of a session, of a session that is refreshed beside a commit, and of one
+//! that keeps texts. There is nothing here but tests.
 #![tactic(auto)]
 
 #[cfg(test)]
@@ -11,14 +11,8 @@ mod files;
 #[cfg(test)]
 mod given;
 #[cfg(test)]
-mod loading;
-#[cfg(test)]
-mod machine;
-#[cfg(test)]
 mod race;
 #[cfg(test)]
-mod recover;
+mod recent;
 #[cfg(test)]
 mod sessions;
-#[cfg(test)]
-mod transaction;

@@ -98,7 +98,7 @@ fn script_of(alloc: Global, text: &[u8]) -> Result<Script, Fail>
 }
 
 // The files of a new repository.
-fn new_repository(alloc: Global) -> Result<MemFiles, Fail> {
+pub(crate) fn new_repository(alloc: Global) -> Result<MemFiles, Fail> {
     let mut files = MemFiles::new(alloc)?;
     put(alloc, &mut files, b"requires", REQUIRES)?;
     Ok(files)

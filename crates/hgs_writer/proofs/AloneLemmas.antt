@@ -13,7 +13,6 @@ use Rattle.hgs_files.specs.Stop.{IsStopped}
 use Rattle.hgs_legal.specs.Pieces.{Early, Front, LeavesJournal, Piece, Pieces, and_then, at_last, no_more, no_pieces}
 use Rattle.hgs_machine.specs.Course.{lock_removals}
 use Rattle.hgs_machine.specs.Locks.{AreLocked, AreRemoved, IsTurnedAway}
-use Rattle.hgs_machine.specs.declared.ended.Published.TheVariants.{No, Yes, Unknown}
 use Rattle.hgs_machine.specs.declared.ended.Short.{Short}
 use Rattle.hgs_machine.specs.declared.ended.Short.TheVariants.{Done, Fault, Unfinished, Memory}
 use Rattle.hgs_machine.specs.declared.locks.LockRefusal.{LockRefusal}
@@ -232,19 +231,13 @@ module _ (laws : Below) where
   ended-answered t r next planned log Done s rev_is node_is piece = (laws.ends t r next.0 log s piece, rev_is, node_is)
   ended-answered t r next planned log Fault s rev_is node_is piece = laws.ends t r r log s piece
   ended-answered t r next planned log Memory s rev_is node_is piece = laws.ends t r r log s piece
-  ended-answered t r next planned log (Unfinished No) s rev_is node_is (inl left) = (refl, inl (laws.left_open t r log s left))
-  ended-answered t r next planned log (Unfinished No) s rev_is node_is (inr piece) = (refl, inr (laws.ends t r r log s piece))
-  ended-answered t r next planned log (Unfinished Yes) s rev_is node_is left = (refl, laws.left_open t r log s left)
-  ended-answered t r next planned log (Unfinished Unknown) s rev_is node_is left = (refl, laws.left_open t r log s left)
+  ended-answered t r next planned log (Unfinished published) s rev_is node_is left = (refl, laws.left_open t r log s left)
 
   ended-made : (t : Tree) (r : Repo) (next : Next) (log : List Op) (ended : Short) → IsPieceOf t r next.0 ended log → IsMadeOf t r (Ok next) log
   ended-made t r next log Done piece = inr (inr (inr (next, refl, piece)))
   ended-made t r next log Fault piece = inr (inl piece)
   ended-made t r next log Memory piece = inr (inl piece)
-  ended-made t r next log (Unfinished No) (inl left) = inr (inr (inl left))
-  ended-made t r next log (Unfinished No) (inr piece) = inr (inl piece)
-  ended-made t r next log (Unfinished Yes) left = inr (inr (inl left))
-  ended-made t r next log (Unfinished Unknown) left = inr (inr (inl left))
+  ended-made t r next log (Unfinished published) left = inr (inr (inl left))
 
   -- where the repository accepts the command, and the parts that were planned under the locks are those of its transaction
   pub carried : (t : Tree) (r : Repo) (command : Command) (next : Next) (who : List ℕ) (p : Parts) (planned : Planned) (answer : Answer) (locking carrying : List Op) → Stands t r → IsValid command → step r command ≡ Ok next → IsReady (after_all locking t) r command next.0

@@ -7,7 +7,7 @@ use Rattle.hgs_files.specs.Tree.{Tree, after_all}
 use Rattle.hgs_journal.specs.Names.{journal_path}
 use Rattle.hgs_legal.specs.LegalLog as turns
 use Rattle.hgs_legal.specs.Pieces as legal
-use Rattle.hgs_machine.specs.Course.{AreSome, BreaksOff, CarriedOut, Ends, HasBegun, IsCarried, IsTakenBack, before_journal, behind, dropped, given_up, lock_removals, removals_after, through_publishing, through_removal, to_publishing, undone, unsure, while_dropped, while_undone}
+use Rattle.hgs_machine.specs.Course.{AreSome, BreaksOff, CarriedOut, Ends, HasBegun, IsCarried, IsTakenBack, before_journal, behind, given_up, lock_removals, removals_after, through_publishing, through_removal, undone, unsure, while_undone}
 use Rattle.hgs_machine.specs.Locks.{AreLocked}
 use Rattle.hgs_machine.specs.declared.ended.Published.{Published}
 use Rattle.hgs_machine.specs.declared.ended.Published.TheVariants.{No, Yes, Unknown}
@@ -18,9 +18,9 @@ use Rattle.hgs_model.specs.Repo.{Repo}
 use Rattle.hgs_ops.specs.Operations.{lock_path, removals, strays, wlock_path}
 use Rattle.hgs_transaction.specs.declared.assemble.Plan.{Plan}
 use Rattle.hgs_writer.specs.Turns.{LeadsOn}
-use Rattle.hgs_writer.proofs.Lists.{behind-some, done-both, first-of, same-some, some-done}
-use Rattle.hgs_writer.proofs.PlanLists.{AreListsOf}
-use Rattle.hgs_writer.proofs.Runs.{at, before-leads, behind-leads, dropped-before-leads, dropped-leads, given-up-leads, undone-leads, whole-leads, within-leads}
+use Rattle.hgs_writer.proofs.ListLemmas.{done-both, first-of, same-some, some-done}
+use Rattle.hgs_writer.proofs.PiecePlanLemmas.{AreListsOf}
+use Rattle.hgs_writer.proofs.Runs.{at, before-leads, behind-leads, given-up-leads, undone-leads, whole-leads, within-leads}
 
 -- a log in four parts
 halves : (a b c d : List Op) → (a ++ b) ++ (c ++ d) ≡ a ++ ((b ++ c) ++ d)
@@ -31,7 +31,7 @@ regroup a b c d = append_assoc (a ++ b) c d ∙ halves a b c d
 
 -- by how it ends, from this state
 abbrev pub Breaks : turns.State → turns.Turn → Published → List Op → Type 0
-Breaks from x No log = (left : Option (List Op)) × LeadsOn from log [] left
+Breaks from x No log = (left : List Op) × LeadsOn from log [] (Some left)
 Breaks from x Yes log = (left : List Op) × LeadsOn from log (x ∷ []) (Some left)
 Breaks from x Unknown log = (left : List Op) × (LeadsOn from log [] (Some left) ⊎ LeadsOn from log (x ∷ []) (Some left))
 
@@ -104,36 +104,6 @@ module _ (t : Tree) (f : Repo) (so : List turns.Turn) (idle : List Op) (x : turn
       let whole : (l.0 ∷ l.1) ++ removed ≡ locking ++ (log ++ removed) = ap (λ k. k ++ removed) (sym l.2) ∙ append_assoc locking log removed in
       subst (λ k. LeadsOn (at t f so (turns.Idle None idle)) k [] None) whole (given-up-leads t f so idle x removed l.0 left l.1 it (subst (λ k. IsDone x.ops.before k left) l.2 (before-done log left d)) some)
 
-  -- what is left behind part of the journal's creation
-  to-some : (left : List Op) → (op : Op) × (more : List Op) × (left ++ to_publishing plan ≡ op ∷ more) × (op ∷ more ≡ left ++ turns.to_publishing x.ops)
-  to-some left =
-      let same : left ++ to_publishing plan ≡ (left ++ x.ops.changes) ++ x.ops.publish ∷ [] = ap (λ k. left ++ k) lists.to ∙ sym (append_assoc left x.ops.changes (x.ops.publish ∷ [])) in
-      let some = first-of (left ++ x.ops.changes) [] x.ops.publish in
-      (some.0, some.1, same ∙ some.2, sym (same ∙ some.2) ∙ ap (λ k. left ++ k) lists.to)
-
-  begun-in-creation : (a b left : List Op) (op : Op) (more : List Op) → b ≡ op ∷ more → IsDone (before_journal plan) a [] → IsDone (through_publishing plan) b left → HasBegun plan (through_publishing plan) (a ++ b) left
-  begun-in-creation a b left op more e da db = record {
-    prepared = a;
-    all_prepared = da;
-    first = op;
-    more = more;
-    done = subst (λ k. IsDone (through_publishing plan) k left) e db;
-    whole = ap (λ k. a ++ k) e;
-  }
-
-  drops : (a b left removed : List Op) → IsDone (before_journal plan) a [] → IsDone (through_publishing plan) b (left ++ to_publishing plan) → legal.AreSome removals removed
-      → LeadsOn (at t f so (turns.Idle None idle)) (locking ++ (((a ++ b) ++ Remove journal_path ∷ []) ++ removed)) [] None
-  drops a [] left removed da db some =
-      let l = with-locks a in
-      let whole : (l.0 ∷ l.1) ++ Remove journal_path ∷ removed ≡ locking ++ (((a ++ []) ++ Remove journal_path ∷ []) ++ removed) =
-      ap (λ k. k ++ Remove journal_path ∷ removed) (sym l.2) ∙ halves locking a (Remove journal_path ∷ []) removed ∙ ap (λ k. locking ++ ((k ++ Remove journal_path ∷ []) ++ removed)) (sym (append-nil a)) in
-      subst (λ k. LeadsOn (at t f so (turns.Idle None idle)) k [] None) whole (dropped-before-leads t f so idle x removed l.0 l.1 it (subst (λ k. IsDone x.ops.before k []) l.2 (before-done a [] da)) some)
-  drops a (op ∷ b) left removed da db some =
-      let l = to-some left in
-      let start = begun-with (a ++ op ∷ b) (left ++ to_publishing plan) (l.0 ∷ l.1) l.2 (begun-in-creation a (op ∷ b) (left ++ to_publishing plan) op b refl da db) in
-      let whole : (locking ++ (a ++ op ∷ b)) ++ Remove journal_path ∷ removed ≡ locking ++ (((a ++ op ∷ b) ++ Remove journal_path ∷ []) ++ removed) = halves locking (a ++ op ∷ b) (Remove journal_path ∷ []) removed in
-      subst (λ k. LeadsOn (at t f so (turns.Idle None idle)) k [] None) whole (dropped-leads t f so idle x (locking ++ (a ++ op ∷ b)) removed l.0 l.1 left start l.3 some)
-
   -- some operation undoes it
   undo-first : (log : List Op) → IsDone plan.undo.items log [] → (front : List Op) → x.ops.undo ≡ front ++ Remove journal_path ∷ [] → (op : Op) × (more : List Op) × (log ≡ op ∷ more) × IsDone x.ops.undo (op ∷ more) []
   undo-first log d front e =
@@ -152,7 +122,6 @@ module _ (t : Tree) (f : Repo) (so : List turns.Turn) (idle : List Op) (x : turn
   taken-back : (front : List Op) → x.ops.undo ≡ front ++ Remove journal_path ∷ [] → (own removed : List Op) → IsTakenBack plan own → legal.AreSome removals removed → LeadsOn (at t f so (turns.Idle None idle)) (locking ++ (own ++ removed)) [] None
   taken-back front e _ removed (given_up a left d) some = gives-up a left removed d some
   taken-back front e _ removed (undone a b op left h d) some = undoes a b removed op left front e h d some
-  taken-back front e _ removed (dropped a b left da db) some = drops a b left removed da db some
 
   -- ---- it breaks off
 
@@ -167,14 +136,6 @@ module _ (t : Tree) (f : Repo) (so : List turns.Turn) (idle : List Op) (x : turn
   breaks-within a (u ∷ b) removed op left o rest h d some =
       subst (λ k. LeadsOn (at t f so (turns.Idle None idle)) k [] (Some [])) (regroup locking a (u ∷ b) removed) (within-leads t f so idle x (locking ++ a) removed op left o rest u b (begun a (op ∷ left) h) (undo-some (u ∷ b) (o ∷ rest) d) some)
 
-  breaks-in-creation : (a b left removed : List Op) → IsDone (before_journal plan) a [] → IsDone (through_publishing plan) b (left ++ to_publishing plan) → legal.AreSome lock_removals removed
-      → (behind : Option (List Op)) × LeadsOn (at t f so (turns.Idle None idle)) (locking ++ ((a ++ b) ++ removed)) [] behind
-  breaks-in-creation a [] left removed da db some =
-      (None, subst (λ k. LeadsOn (at t f so (turns.Idle None idle)) (locking ++ (k ++ removed)) [] None) (sym (append-nil a)) (gives-up a [] removed da (behind-some (map (λ path. Remove path) strays) lock_removals removed some)))
-  breaks-in-creation a (op ∷ b) left removed da db some =
-      let l = to-some left in
-      (Some [], breaks-before (a ++ op ∷ b) removed l.0 l.1 (subst (HasBegun plan (through_publishing plan) (a ++ op ∷ b)) l.2 (begun-in-creation a (op ∷ b) (left ++ to_publishing plan) op b refl da db)) some)
-
   breaks-behind : (a b removed : List Op) (o : Op) (rest : List Op) → HasBegun plan (through_publishing plan) a [] → IsDone (turns.through_removal x.ops) b (o ∷ rest) → legal.AreSome lock_removals removed → LeadsOn (at t f so (turns.Idle None idle)) (locking ++ ((a ++ b) ++ removed)) (x ∷ []) (Some (o ∷ rest))
   breaks-behind a b removed o rest h d some =
       subst (λ k. LeadsOn (at t f so (turns.Idle None idle)) k (x ∷ []) (Some (o ∷ rest))) (regroup locking a b removed) (behind-leads t f so idle x (locking ++ a) b removed o rest (begun a [] h) d some)
@@ -187,8 +148,7 @@ module _ (t : Tree) (f : Repo) (so : List turns.Turn) (idle : List Op) (x : turn
   unsure-left path (b ∷ back) own removed h some = ([], inl (breaks-before own removed (Append path (b ∷ back)) [] h some))
 
   broken : (published : Published) (own removed : List Op) → BreaksOff plan published own → legal.AreSome lock_removals removed → Breaks (at t f so (turns.Idle None idle)) x published (locking ++ (own ++ removed))
-  broken _ _ removed (while_undone a b op left o rest h d) some = (Some [], breaks-within a b removed op left o rest h d some)
-  broken _ _ removed (while_dropped a b left da db) some = breaks-in-creation a b left removed da db some
+  broken _ _ removed (while_undone a b op left o rest h d) some = ([], breaks-within a b removed op left o rest h d some)
   broken _ _ removed (behind a b o rest h d) some = (o ∷ rest, breaks-behind a b removed o rest h (subst (λ k. IsDone k b (o ∷ rest)) lists.removal d) some)
   broken _ own removed (unsure path front back _ place h) some = unsure-left path back own removed h some
 

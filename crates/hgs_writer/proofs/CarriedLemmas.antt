@@ -7,7 +7,7 @@ use Rattle.hgs_files.specs.Tree.{Tree, after_all}
 use Rattle.hgs_journal.specs.Names.{journal_path}
 use Rattle.hgs_legal.specs.LegalLog as turns
 use Rattle.hgs_legal.specs.Pieces as legal
-use Rattle.hgs_machine.specs.Course.{AreSome, BreaksOff, CarriedOut, Ends, HasBegun, IsCarried, IsTakenBack, before_journal, behind, dropped, given_up, lock_removals, removals_after, through_publishing, through_removal, to_publishing, undone, unsure, while_dropped, while_undone}
+use Rattle.hgs_machine.specs.Course.{AreSome, BreaksOff, CarriedOut, Ends, HasBegun, IsCarried, IsTakenBack, before_journal, behind, given_up, lock_removals, removals_after, through_publishing, through_removal, undone, unsure, while_undone}
 use Rattle.hgs_machine.specs.Locks.{AreLocked}
 use Rattle.hgs_machine.specs.declared.ended.Published.{Published}
 use Rattle.hgs_machine.specs.declared.ended.Short.{Short}
@@ -15,8 +15,8 @@ use Rattle.hgs_machine.specs.declared.ended.Short.TheVariants.{Done, Fault, Unfi
 use Rattle.hgs_model.specs.Repo.{Repo}
 use Rattle.hgs_ops.specs.Operations.{lock_path, removals, strays, wlock_path}
 use Rattle.hgs_transaction.specs.declared.assemble.Plan.{Plan}
-use Rattle.hgs_writer.specs.Made.{BreaksOffAs, IsPieceOf}
-use Rattle.hgs_writer.proofs.ListLemmas.{behind-some, done-both, first-of, same-some, some-done}
+use Rattle.hgs_writer.specs.Made.{IsPieceOf}
+use Rattle.hgs_writer.proofs.ListLemmas.{done-both, first-of, same-some, some-done}
 use Rattle.hgs_writer.proofs.PiecePlanLemmas.{AreListsOf}
 
 -- a log in four parts
@@ -89,36 +89,6 @@ module _ (t : Tree) (r : Repo) (x : turns.Turn) (plan : Plan) (it : turns.IsTurn
       let whole : (l.0 ∷ l.1) ++ removed ≡ locking ++ (log ++ removed) = ap (λ k. k ++ removed) (sym l.2) ∙ append_assoc locking log removed in
       subst (λ k. legal.Piece t r k r) whole (legal.given_up x removed l.0 left l.1 it (subst (λ k. IsDone x.ops.before k left) l.2 (before-done log left d)) some)
 
-  -- what is left behind part of the journal's creation
-  to-some : (left : List Op) → (op : Op) × (more : List Op) × (left ++ to_publishing plan ≡ op ∷ more) × (op ∷ more ≡ left ++ turns.to_publishing x.ops)
-  to-some left =
-      let same : left ++ to_publishing plan ≡ (left ++ x.ops.changes) ++ x.ops.publish ∷ [] = ap (λ k. left ++ k) lists.to ∙ sym (append_assoc left x.ops.changes (x.ops.publish ∷ [])) in
-      let some = first-of (left ++ x.ops.changes) [] x.ops.publish in
-      (some.0, some.1, same ∙ some.2, sym (same ∙ some.2) ∙ ap (λ k. left ++ k) lists.to)
-
-  begun-in-creation : (a b left : List Op) (op : Op) (more : List Op) → b ≡ op ∷ more → IsDone (before_journal plan) a [] → IsDone (through_publishing plan) b left → HasBegun plan (through_publishing plan) (a ++ b) left
-  begun-in-creation a b left op more e da db = record {
-    prepared = a;
-    all_prepared = da;
-    first = op;
-    more = more;
-    done = subst (λ k. IsDone (through_publishing plan) k left) e db;
-    whole = ap (λ k. a ++ k) e;
-  }
-
-  drops : (a b left removed : List Op) → IsDone (before_journal plan) a [] → IsDone (through_publishing plan) b (left ++ to_publishing plan) → legal.AreSome removals removed
-      → legal.Piece t r (locking ++ (((a ++ b) ++ Remove journal_path ∷ []) ++ removed)) r
-  drops a [] left removed da db some =
-      let l = with-locks a in
-      let whole : (l.0 ∷ l.1) ++ Remove journal_path ∷ removed ≡ locking ++ (((a ++ []) ++ Remove journal_path ∷ []) ++ removed) =
-      ap (λ k. k ++ Remove journal_path ∷ removed) (sym l.2) ∙ halves locking a (Remove journal_path ∷ []) removed ∙ ap (λ k. locking ++ ((k ++ Remove journal_path ∷ []) ++ removed)) (sym (append-nil a)) in
-      subst (λ k. legal.Piece t r k r) whole (legal.dropped_before x removed l.0 l.1 it (subst (λ k. IsDone x.ops.before k []) l.2 (before-done a [] da)) some)
-  drops a (op ∷ b) left removed da db some =
-      let l = to-some left in
-      let start = begun-with (a ++ op ∷ b) (left ++ to_publishing plan) (l.0 ∷ l.1) l.2 (begun-in-creation a (op ∷ b) (left ++ to_publishing plan) op b refl da db) in
-      let whole : (locking ++ (a ++ op ∷ b)) ++ Remove journal_path ∷ removed ≡ locking ++ (((a ++ op ∷ b) ++ Remove journal_path ∷ []) ++ removed) = halves locking (a ++ op ∷ b) (Remove journal_path ∷ []) removed in
-      subst (λ k. legal.Piece t r k r) whole (legal.dropped x (locking ++ (a ++ op ∷ b)) removed l.0 l.1 left start l.3 some)
-
   -- some operation undoes it
   undo-first : (log : List Op) → IsDone plan.undo.items log [] → (front : List Op) → x.ops.undo ≡ front ++ Remove journal_path ∷ [] → (op : Op) × (more : List Op) × (log ≡ op ∷ more) × IsDone x.ops.undo (op ∷ more) []
   undo-first log d front e =
@@ -137,7 +107,6 @@ module _ (t : Tree) (r : Repo) (x : turns.Turn) (plan : Plan) (it : turns.IsTurn
   taken-back : (front : List Op) → x.ops.undo ≡ front ++ Remove journal_path ∷ [] → (own removed : List Op) → IsTakenBack plan own → legal.AreSome removals removed → legal.Piece t r (locking ++ (own ++ removed)) r
   taken-back front e _ removed (given_up a left d) some = gives-up a left removed d some
   taken-back front e _ removed (undone a b op left h d) some = undoes a b removed op left front e h d some
-  taken-back front e _ removed (dropped a b left da db) some = drops a b left removed da db some
 
   -- ---- it breaks off
 
@@ -152,14 +121,6 @@ module _ (t : Tree) (r : Repo) (x : turns.Turn) (plan : Plan) (it : turns.IsTurn
   breaks-within a (u ∷ b) removed op left o rest h d some =
       subst (legal.LeavesJournal t r) (regroup locking a (u ∷ b) removed) (legal.within x (locking ++ a) removed op left o rest u b (begun a (op ∷ left) h) (undo-some (u ∷ b) (o ∷ rest) d) some)
 
-  breaks-in-creation : (a b left removed : List Op) → IsDone (before_journal plan) a [] → IsDone (through_publishing plan) b (left ++ to_publishing plan) → legal.AreSome lock_removals removed
-      → legal.LeavesJournal t r (locking ++ ((a ++ b) ++ removed)) ⊎ legal.Piece t r (locking ++ ((a ++ b) ++ removed)) r
-  breaks-in-creation a [] left removed da db some =
-      inr (subst (λ k. legal.Piece t r (locking ++ (k ++ removed)) r) (sym (append-nil a)) (gives-up a [] removed da (behind-some (map (λ path. Remove path) strays) lock_removals removed some)))
-  breaks-in-creation a (op ∷ b) left removed da db some =
-      let l = to-some left in
-      inl (breaks-before (a ++ op ∷ b) removed l.0 l.1 (subst (HasBegun plan (through_publishing plan) (a ++ op ∷ b)) l.2 (begun-in-creation a (op ∷ b) (left ++ to_publishing plan) op b refl da db)) some)
-
   breaks-behind : (a b removed : List Op) (o : Op) (rest : List Op) → HasBegun plan (through_publishing plan) a [] → IsDone (turns.through_removal x.ops) b (o ∷ rest) → legal.AreSome lock_removals removed → legal.LeavesJournal t r (locking ++ ((a ++ b) ++ removed))
   breaks-behind a b removed o rest h d some =
       subst (legal.LeavesJournal t r) (regroup locking a b removed) (legal.behind x (locking ++ a) b removed o rest (begun a [] h) d some)
@@ -171,9 +132,8 @@ module _ (t : Tree) (r : Repo) (x : turns.Turn) (plan : Plan) (it : turns.IsTurn
       subst (λ k. legal.LeavesJournal t r (locking ++ (k ++ removed))) (append-nil own) (breaks-behind own [] removed l.0 l.1 h l.2 some)
   unsure-left path (b ∷ back) own removed h some = breaks-before own removed (Append path (b ∷ back)) [] h some
 
-  broken : (published : Published) (own removed : List Op) → BreaksOff plan published own → legal.AreSome lock_removals removed → BreaksOffAs t r published (locking ++ (own ++ removed))
-  broken _ _ removed (while_undone a b op left o rest h d) some = inl (breaks-within a b removed op left o rest h d some)
-  broken _ _ removed (while_dropped a b left da db) some = breaks-in-creation a b left removed da db some
+  broken : (published : Published) (own removed : List Op) → BreaksOff plan published own → legal.AreSome lock_removals removed → legal.LeavesJournal t r (locking ++ (own ++ removed))
+  broken _ _ removed (while_undone a b op left o rest h d) some = breaks-within a b removed op left o rest h d some
   broken _ _ removed (behind a b o rest h d) some = breaks-behind a b removed o rest h (subst (λ k. IsDone k b (o ∷ rest)) lists.removal d) some
   broken _ own removed (unsure path front back _ at h) some = unsure-left path back own removed h some
 

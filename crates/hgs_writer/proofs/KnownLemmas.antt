@@ -1,11 +1,10 @@
 -- What is known of files stays known of those to which a record appends nothing.
-use Rattle.std.proofs.Common.{◌≡◌, ℕ, List, [], ◌∷◌, ◌++◌, Bool, true, false, Option, map, take, refl, sym, ◌∙◌, ap, subst, append_assoc, true≢false}
-use Rattle.std.specs.Prelude.{◌||◌, flat_map, codes, IfSome, Ok, Some, None, unwrap_or, slice_get, if◌then◌else◌}
+use Rattle.std.proofs.Common.{◌≡◌, ℕ, List, [], ◌∷◌, ◌++◌, Bool, true, false, Option, map, take, refl, sym, ◌∙◌, ap, subst, append_assoc}
+use Rattle.std.specs.Prelude.{◌||◌, flat_map, codes, IfSome, Ok, None, unwrap_or, slice_get, if◌then◌else◌}
 use Rattle.std.specs.Option.{option_map}
 use Rattle.std.specs.List.{AllByRecursion, list_any}
 use Rattle.hgs_bytes.specs.Bytes.{same}
 use Rattle.hgs_files.specs.declared.op.Op.{Op}
-use Rattle.hgs_files.specs.Theorems.TreeLemmas.{after_all-append}
 use Rattle.hgs_files.specs.Tree.{Tree, after_all, bytes_at}
 use Rattle.hgs_commit.specs.Commit.{AtRest}
 use Rattle.hgs_commit.specs.Files.{filelog_with, kept_at, kept_by, is_shorter}
@@ -28,7 +27,6 @@ use Rattle.hgs_revlog.specs.Load.{loaded_either}
 use Rattle.hgs_revlog.specs.Log.{Log}
 use Rattle.hgs_revlog.specs.Text.{span_in, text_of}
 use Rattle.hgs_revlog.specs.declared.fault.Tail.TheVariants.{Refuse}
-use Rattle.hgs_transaction.specs.declared.parts.Appending.{Appending}
 use Rattle.hgs_transaction.specs.declared.parts.Change.{Change}
 use Rattle.hgs_transaction.specs.declared.parts.Change.TheVariants.{Append, MakeIndex, RenameIndex, Replace}
 use Rattle.hgs_transaction.specs.declared.parts.Parts.{Parts}
@@ -37,7 +35,7 @@ use Rattle.hgs_transaction.specs.declared.parts.ReplacedFile.TheVariants.{PhaseR
 use Rattle.hgs_transaction.specs.declared.parts.Replacing.{Replacing}
 use Rattle.hgs_writer.specs.Joined.{laying, lays, replaced_path}
 use Rattle.hgs_writer.specs.Layered.{Lays}
-use Rattle.hgs_writer.proofs.OverLemmas.{found-over}
+use Rattle.hgs_writer.proofs.OverLemmas.{found-over, under-layers}
 use Rattle.hgs_writer.proofs.PlanLemmas.{at-rest}
 use Rattle.hgs_writer.proofs.RecordsLaid.{rest-same}
 
@@ -154,12 +152,6 @@ module _ (own : OwnNames) (log : Log) (p : Parts) (t : Tree) (are : ArePartsOfCo
 
 -- ---- files under layers
 
--- what is known of the tree of both
-pub known-over : (alone : Bool) (seen : Option (List Op)) (ops : List Op) (start : Tree) (k : Known) → AtRest alone seen start (λ t. AreKept (after_all ops t) k) → AtRest alone (seen_over alone seen ops) start (λ t. AreKept t k)
-known-over false seen ops start k h = λ is. absurd (true≢false (sym is))
-known-over true None ops start k h = λ is. tt
-known-over true (Some log) ops start k h = λ is. subst (λ t. AreKept t k) (sym (after_all-append log ops start)) (h is)
-
 -- it stays where only is read
 pub known-still : (alone : Bool) (seen now : Option (List Op)) (old mid : Layers) (start later : Tree) (k : Known) → (alone ≡ true → now ≡ seen) → (alone ≡ true → seen_over alone now (laid_ops mid) ≡ seen_over alone seen (laid_ops old)) → later ≡ start
     → AtRest alone seen start (λ t. AreKept (after_all (laid_ops old) t) k) → AtRest alone now later (λ t. AreKept (after_all (laid_ops mid) t) k)
@@ -168,7 +160,7 @@ known-still alone seen now old mid start later k same still same_start h =
     (at-rest alone now start (λ t. AreKept (after_all (laid_ops old) t) k × (laid_ops mid ≡ laid_ops old)) (λ t. AreKept (after_all (laid_ops mid) t) k)
     (λ t both. subst (λ o. AreKept (after_all o t) k) (sym both.1) both.0)
     (found-over alone seen now (laid_ops old) (laid_ops mid) start (λ t. AreKept t k) same still
-    (λ is. subst (λ o. IfSome o (λ log. AreKept (after_all log start) k)) (sym (still is)) (known-over alone seen (laid_ops old) start k h is))))
+    (λ is. subst (λ o. IfSome o (λ log. AreKept (after_all log start) k)) (sym (still is)) (under-layers alone seen (laid_ops old) start (λ t. AreKept t k) h is))))
 
 -- what is known behind a record
 pub record-known : (own : OwnNames) (alone : Bool) (seen now later : Option (List Op)) (old mid final : Layers) (start begin : Tree) (log : Log) (p : Parts) (k next : Known) → (alone ≡ true → now ≡ seen) → (alone ≡ true → seen_over alone now (laid_ops mid) ≡ seen_over alone seen (laid_ops old))

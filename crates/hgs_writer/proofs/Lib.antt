@@ -1,3 +1,4 @@
+pub mod GrownLogs
 pub mod LengthLemmas
 pub mod LoadedLemmas
 pub mod KnownLemmas
@@ -48,6 +49,7 @@ pub mod FollowLemmas
 pub mod ImportPartsLemmas
 pub mod ImportsAgree
 pub mod AsideLemmas
+pub mod AwayLemmas
 pub mod NextLemmas
 pub mod ReplacedLemmas
 pub mod CommitStepLemmas
@@ -64,8 +66,6 @@ pub mod LockLemmas
 pub mod UnderLemmas
 pub mod LockedReadyLemmas
 pub mod Runs
-pub mod Lists
-pub mod PlanLists
 pub mod Carried
 pub mod Refused
 pub mod Planned

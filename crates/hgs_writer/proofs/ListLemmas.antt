@@ -39,11 +39,6 @@ same-some [] log h = h
 same-some (op ∷ all) log (inl h) = inl (same-some all log h)
 same-some (op ∷ all) log (inr h) = inr (h.0, h.1, same-some all h.0 h.2)
 
--- those in front are left out
-pub behind-some : (front all log : List Op) → legal.AreSome all log → legal.AreSome (front ++ all) log
-behind-some [] all log h = h
-behind-some (op ∷ front) all log h = inl (behind-some front all log h)
-
 -- all of a list
 pub all-some : (all log : List Op) → log ≡ all → legal.AreSome all log
 all-some [] log e = e

@@ -120,22 +120,3 @@ turned-away-no-strays t who why swept _ none (at_lock _ _ a c free_wlock d barre
     subst HasNoStrays (sym (after_all-append a c t ∙ ap (λ l. after_all l (after_all a t)) gone ∙ ap (after_all (Remove wlock_path ∷ [])) (wlock-made who t a d))) none
 turned-away-no-strays t who why swept _ none (at_journal _ _ a b c free_wlock free_lock d f free removed) e =
     subst HasNoStrays (sym (after_all-append (a ++ b) c t)) (freed-no-strays who t (after_all (a ++ b) t) c (both-made who t a b d f) none (subst (λ x. AreRemoved lock_removals x c) e removed))
-
--- ---- other files
-
-both-removed : (t : Tree) (path who : List ℕ) → same_path wlock_path path ≡ false → same_path lock_path path ≡ false → after_all lock_removals (with_file (with_file t wlock_path (Some who)) lock_path (Some who)) path ≡ t path
-both-removed t path who w l =
-    with_file-other (apply (Remove lock_path) (with_file (with_file t wlock_path (Some who)) lock_path (Some who))) wlock_path path None w
-    ∙ with_file-other (with_file (with_file t wlock_path (Some who)) lock_path (Some who)) lock_path path None l
-    ∙ with_file-other (with_file t wlock_path (Some who)) lock_path path (Some who) l
-    ∙ with_file-other t wlock_path path (Some who) w
-
-pub turned-away-others : (t : Tree) (who : List ℕ) (why : LockRefusal) (log : List Op) → IsTurnedAway who t why true log → (path : List ℕ) → same_path wlock_path path ≡ false → same_path lock_path path ≡ false → after_all log t path ≡ t path
-turned-away-others t who why _ (at_wlock _ barred) path w l = refl
-turned-away-others t who why _ (at_lock _ _ a c free_wlock d barred removed) path w l =
-    ap (λ (u : Tree). u path) (after_all-append a c t ∙ ap (λ x. after_all x (after_all a t)) removed ∙ ap (after_all (Remove wlock_path ∷ [])) (wlock-made who t a d))
-    ∙ with_file-other (with_file t wlock_path (Some who)) wlock_path path None w
-    ∙ with_file-other t wlock_path path (Some who) w
-turned-away-others t who why _ (at_journal _ _ a b c free_wlock free_lock d f free removed) path w l =
-    ap (λ (u : Tree). u path) (after_all-append (a ++ b) c t ∙ ap (λ x. after_all x (after_all (a ++ b) t)) removed ∙ ap (after_all lock_removals) (both-made who t a b d f))
-    ∙ both-removed t path who w l

@@ -43,3 +43,9 @@ both-at-rest alone seen now start later P S Q same same_start follows h k = λ i
     by : (o : Option (List Op)) → IfSome o (λ log. P (after_all log later)) → IfSome o (λ log. S (after_all log later)) → IfSome o (λ log. Q (after_all log later))
     by None p s = tt
     by (Some log) p s = follows (after_all log later) p s
+
+-- what holds of the files' tree with the layers on it holds of the tree of both
+pub under-layers : (alone : Bool) (seen : Option (List Op)) (ops : List Op) (start : Tree) (P : Tree → Type 0) → AtRest alone seen start (λ t. P (after_all ops t)) → AtRest alone (seen_over alone seen ops) start P
+under-layers false seen ops start P h = λ is. absurd (true≢false (sym is))
+under-layers true None ops start P h = λ is. tt
+under-layers true (Some log) ops start P h = λ is. subst P (sym (after_all-append log ops start)) (h is)

@@ -6,7 +6,7 @@ use Rattle.hgs_files.specs.declared.op.Op.TheVariants.{Create, Remove}
 use Rattle.hgs_files.specs.Tree.{Tree}
 use Rattle.hgs_journal.specs.Names.{journal_path}
 use Rattle.hgs_legal.specs.LegalLog as legal
-use Rattle.hgs_machine.specs.Course.{before_journal, between, through_publishing, through_removal, to_publishing}
+use Rattle.hgs_machine.specs.Course.{before_journal, between, through_publishing, through_removal}
 use Rattle.hgs_model.specs.Repo.{Repo}
 use Rattle.hgs_model.specs.declared.command.Command.{Command}
 use Rattle.hgs_ops.specs.Operations.{Transaction, lock_path, operations, removals, transaction_of, wlock_path}
@@ -24,7 +24,6 @@ use Rattle.hgs_writer.proofs.ListLemmas.{front, slice}
 pub record AreListsOf (plan : Plan) (who : List ℕ) (x : Transaction) : Type 0 where
   pub before : Create wlock_path who ∷ Create lock_path who ∷ before_journal plan ≡ x.before
   pub through : through_publishing plan ≡ legal.through_publishing x
-  pub to : to_publishing plan ≡ legal.to_publishing x
   pub removal : through_removal plan ≡ legal.through_removal x
   pub undo : plan.undo.items ≡ x.undo
 
@@ -45,17 +44,6 @@ module _ (ops p c r s : List Op) (j q k : Op) (journal publish commit : ℕ) (pa
       let len = length-append c (q ∷ []) in
       let a = parts.at_publish in
       ap (between journal (publish + 1)) split ∙ slice p (j ∷ (c ++ q ∷ [])) (r ++ k ∷ s) journal (publish + 1) parts.at_journal (omega (arith, a, len))
-
-  part-to : between (journal + 1) (publish + 1) ops ≡ c ++ q ∷ []
-  part-to =
-      let split : ops ≡ (p ++ j ∷ []) ++ ((c ++ q ∷ []) ++ (r ++ k ∷ s)) =
-      parts.whole ∙ ap (λ l. p ++ j ∷ l) (sym (append_assoc c (q ∷ []) (r ++ k ∷ s))) ∙ sym (append_assoc p (j ∷ []) ((c ++ q ∷ []) ++ (r ++ k ∷ s))) in
-      let len = length-append c (q ∷ []) in
-      let len_p = length-append p (j ∷ []) in
-      let a = parts.at_publish in
-      let b = parts.at_journal in
-      ap (between (journal + 1) (publish + 1)) split
-      ∙ slice (p ++ j ∷ []) (c ++ q ∷ []) (r ++ k ∷ s) (journal + 1) (publish + 1) (omega (arith, b, len_p)) (omega (arith, a, len, len_p))
 
   part-removal : between (publish + 1) (commit + 1) ops ≡ r ++ k ∷ []
   part-removal =
@@ -116,7 +104,6 @@ module _ (t : Tree) (r next : Repo) (command : Command) (who : List ℕ) (p : Pa
       record {
         before = ap (λ l. Create wlock_path who ∷ Create lock_path who ∷ l) (part-before o prepared y.changes y.renames removals y.journal y.publish (Remove journal_path) plan.journal plan.publish plan.commit plan-in-parts);
         through = part-through o prepared y.changes y.renames removals y.journal y.publish (Remove journal_path) plan.journal plan.publish plan.commit plan-in-parts;
-        to = part-to o prepared y.changes y.renames removals y.journal y.publish (Remove journal_path) plan.journal plan.publish plan.commit plan-in-parts;
         removal = part-removal o prepared y.changes y.renames removals y.journal y.publish (Remove journal_path) plan.journal plan.publish plan.commit plan-in-parts;
         undo = undo_is;
       }

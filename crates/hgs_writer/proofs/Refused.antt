@@ -14,7 +14,7 @@ use Rattle.hgs_model.specs.Repo.{Repo}
 use Rattle.hgs_ops.specs.Operations.{lock_path, wlock_path}
 use Rattle.std.specs.Prelude.{Option}
 use Rattle.hgs_writer.specs.Turns.{LeadsOn}
-use Rattle.hgs_writer.proofs.Lists.{all-some, same-some, some-done}
+use Rattle.hgs_writer.proofs.ListLemmas.{all-some, same-some, some-done}
 use Rattle.hgs_writer.proofs.Runs.{at, nothing-leads, refusal-leads}
 
 removed-some : (all : List Op) (swept : Bool) (log : List Op) → AreRemoved all swept log → legal.AreSome all log

@@ -9,7 +9,7 @@ use Rattle.hgs_files.specs.Theorems.TreeLemmas.{after_all-append}
 use Rattle.hgs_model.specs.Repo.{Repo}
 use Rattle.hgs_journal.specs.Names.{journal_path}
 use Rattle.hgs_ops.specs.Operations.{lock_path, removals, strays, wlock_path}
-use Rattle.hgs_legal.specs.LegalLog.{Acts, Doing, Goes, Idle, IsTurn, Leaves, Preparing, Published, Refused, Run, State, Turn, Undoing, Working, begins, breaks, breaks_after, breaks_undo, drops_journal, drops_none, finished, finishes, gives_up, goes_on_knocking, goes_on_undoing, is_refused, journals, knocks, knocks_again, last_repo, lock_removals, prepares, removes, stays, through_publishing, through_removal, to_publishing, undoes, undone, works}
+use Rattle.hgs_legal.specs.LegalLog.{Acts, Doing, Goes, Idle, IsTurn, Leaves, Preparing, Published, Refused, Run, State, Turn, Undoing, Working, begins, breaks, breaks_after, breaks_undo, finished, finishes, gives_up, goes_on_knocking, goes_on_undoing, is_refused, journals, knocks, knocks_again, last_repo, lock_removals, prepares, removes, stays, through_publishing, through_removal, to_publishing, undoes, undone, works}
 use Rattle.hgs_legal.specs.Pieces.{AreSome, HasBegun, Refusal, once, twice}
 use Rattle.hgs_legal.specs.Theorems.Runs.{run-join}
 use Rattle.hgs_writer.specs.Turns.{LeadsOn}
@@ -195,10 +195,6 @@ knock-again-run t f done_so l who op log left h =
     loop f done_so (λ k. Refused l k lock_removals) (λ k. Refused l k lock_removals) (λ u ops k p does. goes_on_knocking does) (λ p k. refl)
     t (Refused l [] (Remove wlock_path ∷ [])) (Refused l [] (Remove wlock_path ∷ [])) (Create lock_path who ∷ []) left op log stays (λ mid does. knocks_again who does) h
 
-one_remove : (t : Tree) (f : Repo) (done_so : List Turn) (S : Doing) → Acts t (last_repo f done_so) S (Remove journal_path) [] (Idle None removals)
-    → Run (at t f done_so S) (Remove journal_path ∷ []) (at (apply (Remove journal_path) t) f done_so (Idle None removals))
-one_remove t f done_so S a = (at (apply (Remove journal_path) t) f done_so (Idle None removals), step t f done_so S S (Idle None removals) (Remove journal_path) stays a, refl)
-
 -- ---- whole pieces
 
 -- from a state at rest
@@ -263,18 +259,6 @@ module _ (t : Tree) (f : Repo) (so : List Turn) (rest : List Op) (x : Turn) wher
   pub given-up-leads : (c : List Op) (op : Op) (left more : List Op) → IsTurn t (last_repo f so) x → IsDone x.ops.before (op ∷ more) left → AreSome removals c → LeadsOn (at t f so (Idle None rest)) ((op ∷ more) ++ c) [] None
   given-up-leads c op left more it d some =
       end (after_all (op ∷ more) t) f (at t f so (Idle None rest)) so [] (Preparing x left) None all_paths (op ∷ more) c refl (sym (append-nil so)) (prepare f so x t rest op more left it d) gives_up some
-
-  pub dropped-leads : (a c : List Op) (op : Op) (left front : List Op) → HasBegun t (last_repo f so) x a (op ∷ left) → op ∷ left ≡ front ++ to_publishing x.ops → AreSome removals c → LeadsOn (at t f so (Idle None rest)) (a ++ Remove journal_path ∷ c) [] None
-  dropped-leads a c op left front begun e some =
-      subst (λ k. LeadsOn (at t f so (Idle None rest)) k [] None) (append_assoc a (Remove journal_path ∷ []) c)
-      (two (after_all a t) (apply (Remove journal_path) (after_all a t)) (Working x (op ∷ left)) (Idle None removals) None all_paths a (Remove journal_path ∷ []) c
-      (begun-run f so x t rest a op left begun) (one_remove (after_all a t) f so (Working x (op ∷ left)) (drops_journal front e)) stays some)
-
-  pub dropped-before-leads : (c : List Op) (op : Op) (more : List Op) → IsTurn t (last_repo f so) x → IsDone x.ops.before (op ∷ more) [] → AreSome removals c → LeadsOn (at t f so (Idle None rest)) ((op ∷ more) ++ Remove journal_path ∷ c) [] None
-  dropped-before-leads c op more it d some =
-      subst (λ k. LeadsOn (at t f so (Idle None rest)) k [] None) (append_assoc (op ∷ more) (Remove journal_path ∷ []) c)
-      (two (after_all (op ∷ more) t) (apply (Remove journal_path) (after_all (op ∷ more) t)) (Preparing x []) (Idle None removals) None all_paths (op ∷ more) (Remove journal_path ∷ []) c
-      (prepare f so x t rest op more [] it d) (one_remove (after_all (op ∷ more) t) f so (Preparing x []) drops_none) stays some)
 
   -- ---- pieces that leave the journal
 

@@ -8,7 +8,7 @@ use Rattle.hgs_bytes.specs.Bytes.{begins_with, same}
 use Rattle.hgs_files.specs.declared.op.Op.{Op}
 use Rattle.hgs_files.specs.declared.op.Op.TheVariants as ops
 use Rattle.hgs_files.specs.Tree.{Tree, bytes_at, same_path, touches}
-use Rattle.hgs_journal.specs.Names.{backups_path, journal_path}
+use Rattle.hgs_journal.specs.Names.{backups_path, journal_path, new_journal_path}
 use Rattle.hgs_journal.specs.Texts.{backups_text, journal_text}
 use Rattle.hgs_machine.specs.Sound.{AreMadeFirst, AreOnce, AreSound, IsPublished}
 use Rattle.hgs_ops.specs.Replaced.{backup_put, new_put, new_rename}
@@ -64,7 +64,7 @@ news_free (x ∷ files) = or_false (touch (new_put (replacement_of x))) (list_an
 preparing_free : (p : Parts) → list_any touch (preparing p) ≡ false
 preparing_free p =
     let files = replacings_of (all_changes p) in
-    let rest : List Op = ops.Create backups_path (backups_text (map backup_of files)) ∷ ops.Create journal_path (journal_text (lines_of (all_changes p))) ∷ [] in
+    let rest : List Op = ops.Create backups_path (backups_text (map backup_of files)) ∷ ops.Create new_journal_path (journal_text (lines_of (all_changes p))) ∷ ops.Rename new_journal_path journal_path ∷ [] in
     joined (texts_put files) rest (joined (flat_map (λ x. backup_put (replacement_of x) x.standing) files) (map (λ x. new_put (replacement_of x)) files) (backups_free files) (news_free files)) refl
 
 is_false : (a : Bool) → not a ≡ true → a ≡ false

@@ -49,7 +49,7 @@ use Rattle.hgs_writer.specs.Turns.{IsAtRest, IsTurnOf, LeadsAs, LeadsOn, Order}
 use Rattle.hgs_writer.proofs.Carried.{Comes, comes}
 use Rattle.hgs_writer.proofs.CommitLemmas.{lists-under-locks}
 use Rattle.hgs_writer.proofs.Planned.{planned-step}
-use Rattle.hgs_writer.proofs.PlanLists.{lists-are}
+use Rattle.hgs_writer.proofs.PiecePlanLemmas.{lists-are}
 use Rattle.hgs_writer.proofs.Refused.{released, turned-away}
 use Rattle.hgs_writer.proofs.Runs.{at, from-rest}
 

@@ -2,8 +2,6 @@
 use Rattle.std.specs.Prelude.{◌≡◌, ◌⊎◌, ℕ, List, [], Bool, true, false, Result, Ok, Err, IsOk}
 use Rattle.hgs_answers.specs.declared.outcome.Outcome.{Outcome}
 use Rattle.hgs_answers.specs.declared.outcome.Outcome.TheVariants.{Done, LockHeld, Abandoned, UnknownRevision, UnknownPath, CopyOver, NothingChanged, Fault, Unfinished, Limit, NameClash, InTheWay, Collision, NeedsForce, Memory, Unsettled}
-use Rattle.hgs_answers.specs.declared.outcome.Published.{Published}
-use Rattle.hgs_answers.specs.declared.outcome.Published.TheVariants.{No, Yes, Unknown}
 use Rattle.hgs_files.specs.declared.op.Op.{Op}
 use Rattle.hgs_files.specs.Tree.{Tree, after_all}
 use Rattle.hgs_index.specs.declared.kinds.Which.{Which}
@@ -40,12 +38,6 @@ abbrev pub IsDoneAs : Result Next Refusal → ℕ → Node → Tree → Type 0
 IsDoneAs (Ok next) rev node u = Stands u next.0 × (rev ≡ next.1.rev) × (node.0 ≡ next.1.node)
 IsDoneAs (Err e) rev node u = ⊥
 
--- It can be taken back to the repository before. Where it was not published it may have left no journal.
-abbrev pub IsLeftOpen : Repo → Published → Tree → Type 0
-IsLeftOpen r No u = IsOpen strays u r ⊎ Stands u r
-IsLeftOpen r Yes u = IsOpen strays u r
-IsLeftOpen r Unknown u = IsOpen strays u r
-
 -- What the tree stands for, by what the repository makes of the command and by what the call answers: its refusals are the
 -- repository's, and every refusal and each failure that was taken back leaves the repository as before. No journal stood.
 abbrev pub IsAnswered : Repo → Result Next Refusal → Outcome → Tree → Type 0
@@ -55,7 +47,7 @@ IsAnswered r stepped UnknownPath u = (stepped ≡ Err refusals.UnknownPath) × S
 IsAnswered r stepped (CopyOver path) u = (stepped ≡ Err (refusals.CopyOver path)) × Stands u r
 IsAnswered r stepped (NeedsForce rev) u = (stepped ≡ Err (refusals.NeedsForce rev)) × Stands u r
 IsAnswered r stepped (NothingChanged rev) u = (stepped ≡ Err (refusals.NothingChanged rev)) × Stands u r
-IsAnswered r stepped (Unfinished published) u = IsOk stepped × IsLeftOpen r published u
+IsAnswered r stepped (Unfinished published) u = IsOk stepped × IsOpen strays u r
 IsAnswered r stepped Abandoned u = ⊥
 IsAnswered r stepped (Unsettled rev node) u = ⊥
 IsAnswered r stepped _ u = Stands u r

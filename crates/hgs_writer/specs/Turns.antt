@@ -46,10 +46,9 @@ pub record IsTurnOf (o : Order) (x : Turn) : Type 0 where
 abbrev pub LeadsToOne : State → List Op → Order → Option (List Op) → Type 0
 LeadsToOne s log o left = (x : Turn) × IsTurnOf o x × LeadsOn s log (x ∷ []) left
 
--- By how far it came, a call that broke off has published its transaction, or has not, or one of the two. A journal is left, but
--- where nothing was published none may have been made.
+-- By how far it came, a call that broke off has published its transaction, or has not, or one of the two. Its journal is left.
 abbrev pub BreaksOffAs : State → List Op → Order → Published → Type 0
-BreaksOffAs s log o No = (left : Option (List Op)) × LeadsOn s log [] left
+BreaksOffAs s log o No = (left : List Op) × LeadsOn s log [] (Some left)
 BreaksOffAs s log o Yes = (left : List Op) × LeadsToOne s log o (Some left)
 BreaksOffAs s log o Unknown = (left : List Op) × (LeadsOn s log [] (Some left) ⊎ LeadsToOne s log o (Some left))
 

@@ -4,6 +4,7 @@ ghost use Rattle.hgs_commit.specs.Commit.{AtRest};
 ghost use Rattle.hgs_commit.specs.Fault.{HasCause};
 ghost use Rattle.hgs_commit.specs.Known.{AreKept, AreUntouched};
 ghost use Rattle.hgs_files.specs.Tree.{Tree, after_all};
+ghost use Rattle.hgs_loading.specs.Store.{HaveGrown, view_logs};
 ghost use Rattle.hgs_machine.specs.Sound.{AreSound};
 ghost use Rattle.hgs_model.specs.Valid.{AreNewChanges, IsNewChange};
 ghost use Rattle.std.specs.List.{AllByRecursion};
@@ -17,8 +18,8 @@ ghost use Rattle.hgs_transaction.specs.declared.parts.Change.TheVariants.{Replac
 
 use crate::joined::join;
 use crate::laws::stores_are_loaded;
-use crate::loaded::loaded_of;
-use core::mem::replace_with;
+use crate::loaded::{loaded_of, logs_of};
+use core::mem::{replace, replace_with};
 use hgs_bytes::bytes::Bytes;
 use hgs_commit::commit::commit_knowing;
 use hgs_commit::fault::CommitFault;
@@ -26,7 +27,7 @@ use hgs_commit::known::Known;
 use hgs_files::files::Reads;
 use hgs_index::node::Node;
 use hgs_journal::names::path_of;
-use hgs_loading::store::history;
+use hgs_loading::store::{Logs, history_on};
 use hgs_model::command::{NewChange, Refusal};
 use hgs_overlay::laws::{layers_cover_files, operations_tell_layers};
 use hgs_overlay::layers::Layers;
@@ -172,15 +173,15 @@ fn turned(known: &mut Known<'_>, parts: Parts) -> Result<Parts, AllocError>
 fn record<'a, B: Beneath, R: Reads>(
     alloc: Global,
     overlay: &mut Overlay<B, R>,
-    loaded: Loaded,
+    loaded: &Loaded,
     change: &'a NewChange,
     known: &mut Known<'a>,
 ) -> Result<Last, CommitFault>
-    requires changelog { AreEntries loaded.changelog.entries }
-    requires manifest { AreEntries loaded.manifest.entries }
+    requires changelog { AreEntries loaded.now.changelog.entries }
+    requires manifest { AreEntries loaded.now.manifest.entries }
     requires valid { IsNewChange change.now }
     requires known { AtRest R.alone (R.seen overlay.old.files) (R.start overlay.old.files) (λ t. AreKept (after_all (laid_ops overlay.old.layers) t) known.old) }
-    ensures comes { AtRest R.alone (R.seen overlay.new.files) (R.start overlay.new.files) (λ t. LaysRecord (after_all (laid_ops overlay.old.layers) t) loaded change.now overlay.old.layers overlay.new.layers result) }
+    ensures comes { AtRest R.alone (R.seen overlay.new.files) (R.start overlay.new.files) (λ t. LaysRecord (after_all (laid_ops overlay.old.layers) t) loaded.now change.now overlay.old.layers overlay.new.layers result) }
     ensures known { OnOk result (AtRest R.alone (R.seen overlay.new.files) (R.start overlay.new.files) (λ t. AreKept (after_all (laid_ops overlay.new.layers) t) known.new)) }
     ensures same_start { R.start overlay.new.files ≡ R.start overlay.old.files }
     ensures still { R.alone ≡ true → R.seen overlay.new.files ≡ R.seen overlay.old.files }
@@ -189,7 +190,7 @@ fn record<'a, B: Beneath, R: Reads>(
 {
     filelogs_have_their_own_names();
     operations_tell_layers();
-    let Step { parts, rev, node } = match commit_knowing(alloc, overlay, &loaded, change, known) {
+    let Step { parts, rev, node } = match commit_knowing(alloc, overlay, loaded, change, known) {
         Ok(step) => step,
         Err(fault) => return Err(fault),
     };
@@ -200,16 +201,24 @@ fn record<'a, B: Beneath, R: Reads>(
     }
 }
 
-// Plans a record of what is loaded for it, and lays what it comes to over the files.
+// Plans a record of what is loaded for it, and lays what it comes to over the files. The two revlogs are those that were loaded for
+// the record before, and then those of this one.
 fn next_record<'a, B: Beneath, R: Reads>(
     alloc: Global,
     overlay: &mut Overlay<B, R>,
+    logs: &mut Logs,
     change: &'a NewChange,
     known: &mut Known<'a>,
 ) -> Result<Last, CommitFault>
+    requires changelog { AreEntries logs.old.changelog.entries }
+    requires manifest { AreEntries logs.old.manifest.entries }
+    requires grown { AtRest R.alone (R.seen overlay.old.files) (R.start overlay.old.files) (λ t. HaveGrown (view_logs logs.old) (after_all (laid_ops overlay.old.layers) t)) }
     requires valid { IsNewChange change.now }
     requires known { AtRest R.alone (R.seen overlay.old.files) (R.start overlay.old.files) (λ t. AreKept (after_all (laid_ops overlay.old.layers) t) known.old) }
     ensures comes { AtRest R.alone (R.seen overlay.new.files) (R.start overlay.new.files) (λ t. LaysNext (after_all (laid_ops overlay.old.layers) t) change.now overlay.old.layers overlay.new.layers result) }
+    ensures changelog { OnOk result (AreEntries logs.new.changelog.entries) }
+    ensures manifest { OnOk result (AreEntries logs.new.manifest.entries) }
+    ensures grown { OnOk result (AtRest R.alone (R.seen overlay.new.files) (R.start overlay.new.files) (λ t. HaveGrown (view_logs logs.new) (after_all (laid_ops overlay.new.layers) t))) }
     ensures known { OnOk result (AtRest R.alone (R.seen overlay.new.files) (R.start overlay.new.files) (λ t. AreKept (after_all (laid_ops overlay.new.layers) t) known.new)) }
     ensures same_start { R.start overlay.new.files ≡ R.start overlay.old.files }
     ensures still { R.alone ≡ true → R.seen overlay.new.files ≡ R.seen overlay.old.files }
@@ -218,17 +227,23 @@ fn next_record<'a, B: Beneath, R: Reads>(
 {
     stores_are_loaded();
     operations_tell_layers();
-    let store = match history(alloc, overlay) {
+    let before = replace(logs, Logs::none(alloc));
+    let store = match history_on(alloc, overlay, before) {
         Ok(store) => store,
         Err(refusal) => return Err(CommitFault::Unread(refusal)),
     };
-    match record(alloc, overlay, loaded_of(store), change, known) {
-        Ok(last) => Ok(last),
+    let loaded = loaded_of(store);
+    match record(alloc, overlay, &loaded, change, known) {
+        Ok(last) => {
+            *logs = logs_of(loaded);
+            Ok(last)
+        }
         Err(fault) => Err(fault),
     }
 }
 
-// Plans the records behind the first, for each of which the history is loaded again.
+// Plans the records behind the first, for each of which the history is loaded again: its two revlogs from where they end for
+// the one before.
 fn more_records<'a, B: Beneath, R: Reads>(
     alloc: Global,
     overlay: &mut Overlay<B, R>,
@@ -244,10 +259,11 @@ fn more_records<'a, B: Beneath, R: Reads>(
     ensures later { R.faults overlay.old.files ≤ R.faults overlay.new.files }
     ensures cause { HasCause (R.faults overlay.old.files) (R.faults overlay.new.files) result }
 {
+    let mut logs = Logs::none(alloc);
     let mut last = first;
     let mut rest = changes;
     while let Some((change, behind)) = rest.split_first() {
-        last = match next_record(alloc, overlay, change, known) {
+        last = match next_record(alloc, overlay, &mut logs, change, known) {
             Ok(last) => last,
             Err(fault) => return Err(fault),
         };
@@ -276,7 +292,7 @@ fn records<B: Beneath, R: Reads>(
         return Err(CommitFault::Refused(PlanFault::Refused(Refusal::NothingChanged(0))));
     };
     let mut known = Known::none(alloc);
-    match record(alloc, overlay, loaded, first, &mut known) {
+    match record(alloc, overlay, &loaded, first, &mut known) {
         Ok(last) => more_records(alloc, overlay, last, rest, &mut known),
         Err(fault) => Err(fault),
     }

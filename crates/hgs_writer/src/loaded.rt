@@ -5,7 +5,7 @@ ghost use Rattle.hgs_writer.specs.Planning.{IsLoadedFrom};
 
 use hgs_bytes::bytes::Bytes;
 use hgs_loading::small::SmallFiles;
-use hgs_loading::store::LoadedStore;
+use hgs_loading::store::{LoadedStore, Logs};
 use hgs_steps::loaded::{Loaded, Standing};
 
 // How many bytes were read.
@@ -52,5 +52,21 @@ pub fn loaded_of(store: LoadedStore) -> Loaded
             dirstate: dirstate.bytes,
             roots: roots.bytes,
         },
+    }
+}
+
+/// The two revlogs of what a command was planned from.
+pub(crate) fn logs_of(loaded: Loaded) -> Logs
+    ensures changelog { result.changelog ≡ loaded.changelog }
+    ensures manifest { result.manifest ≡ loaded.manifest }
+{
+    let Loaded {
+        changelog,
+        manifest,
+        ..
+    } = loaded;
+    Logs {
+        changelog,
+        manifest,
     }
 }

@@ -2,6 +2,7 @@
 //! on.
 ghost use Rattle.std.specs.Prelude.{◌≡◌, ◌⊎◌, ◌++◌, [], Bool, List, None, Ok, Option, false, true, ℕ};
 ghost use Rattle.hgs_files.specs.declared.op.Op.{Op};
+ghost use Rattle.hgs_files.specs.Stop.{IsStopped};
 ghost use Rattle.hgs_files.specs.Tree.{Tree, after_all};
 ghost use Rattle.hgs_legal.specs.Pieces.{Piece};
 ghost use Rattle.hgs_machine.specs.Course.{CarriedOut, lock_removals};
@@ -70,20 +71,21 @@ pub fn refusals_are_for_files()
     ensures no_journal { (who : List ℕ) (t : Tree) (locking : List Op) → AreLocked who t locking → t journal_path ≡ None }
 {}
 
-/// A tree that is open for a repository stays so behind a writer that did not get the locks, where all was swept.
+/// A tree that is open for a repository stays so behind a writer that did not get the locks, whether or not all was swept, and wherever
+/// it is stopped.
 pub fn turned_away_writers_keep_open_trees()
-    ensures { (t : Tree) (r : Repo) (who : List ℕ) (why : LockRefusal) (log : List Op) → IsOpen strays t r → IsTurnedAway who t why true log → IsOpen strays (after_all log t) r }
+    ensures { (t : Tree) (r : Repo) (who : List ℕ) (why : LockRefusal) (swept : Bool) (log d : List Op) → IsOpen strays t r → IsTurnedAway who t why swept log → IsStopped log d → IsOpen strays (after_all d t) r }
 {
     transactions_stay_covered();
     undo_leads_back();
 }
 
 /// Where the locks were taken, the tree under them has the other files that it had, and stands for what it stood for before; it has them
-/// too where they were not, and all was swept;
+/// too where they were not, wherever that is stopped;
 /// the parts of a transaction of it are those of the tree without the locks, and what hinders none there hinders none here.
 pub fn locks_do_not_matter()
     ensures others { (t : Tree) (who : List ℕ) (locking : List Op) (path : List ℕ) → AreLocked who t locking → same path wlock_path ≡ false → same path lock_path ≡ false → after_all locking t path ≡ t path }
-    ensures turned_away { (t : Tree) (who : List ℕ) (why : LockRefusal) (log : List Op) (path : List ℕ) → IsTurnedAway who t why true log → same path wlock_path ≡ false → same path lock_path ≡ false → after_all log t path ≡ t path }
+    ensures turned_away { (t : Tree) (who : List ℕ) (why : LockRefusal) (swept : Bool) (log d : List Op) (path : List ℕ) → IsTurnedAway who t why swept log → IsStopped log d → same path wlock_path ≡ false → same path lock_path ≡ false → after_all d t path ≡ t path }
     ensures stands { (t : Tree) (r : Repo) (who : List ℕ) (locking : List Op) → AreLocked who t locking → Stands t r → Stands (after_all locking t) r }
     ensures parts { (t : Tree) (r next : Repo) (command : Command) (who : List ℕ) (p : Parts) (locking : List Op) → AreLocked who t locking → ArePartsOf (after_all locking t) r command next p → ArePartsOf t r command next p }
     ensures ready { (t : Tree) (r next : Repo) (command : Command) (who : List ℕ) (locking : List Op) → AreLocked who t locking → IsReady (after_all locking t) r command next → IsReady t r command next }

@@ -5,7 +5,7 @@ use Rattle.std.specs.List.{AllByRecursion, list_all}
 use Rattle.hgs_bytes.specs.Bytes.{same, among}
 use Rattle.hgs_bytes.specs.Theorems.ByteLemmas.{same-eq}
 use Rattle.hgs_journal.specs.declared.backups.BackupLine.{BackupLine}
-use Rattle.hgs_journal.specs.Names.{place, new_name, backup_name, journal_path, backups_path, is_replaced, locks}
+use Rattle.hgs_journal.specs.Names.{place, new_name, backup_name, journal_path, new_journal_path, backups_path, is_replaced, locks}
 use Rattle.hgs_journal.specs.Covers.{own_strays, HasOwnStrays, is_loose}
 use Rattle.hgs_journal.specs.Theorems.LackLemmas.{both-true}
 use Rattle.hgs_journal.specs.Theorems.Undoing.{NewNamesLoose}
@@ -83,7 +83,10 @@ all-among strays (x ∷ own) p h m =
     ]
 
 pub own-loose : (strays : List (List ℕ)) (p : List ℕ) → HasOwnStrays strays → among p own_strays ≡ true → is_loose strays p ≡ true
-own-loose strays p h m = stray-loose strays p (all-among strays own_strays p h m)
+own-loose strays p h m = stray-loose strays p (all-among strays (new_journal_path ∷ own_strays) p h (or-right (same p new_journal_path) (among p own_strays) m))
+
+pub new-journal-loose : (strays : List (List ℕ)) → HasOwnStrays strays → is_loose strays new_journal_path ≡ true
+new-journal-loose strays h = stray-loose strays new_journal_path (all-among strays (new_journal_path ∷ own_strays) new_journal_path h refl)
 
 pub new-own : (p : Bool) (x : List ℕ) → IsOne p x → among (place p (new_name x)) own_strays ≡ true
 new-own p x phaseroots = refl

@@ -14,7 +14,7 @@ use Rattle.hgs_ops.specs.Theorems.Touch.{bool, never, or-both, and-left, and-rig
 
 -- all paths of a store and of its transactions that are no filelog's
 abbrev pub fixed : List (List ℕ)
-fixed = own_files ++ codes "journal.new.requires" ∷ codes "store/00changelog.i.a" ∷ []
+fixed = own_files ++ codes "journal.new.requires" ∷ codes "store/00changelog.i.a" ∷ codes "store/journal.new.journal" ∷ []
 
 pub stores-fixed : (path : List ℕ) (ext : Ext) → among (store_name path ext) fixed ≡ false
 stores-fixed path ext = let d = store-d path ext in ap (λ z. among (codes "store/" ++ z) fixed) d.1

@@ -20,13 +20,11 @@ use Rattle.hgs_model.specs.declared.command.Command.{Command}
 use Rattle.hgs_model.specs.declared.command.Command.TheVariants.{Commit, Import, Move, Mark, Unmark}
 use Rattle.hgs_ops.specs.Growth.{append_some, filelog_growth, filelogs_grow, grown, growth, grows_inline, new_changelog_entry, new_chunks, new_data, new_entries, new_items, new_names, new_paths}
 use Rattle.hgs_ops.specs.Operations.{appending, changes_before, journal_lines, journalled, new_changelog_index, new_changelog_path, publishing, roots_renamed, strays}
-use Rattle.hgs_ops.specs.PowerSteps.{power_strays}
 use Rattle.hgs_ops.specs.Unhindered.{HavePlaces, IsReady, IsUnhindered}
 use Rattle.hgs_ops.specs.Theorems.Clear.{any-append, clear-apart, growth-clear, paths-append, roots-no_lines}
 use Rattle.hgs_ops.specs.Theorems.CommitTree.{first_of}
 use Rattle.hgs_ops.specs.Replaced.{roots_change, roots_of}
-use Rattle.hgs_ops.specs.Theorems.Touch.{bool, never, or-both, or-left, or-right}
-use Rattle.hgs_power.specs.Calm.{new_journal_path}
+use Rattle.hgs_ops.specs.Theorems.Touch.{bool, never, or-left, or-right}
 use Rattle.hgs_path.specs.declared.name.Ext.{Ext}
 use Rattle.hgs_path.specs.declared.name.Ext.TheVariants.{D, I}
 use Rattle.hgs_path.specs.ListedNames.{names_of}
@@ -60,13 +58,6 @@ among-not test p (x ∷ paths) none there e = by (bool (same p x)) (among-not te
     by : (same p x ≡ true) ⊎ (same p x ≡ false) → (among p paths ≡ true → ((y : List ℕ) → same p y ≡ true → test p ≡ test y) → test p ≡ false) → test p ≡ false
     by (inl h) rest = e x h ∙ or-left (test x) (list_any test paths) none
     by (inr h) rest = rest (ap (λ b. b || among p paths) (sym h) ∙ there) e
-
-among-more : (p : List ℕ) (xs ys : List (List ℕ)) → among p (xs ++ ys) ≡ false → among p xs ≡ false
-among-more p [] ys e = refl
-among-more p (x ∷ xs) ys e = or-both _ _ (or-left _ _ e) (among-more p xs ys (or-right (same p x) _ e))
-
-pub fewer : (p : List ℕ) → is_loose power_strays p ≡ false → is_loose strays p ≡ false
-fewer p e = or-both _ _ (or-left _ _ e) (among-more p strays (new_journal_path ∷ []) (or-right _ _ e))
 
 module _ (t u : Tree) (aside : AreSameAside t u) where
   own : (path : List ℕ) → is_loose strays path ≡ false → bytes_at u path ≡ bytes_at t path
@@ -157,7 +148,7 @@ module _ (t u : Tree) (aside : AreSameAside t u) where
       bytes path ext = sym (bytes-of (u (store_name path ext)) (t (store_name path ext)) (stored path ext))
 
   abbrev is_aside : List ℕ → Bool
-  is_aside path = is_loose power_strays path || same path journal_path
+  is_aside path = is_loose strays path || same path journal_path
 
   journal-apart : (r next : Repo) → list_any is_aside (journal_paths (journal_lines u (appending u r next))) ≡ false
   journal-apart r next =
@@ -167,8 +158,8 @@ module _ (t u : Tree) (aside : AreSameAside t u) where
       (ap (λ (l : List JournalLine). list_any is_aside (journal_paths l)) (roots-no_lines u (roots_change r next) (roots_of next)))) refl
 
   journalled-own : (r next : Repo) (path : List ℕ) → among path (journal_paths (journal_lines u (appending u r next))) ≡ true → is_loose strays path ≡ false
-  journalled-own r next path there = fewer path (or-left (is_loose power_strays path) (same path journal_path)
-      (among-not is_aside path (journal_paths (journal_lines u (appending u r next))) (journal-apart r next) there (λ x e. ap is_aside (same-eq path x e))))
+  journalled-own r next path there = or-left (is_loose strays path) (same path journal_path)
+      (among-not is_aside path (journal_paths (journal_lines u (appending u r next))) (journal-apart r next) there (λ x e. ap is_aside (same-eq path x e)))
 
   lengths-same : (r : Repo) (next : Repo) → ((path : List ℕ) → among path (journal_paths (journal_lines t (appending t r next))) ≡ true → length (bytes_at t path) < 2 ^ 64)
       → (path : List ℕ) → among path (journal_paths (journal_lines u (appending u r next))) ≡ true → length (bytes_at u path) < 2 ^ 64

@@ -21,8 +21,7 @@ use Rattle.hgs_power.specs.Shape.{AppendsTo}
 use Rattle.hgs_stands.specs.Places.{changelog_data, fncache_path, manifest_data, manifest_index}
 use Rattle.hgs_stands.specs.Theorems.LooseLemmas.{store-not-loose}
 use Rattle.hgs_ops.specs.Growth.{append_some, filelog_growth, filelogs_grow, growth, grown, new_data, new_entries, new_paths}
-use Rattle.hgs_ops.specs.Operations.{journal_line_of, journal_lines}
-use Rattle.hgs_ops.specs.PowerSteps.{power_strays}
+use Rattle.hgs_ops.specs.Operations.{journal_line_of, journal_lines, strays}
 use Rattle.hgs_ops.specs.Theorems.Apart.{stores-fixed}
 use Rattle.hgs_ops.specs.Theorems.CommitLemmas.{part_data, part_files, part_lines, part_manifest}
 use Rattle.hgs_ops.specs.Theorems.CommitTree.{first_of}
@@ -33,14 +32,14 @@ use Rattle.hgs_ops.specs.Theorems.Touch.{or-both, or-left, or-right}
 -- ---- an append to a file that is neither a lock, a stray nor the journal
 
 abbrev pub IsClear : List ℕ → Type 0
-IsClear path = ((is_loose power_strays path || same path journal_path) ≡ false) × (in_store (drop 6 path) ≡ path)
+IsClear path = ((is_loose strays path || same path journal_path) ≡ false) × (in_store (drop 6 path) ≡ path)
 
 abbrev pub IsAppend : Op → Type 0
 IsAppend (Append path bytes) = IsClear path
 IsAppend _ = ⊥
 
 pub store-clear : (path : List ℕ) (ext : Ext) → IsClear (store_name path ext)
-store-clear path ext = (or-both _ _ (store-not-loose power_strays path ext refl) (not-fixed (store_name path ext) journal_path refl (stores-fixed path ext)), refl)
+store-clear path ext = (or-both _ _ (store-not-loose strays path ext refl) (not-fixed (store_name path ext) journal_path refl (stores-fixed path ext)), refl)
 
 pub some-clear : (path bytes : List ℕ) → IsClear path → AllByRecursion IsAppend (append_some path bytes)
 some-clear path [] c = tt
@@ -109,9 +108,9 @@ appends-named t (Create path bytes ∷ xs) paths all sub journal e = absurd all.
 appends-named t (Sync path ∷ xs) paths all sub journal e = absurd all.0
 appends-named t (Settle ∷ xs) paths all sub journal e = absurd all.0
 
-pub clear-apart : (t : Tree) (xs : List Op) → AllByRecursion IsAppend xs → list_any (λ path. is_loose power_strays path || same path journal_path) (journal_paths (journal_lines t xs)) ≡ false
+pub clear-apart : (t : Tree) (xs : List Op) → AllByRecursion IsAppend xs → list_any (λ path. is_loose strays path || same path journal_path) (journal_paths (journal_lines t xs)) ≡ false
 clear-apart t [] all = refl
-clear-apart t (Append path bytes ∷ xs) all = or-both _ _ (ap (λ p. is_loose power_strays p || same p journal_path) all.0.1 ∙ all.0.0) (clear-apart t xs all.1)
+clear-apart t (Append path bytes ∷ xs) all = or-both _ _ (ap (λ p. is_loose strays p || same p journal_path) all.0.1 ∙ all.0.0) (clear-apart t xs all.1)
 clear-apart t (Cut path len ∷ xs) all = absurd all.0
 clear-apart t (Rename from to ∷ xs) all = absurd all.0
 clear-apart t (Remove path ∷ xs) all = absurd all.0

@@ -9,7 +9,7 @@ use Rattle.hgs_files.specs.declared.op.Op.TheVariants.{Append, Cut, Rename, Remo
 use Rattle.hgs_files.specs.Tree.{Tree, bytes_at, with_file, renamed, apply, after_all}
 use Rattle.hgs_files.specs.Theorems.TreeLemmas.{with_file-same, after_all-append}
 use Rattle.hgs_journal.specs.declared.backups.BackupLine.{BackupLine}
-use Rattle.hgs_journal.specs.Names.{journal_path, backups_path, place, backup_name, new_name}
+use Rattle.hgs_journal.specs.Names.{journal_path, backups_path, place, backup_name, new_name, new_journal_path}
 use Rattle.hgs_journal.specs.Texts.{backups_text}
 use Rattle.hgs_stands.specs.Places.{bookmarks_path, dirstate_path, roots_path}
 use Rattle.hgs_ops.specs.Operations.{wlock_path, lock_path, preparations}
@@ -28,7 +28,7 @@ is_quiet p = among p quiet
 -- the list of a commit
 abbrev pub commit_list : Tree → List ℕ → List Replacement → List BackupLine → List ℕ → List Op → List Op → Op → List Op → List Op
 commit_list t who files backups journal growth first publish second =
-    preparations t who files backups ++ (Create journal_path journal ∷ (growth ++ first)) ++ (publish ∷ second) ++ end
+    preparations t who files backups journal ++ (Rename new_journal_path journal_path ∷ (growth ++ first)) ++ (publish ∷ second) ++ end
 
 -- the files that a commit replaces
 abbrev pub files_of : Bool → Bool → List ℕ → List ℕ → List ℕ → List Replacement
@@ -76,11 +76,11 @@ small-files false false roots dirstate marks = ((refl, refl), tt)
 abbrev lead : Tree → List ℕ → List Replacement → List Op
 lead t who files = Create wlock_path who ∷ Create lock_path who ∷ flat_map (λ x. backup_put x (standing_file t x)) files
 
-pub preparations-within : (ok : List ℕ → Bool) (t : Tree) (who : List ℕ) (files : List Replacement) (backups : List BackupLine) → ok wlock_path ≡ true → ok lock_path ≡ true → ok backups_path ≡ true
-    → AllByRecursion (IsSmall ok) files → list_all (within ok) (preparations t who files backups) ≡ true
-preparations-within ok t who files backups a b c all =
-    all-append (within ok) (lead t who files ++ map new_put files) (Create backups_path (backups_text backups) ∷ [])
-    (all-append (within ok) (lead t who files) (map new_put files) (and-both _ _ a (and-both _ _ b (backups-within ok t files all))) (puts-within ok files all)) (and-both _ _ c refl)
+pub preparations-within : (ok : List ℕ → Bool) (t : Tree) (who : List ℕ) (files : List Replacement) (backups : List BackupLine) (text : List ℕ) → ok wlock_path ≡ true → ok lock_path ≡ true → ok backups_path ≡ true → ok new_journal_path ≡ true
+    → AllByRecursion (IsSmall ok) files → list_all (within ok) (preparations t who files backups text) ≡ true
+preparations-within ok t who files backups text a b c d all =
+    all-append (within ok) (lead t who files ++ map new_put files) (Create backups_path (backups_text backups) ∷ Create new_journal_path text ∷ [])
+    (all-append (within ok) (lead t who files) (map new_put files) (and-both _ _ a (and-both _ _ b (backups-within ok t files all))) (puts-within ok files all)) (and-both _ _ c (and-both _ _ d refl))
 
 abbrev pub new_roots_path : List ℕ
 new_roots_path = codes "store/journal.new.phaseroots"
@@ -179,13 +179,13 @@ appends-only (op ∷ ops) p e = and-both _ _ (one op (and-left _ _ e)) (appends-
 module _ (t : Tree) (who : List ℕ) (rc bk : Bool) (roots dirstate marks : List ℕ) (backups : List BackupLine) (journal : List ℕ) (growth : List Op) (path entry : List ℕ)
     (loud : is_quiet path ≡ false) (appends : list_all is_append growth ≡ true) (apart : (q : List ℕ) → is_quiet q ≡ true → touched q growth ≡ false) where
   abbrev prep : List Op
-  prep = preparations t who (files_of rc bk roots dirstate marks) backups
+  prep = preparations t who (files_of rc bk roots dirstate marks) backups journal
 
   abbrev t1 : Tree
   t1 = after_all prep t
 
   abbrev t2 : Tree
-  t2 = apply (Create journal_path journal) t1
+  t2 = apply (Rename new_journal_path journal_path) t1
 
   abbrev t3 : Tree
   t3 = after_all growth t2
@@ -204,14 +204,14 @@ module _ (t : Tree) (who : List ℕ) (rc bk : Bool) (roots dirstate marks : List
 
   stages : after_all (commit_list t who (files_of rc bk roots dirstate marks) backups journal growth (first_of rc roots) (Append path entry) (second_of bk dirstate marks)) t ≡ u
   stages =
-      after_all-append (prep ++ (Create journal_path journal ∷ (growth ++ first_of rc roots)) ++ (Append path entry ∷ second_of bk dirstate marks)) end t
+      after_all-append (prep ++ (Rename new_journal_path journal_path ∷ (growth ++ first_of rc roots)) ++ (Append path entry ∷ second_of bk dirstate marks)) end t
       ∙ ap (after_all end)
-      (after_all-append (prep ++ (Create journal_path journal ∷ (growth ++ first_of rc roots))) (Append path entry ∷ second_of bk dirstate marks) t
-      ∙ ap (after_all (Append path entry ∷ second_of bk dirstate marks)) (after_all-append prep (Create journal_path journal ∷ (growth ++ first_of rc roots)) t ∙ after_all-append growth (first_of rc roots) t2))
+      (after_all-append (prep ++ (Rename new_journal_path journal_path ∷ (growth ++ first_of rc roots))) (Append path entry ∷ second_of bk dirstate marks) t
+      ∙ ap (after_all (Append path entry ∷ second_of bk dirstate marks)) (after_all-append prep (Rename new_journal_path journal_path ∷ (growth ++ first_of rc roots)) t ∙ after_all-append growth (first_of rc roots) t2))
 
   -- a path that isn't quiet is touched by the growth and the publishing append only
   prep-other : (p : List ℕ) → is_quiet p ≡ false → touched p prep ≡ false
-  prep-other p e = touched-within is_quiet prep p (preparations-within is_quiet t who (files_of rc bk roots dirstate marks) backups refl refl refl (small-files rc bk roots dirstate marks)) e
+  prep-other p e = touched-within is_quiet prep p (preparations-within is_quiet t who (files_of rc bk roots dirstate marks) backups journal refl refl refl refl (small-files rc bk roots dirstate marks)) e
 
   first-other : (p : List ℕ) → is_quiet p ≡ false → touched p (first_of rc roots) ≡ false
   first-other p e = touched-within is_quiet (first_of rc roots) p (first-within rc roots) e
@@ -222,8 +222,8 @@ module _ (t : Tree) (who : List ℕ) (rc bk : Bool) (roots dirstate marks : List
   end-other : (p : List ℕ) → is_quiet p ≡ false → touched p end ≡ false
   end-other p e = touched-within is_quiet end p refl e
 
-  journal-other : (p : List ℕ) → is_quiet p ≡ false → touched p (Create journal_path journal ∷ []) ≡ false
-  journal-other p e = touched-within is_quiet (Create journal_path journal ∷ []) p refl e
+  journal-other : (p : List ℕ) → is_quiet p ≡ false → touched p (Rename new_journal_path journal_path ∷ []) ≡ false
+  journal-other p e = touched-within is_quiet (Rename new_journal_path journal_path ∷ []) p refl e
 
   u-bytes : (p : List ℕ) → is_quiet p ≡ false → bytes_at u p ≡ (bytes_at t p ++ appended p growth) ++ appends_at p (Append path entry)
   u-bytes p e =
@@ -231,13 +231,13 @@ module _ (t : Tree) (who : List ℕ) (rc bk : Bool) (roots dirstate marks : List
       ∙ bytes-untouched (second_of bk dirstate marks) t5 p (second-other p e)
       ∙ appended-at (Append path entry ∷ []) t4 p refl
       ∙ ap (λ l. l ++ (appends_at p (Append path entry) ++ [])) (bytes-untouched (first_of rc roots) t3 p (first-other p e) ∙ appended-at growth t2 p (appends-only growth p appends)
-      ∙ ap (λ l. l ++ appended p growth) (bytes-untouched (Create journal_path journal ∷ []) t1 p (journal-other p e) ∙ bytes-untouched prep t p (prep-other p e)))
+      ∙ ap (λ l. l ++ appended p growth) (bytes-untouched (Rename new_journal_path journal_path ∷ []) t1 p (journal-other p e) ∙ bytes-untouched prep t p (prep-other p e)))
       ∙ ap (λ l. (bytes_at t p ++ appended p growth) ++ l) (append-nil (appends_at p (Append path entry)))
 
   u-others : (p : List ℕ) → is_quiet p ≡ false → touched p growth ≡ false → touches p (Append path entry) ≡ false → u p ≡ t p
   u-others p e g h =
       untouched end t6 p (end-other p e) ∙ untouched (second_of bk dirstate marks) t5 p (second-other p e) ∙ apply-other (Append path entry) t4 p h
-      ∙ untouched (first_of rc roots) t3 p (first-other p e) ∙ untouched growth t2 p g ∙ untouched (Create journal_path journal ∷ []) t1 p (journal-other p e) ∙ untouched prep t p (prep-other p e)
+      ∙ untouched (first_of rc roots) t3 p (first-other p e) ∙ untouched growth t2 p g ∙ untouched (Rename new_journal_path journal_path ∷ []) t1 p (journal-other p e) ∙ untouched prep t p (prep-other p e)
 
   -- the publishing append is at no quiet path
   publish-other : (q : List ℕ) → is_quiet q ≡ true → touches q (Append path entry) ≡ false
@@ -249,8 +249,8 @@ module _ (t : Tree) (who : List ℕ) (rc bk : Bool) (roots dirstate marks : List
   -- ---- what is put under the new names
 
   -- a quiet path keeps its file through the growth
-  through : (q : List ℕ) → is_quiet q ≡ true → same journal_path q ≡ false → t3 q ≡ t1 q
-  through q e h = untouched growth t2 q (apart q e) ∙ apply-other (Create journal_path journal) t1 q h
+  through : (q : List ℕ) → is_quiet q ≡ true → touches q (Rename new_journal_path journal_path) ≡ false → t3 q ≡ t1 q
+  through q e h = untouched growth t2 q (apart q e) ∙ apply-other (Rename new_journal_path journal_path) t1 q h
 
   pub u-journal : u journal_path ≡ None
   u-journal = gone-none journal_path false end t6 (λ h. never (sym h)) refl
@@ -264,25 +264,26 @@ module _ (t : Tree) (who : List ℕ) (rc bk : Bool) (roots dirstate marks : List
   abbrev put_on : Tree
   put_on = after_all (lead t who (files_of rc bk roots dirstate marks)) t
 
-  t1-at : (q : List ℕ) → same backups_path q ≡ false → t1 q ≡ after_all (map new_put (files_of rc bk roots dirstate marks)) put_on q
-  t1-at q e =
-      ap (λ (v : Tree). v q) (after_all-append (lead t who (files_of rc bk roots dirstate marks) ++ map new_put (files_of rc bk roots dirstate marks)) (Create backups_path (backups_text backups) ∷ []) t)
+  t1-at : (q : List ℕ) → same backups_path q ≡ false → same new_journal_path q ≡ false → t1 q ≡ after_all (map new_put (files_of rc bk roots dirstate marks)) put_on q
+  t1-at q e f =
+      ap (λ (v : Tree). v q) (after_all-append (lead t who (files_of rc bk roots dirstate marks) ++ map new_put (files_of rc bk roots dirstate marks)) (Create backups_path (backups_text backups) ∷ Create new_journal_path journal ∷ []) t)
+      ∙ apply-other (Create new_journal_path journal) (apply (Create backups_path (backups_text backups)) (after_all (lead t who (files_of rc bk roots dirstate marks) ++ map new_put (files_of rc bk roots dirstate marks)) t)) q f
       ∙ apply-other (Create backups_path (backups_text backups)) (after_all (lead t who (files_of rc bk roots dirstate marks) ++ map new_put (files_of rc bk roots dirstate marks)) t) q e
       ∙ ap (λ (v : Tree). v q) (after_all-append (lead t who (files_of rc bk roots dirstate marks)) (map new_put (files_of rc bk roots dirstate marks)) t)
 
   -- the new texts stand after the preparations
   pub roots-put : rc ≡ true → t1 new_roots_path ≡ Some roots
-  roots-put e = t1-at new_roots_path refl ∙ subst (λ b. after_all (map new_put (files_of b bk roots dirstate marks)) put_on new_roots_path ≡ Some roots) (sym e) (roots-in bk roots dirstate marks put_on)
+  roots-put e = t1-at new_roots_path refl refl ∙ subst (λ b. after_all (map new_put (files_of b bk roots dirstate marks)) put_on new_roots_path ≡ Some roots) (sym e) (roots-in bk roots dirstate marks put_on)
 
   dirstate-put : t1 new_dirstate_path ≡ Some dirstate
-  dirstate-put = t1-at new_dirstate_path refl ∙ dirstate-in rc bk roots dirstate marks put_on
+  dirstate-put = t1-at new_dirstate_path refl refl ∙ dirstate-in rc bk roots dirstate marks put_on
 
   marks-put : bk ≡ true → t1 new_marks_path ≡ Some marks
-  marks-put e = t1-at new_marks_path refl ∙ subst (λ b. after_all (map new_put (files_of rc b roots dirstate marks)) put_on new_marks_path ≡ Some marks) (sym e) (marks-in rc roots dirstate marks put_on)
+  marks-put e = t1-at new_marks_path refl refl ∙ subst (λ b. after_all (map new_put (files_of rc b roots dirstate marks)) put_on new_marks_path ≡ Some marks) (sym e) (marks-in rc roots dirstate marks put_on)
 
   -- the three files stay through the preparations
   file-kept : (q : List ℕ) → is_aside q ≡ false → t1 q ≡ t q
-  file-kept q e = untouched prep t q (touched-within is_aside prep q (preparations-within is_aside t who (files_of rc bk roots dirstate marks) backups refl refl refl (aside-files rc bk roots dirstate marks)) e)
+  file-kept q e = untouched prep t q (touched-within is_aside prep q (preparations-within is_aside t who (files_of rc bk roots dirstate marks) backups journal refl refl refl refl (aside-files rc bk roots dirstate marks)) e)
 
   u-roots : u roots_path ≡ (if rc then Some roots else t roots_path)
   u-roots =

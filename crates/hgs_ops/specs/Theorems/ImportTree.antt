@@ -10,7 +10,7 @@ use Rattle.hgs_files.specs.declared.op.Op.TheVariants.{Append, Cut, Rename, Remo
 use Rattle.hgs_files.specs.Tree.{Tree, after_all, apply, bytes_at, renamed, shortened, with_file}
 use Rattle.hgs_files.specs.Theorems.TreeLemmas.{after_all-append, with_file-same}
 use Rattle.hgs_journal.specs.declared.backups.BackupLine.{BackupLine}
-use Rattle.hgs_journal.specs.Names.{journal_path}
+use Rattle.hgs_journal.specs.Names.{journal_path, new_journal_path}
 use Rattle.hgs_model.specs.declared.command.Command.TheVariants.{Import}
 use Rattle.hgs_model.specs.declared.command.NewChange.{NewChange}
 use Rattle.hgs_model.specs.Repo.{Repo}
@@ -124,7 +124,7 @@ second-unread false dirstate marks = refl
 module _ (t : Tree) (who : List ℕ) (rc bk : Bool) (roots dirstate marks : List ℕ) (backups : List BackupLine) (journal : List ℕ) (growth : List Op) (entry : List ℕ)
     (still : touched changelog_index growth ≡ false) (appends : list_all is_append growth ≡ true) (apart : (q : List ℕ) → is_quiet q ≡ true → touched q growth ≡ false) where
   abbrev prep : List Op
-  prep = preparations t who (files_of rc bk roots dirstate marks) backups
+  prep = preparations t who (files_of rc bk roots dirstate marks) backups journal
 
   abbrev first : List Op
   first = first_of rc roots
@@ -140,7 +140,7 @@ module _ (t : Tree) (who : List ℕ) (rc bk : Bool) (roots dirstate marks : List
 
   -- the tree where the new index is made
   abbrev grown : Tree
-  grown = after_all growth (apply (Create journal_path journal) (after_all prep t))
+  grown = after_all growth (apply (Rename new_journal_path journal_path) (after_all prep t))
 
   abbrev real : Tree
   real = after_all first (apply made grown)
@@ -150,16 +150,16 @@ module _ (t : Tree) (who : List ℕ) (rc bk : Bool) (roots dirstate marks : List
 
   stages : (more : List Op) (publish : Op) → after_all (commit_list t who (files_of rc bk roots dirstate marks) backups journal growth more publish second) t ≡ after_all end (after_all second (apply publish (after_all more grown)))
   stages more publish =
-      after_all-append (prep ++ (Create journal_path journal ∷ (growth ++ more)) ++ (publish ∷ second)) end t
+      after_all-append (prep ++ (Rename new_journal_path journal_path ∷ (growth ++ more)) ++ (publish ∷ second)) end t
       ∙ ap (after_all end)
-      (after_all-append (prep ++ (Create journal_path journal ∷ (growth ++ more))) (publish ∷ second) t
-      ∙ ap (after_all (publish ∷ second)) (after_all-append prep (Create journal_path journal ∷ (growth ++ more)) t ∙ after_all-append growth more (apply (Create journal_path journal) (after_all prep t))))
+      (after_all-append (prep ++ (Rename new_journal_path journal_path ∷ (growth ++ more))) (publish ∷ second) t
+      ∙ ap (after_all (publish ∷ second)) (after_all-append prep (Rename new_journal_path journal_path ∷ (growth ++ more)) t ∙ after_all-append growth more (apply (Rename new_journal_path journal_path) (after_all prep t))))
 
   index-still : bytes_at other changelog_index ≡ bytes_at t changelog_index
   index-still = bytes-same t other changelog_index
-      (untouched first grown changelog_index (first-still rc roots changelog_index refl) ∙ untouched growth (apply (Create journal_path journal) (after_all prep t)) changelog_index still
-      ∙ untouched (Create journal_path journal ∷ []) (after_all prep t) changelog_index refl
-      ∙ untouched prep t changelog_index (touched-within is_quiet prep changelog_index (preparations-within is_quiet t who (files_of rc bk roots dirstate marks) backups refl refl refl (small-files rc bk roots dirstate marks)) refl))
+      (untouched first grown changelog_index (first-still rc roots changelog_index refl) ∙ untouched growth (apply (Rename new_journal_path journal_path) (after_all prep t)) changelog_index still
+      ∙ untouched (Rename new_journal_path journal_path ∷ []) (after_all prep t) changelog_index refl
+      ∙ untouched prep t changelog_index (touched-within is_quiet prep changelog_index (preparations-within is_quiet t who (files_of rc bk roots dirstate marks) backups journal refl refl refl refl (small-files rc bk roots dirstate marks)) refl))
 
   new-stands : real new_changelog_path ≡ Some (bytes_at other changelog_index ++ entry)
   new-stands = untouched first (apply made grown) new_changelog_path (first-still rc roots new_changelog_path refl) ∙ with_file-same grown new_changelog_path (Some (bytes_at t changelog_index ++ entry)) ∙ ap (λ l. Some (l ++ entry)) (sym index-still)

@@ -6,7 +6,7 @@ use Rattle.hgs_bytes.specs.Bytes.{same, among}
 use Rattle.hgs_files.specs.declared.op.Op.{Op}
 use Rattle.hgs_files.specs.declared.op.Op.TheVariants.{Append, Cut, Rename, Remove, Create, Sync, Settle}
 use Rattle.hgs_files.specs.Tree.{Tree, apply, after_all}
-use Rattle.hgs_journal.specs.Names.{journal_path, backups_path, place, new_name}
+use Rattle.hgs_journal.specs.Names.{journal_path, backups_path, place, new_name, new_journal_path}
 use Rattle.hgs_journal.specs.Texts.{backups_text}
 use Rattle.hgs_model.specs.Repo.{Repo}
 use Rattle.hgs_model.specs.declared.command.Command.TheVariants.{Move, Mark, Unmark}
@@ -68,7 +68,7 @@ abbrev pub front : List ℕ → Replacement → Option (List ℕ) → List Op
 front who y old = Create wlock_path who ∷ Create lock_path who ∷ backup_put y old
 
 abbrev pub middle : List ℕ → List Op
-middle list = Create backups_path list ∷ Create journal_path [] ∷ []
+middle list = Create backups_path list ∷ Create new_journal_path [] ∷ Rename new_journal_path journal_path ∷ []
 
 abbrev pub end : List Op
 end = Remove journal_path ∷ removals
@@ -135,8 +135,8 @@ pub mark-operations : (t : Tree) (r : Repo) (name rev who : List ℕ) (done : Re
     → operations (transaction_of t r (Mark name rev) who done) ≡ one_replaced who (new_bookmarks done) (t bookmarks_path) (backups_text (backups_of t r (Mark name rev) done))
 mark-operations t r name rev who done = by (t bookmarks_path)
   where
-    by : (o : Option (List ℕ)) → (Create wlock_path who ∷ Create lock_path who ∷ ((backup_put (new_bookmarks done) o ++ []) ++ (new_put (new_bookmarks done) ∷ []) ++ (Create backups_path (backups_text (backups_of t r (Mark name rev) done)) ∷ [])))
-        ++ (Create journal_path [] ∷ []) ++ (new_rename (new_bookmarks done) ∷ []) ++ end ≡ one_replaced who (new_bookmarks done) o (backups_text (backups_of t r (Mark name rev) done))
+    by : (o : Option (List ℕ)) → (Create wlock_path who ∷ Create lock_path who ∷ ((backup_put (new_bookmarks done) o ++ []) ++ (new_put (new_bookmarks done) ∷ []) ++ (Create backups_path (backups_text (backups_of t r (Mark name rev) done)) ∷ Create new_journal_path [] ∷ [])))
+        ++ (Rename new_journal_path journal_path ∷ []) ++ (new_rename (new_bookmarks done) ∷ []) ++ end ≡ one_replaced who (new_bookmarks done) o (backups_text (backups_of t r (Mark name rev) done))
     by None = refl
     by (Some b) = refl
 
@@ -144,8 +144,8 @@ pub unmark-operations : (t : Tree) (r : Repo) (name who : List ℕ) (done : Repo
     → operations (transaction_of t r (Unmark name) who done) ≡ one_replaced who (new_bookmarks done) (t bookmarks_path) (backups_text (backups_of t r (Unmark name) done))
 unmark-operations t r name who done = by (t bookmarks_path)
   where
-    by : (o : Option (List ℕ)) → (Create wlock_path who ∷ Create lock_path who ∷ ((backup_put (new_bookmarks done) o ++ []) ++ (new_put (new_bookmarks done) ∷ []) ++ (Create backups_path (backups_text (backups_of t r (Unmark name) done)) ∷ [])))
-        ++ (Create journal_path [] ∷ []) ++ (new_rename (new_bookmarks done) ∷ []) ++ end ≡ one_replaced who (new_bookmarks done) o (backups_text (backups_of t r (Unmark name) done))
+    by : (o : Option (List ℕ)) → (Create wlock_path who ∷ Create lock_path who ∷ ((backup_put (new_bookmarks done) o ++ []) ++ (new_put (new_bookmarks done) ∷ []) ++ (Create backups_path (backups_text (backups_of t r (Unmark name) done)) ∷ Create new_journal_path [] ∷ [])))
+        ++ (Rename new_journal_path journal_path ∷ []) ++ (new_rename (new_bookmarks done) ∷ []) ++ end ≡ one_replaced who (new_bookmarks done) o (backups_text (backups_of t r (Unmark name) done))
     by None = refl
     by (Some b) = refl
 
@@ -153,7 +153,7 @@ pub move-operations : (t : Tree) (r : Repo) (rev : List ℕ) (phase : Phase) (fo
     → operations (transaction_of t r (Move rev phase force) who done) ≡ one_replaced who (new_roots done) (t roots_path) (backups_text (backups_of t r (Move rev phase force) done))
 move-operations t r rev phase force who done = by (t roots_path)
   where
-    by : (o : Option (List ℕ)) → (Create wlock_path who ∷ Create lock_path who ∷ ((backup_put (new_roots done) o ++ []) ++ (new_put (new_roots done) ∷ []) ++ (Create backups_path (backups_text (backups_of t r (Move rev phase force) done)) ∷ [])))
-        ++ (Create journal_path [] ∷ []) ++ (new_rename (new_roots done) ∷ []) ++ end ≡ one_replaced who (new_roots done) o (backups_text (backups_of t r (Move rev phase force) done))
+    by : (o : Option (List ℕ)) → (Create wlock_path who ∷ Create lock_path who ∷ ((backup_put (new_roots done) o ++ []) ++ (new_put (new_roots done) ∷ []) ++ (Create backups_path (backups_text (backups_of t r (Move rev phase force) done)) ∷ Create new_journal_path [] ∷ [])))
+        ++ (Rename new_journal_path journal_path ∷ []) ++ (new_rename (new_roots done) ∷ []) ++ end ≡ one_replaced who (new_roots done) o (backups_text (backups_of t r (Move rev phase force) done))
     by None = refl
     by (Some b) = refl

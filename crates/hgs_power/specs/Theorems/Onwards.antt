@@ -8,10 +8,9 @@ use Rattle.hgs_files.specs.declared.op.Op.TheVariants.{Create, Rename, Settle, S
 use Rattle.hgs_files.specs.Tree.{Tree, bytes_at, same_path, touches}
 use Rattle.hgs_journal.specs.declared.backups.BackupLine.{BackupLine}
 use Rattle.hgs_journal.specs.Covers.{HasOwnStrays, is_loose, journal_paths}
-use Rattle.hgs_journal.specs.Names.{is_replaced, journal_path}
+use Rattle.hgs_journal.specs.Names.{is_replaced, journal_path, new_journal_path}
 use Rattle.hgs_journal.specs.Theorems.TreeFacts.{apart, bool, never, other-path, same-sym}
 use Rattle.hgs_journal.specs.Theorems.Touched.{and-both, or-left, or-right}
-use Rattle.hgs_power.specs.Calm.{new_journal_path}
 use Rattle.hgs_power.specs.Keeps.{IsFree}
 use Rattle.hgs_power.specs.Plan.{IsReplacing, MayWorkAll, firm_after, firm_step, put_all}
 use Rattle.hgs_power.specs.Shape.{IsAmong, IsOnward, New, Onward, Shape, line_of, new_of, onward_steps, place_of, puts_of, rename_of, sync_of}

@@ -1,4 +1,3 @@
-use Rattle.hgs_journal.proofs.EarlyLemmas.{early-bytes, undo-early}
 use Rattle.hgs_journal.proofs.FileLemmas.{undo-bytes}
 use Rattle.hgs_journal.proofs.LeadLemmas.{lead-parts, lead-stops}
 use Rattle.hgs_journal.proofs.laws.undo_may_stop.Goals as goal
@@ -7,7 +6,5 @@ pub returns : goal.returns
 returns c = record {
   parts = λ strays t q journal backups done left own leads is_done. lead-parts strays own journal backups t q leads done left is_done;
   stops = λ strays t q u journal backups own leads stopped. lead-stops strays own journal backups t q leads u stopped;
-  early = λ strays journal backups t q front back done left own ready e is_done. undo-early strays own journal backups t q ready front back e done left is_done;
   files = λ strays t q journal backups path done left own leads free off is_done. undo-bytes strays own t q path free off journal backups leads done left is_done;
-  early_files = λ strays journal backups t q front back path done left own ready e free off is_done. early-bytes strays own journal backups t q ready front back e path free off done left is_done;
 }

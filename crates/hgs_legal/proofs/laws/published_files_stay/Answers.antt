@@ -12,10 +12,8 @@ returns c = record {
   where
     grown : Grown
     grown = record {
-      created = c.transactions_cover_their_start.ensures.created;
       kept = c.transactions_cover_their_start.ensures.kept;
       undone = c.transactions_cover_their_start.ensures.undone;
-      early = c.transactions_cover_their_start.ensures.early;
       covered = c.files_only_grow.ensures.covered;
       before = c.files_only_grow.ensures.before;
       behind = c.files_only_grow.ensures.behind;
@@ -27,15 +25,11 @@ returns c = record {
     below : Below
     below = record {
       before = c.transactions_stay_open.ensures.before;
-      created = c.transactions_stay_open.ensures.created;
       kept = c.transactions_stay_open.ensures.kept;
       removed = c.transactions_stay_open.ensures.removed;
       stops = c.undo_leads_back.ensures.stops;
-      early = c.undo_leads_back.ensures.early;
-      created_shows = c.transactions_show.ensures.created;
       working_shows = c.transactions_show.ensures.working;
       undone_shows = c.transactions_show.ensures.undone;
-      early_shows = c.transactions_show.ensures.early;
       settled_shows = c.transactions_show.ensures.settled;
       loose_shows = c.strays_are_apart.ensures.shown;
       locks_kept = c.transactions_stay_covered.ensures.locks;

@@ -8,15 +8,11 @@ returns c = record { ends = run-stops below; stops = stop-safe below }
     below : Below
     below = record {
       before = c.transactions_stay_open.ensures.before;
-      created = c.transactions_stay_open.ensures.created;
       kept = c.transactions_stay_open.ensures.kept;
       removed = c.transactions_stay_open.ensures.removed;
       stops = c.undo_leads_back.ensures.stops;
-      early = c.undo_leads_back.ensures.early;
-      created_shows = c.transactions_show.ensures.created;
       working_shows = c.transactions_show.ensures.working;
       undone_shows = c.transactions_show.ensures.undone;
-      early_shows = c.transactions_show.ensures.early;
       settled_shows = c.transactions_show.ensures.settled;
       loose_shows = c.strays_are_apart.ensures.shown;
       locks_kept = c.transactions_stay_covered.ensures.locks;

@@ -13,16 +13,13 @@ returns c = record {
   where
     below : Below
     below = record {
-      fronts = c.journals_begin.ensures.fronts;
-      whole = c.journals_begin.ensures.whole;
+      named = c.journals_begin.ensures;
       changed = c.transactions_stay_covered.ensures.parts;
       free = c.transactions_stay_covered.ensures.free;
       leads = c.undo_leads_back.ensures.leads;
       kept = c.undo_leads_back.ensures.kept;
       parts = c.undo_may_stop.ensures.parts;
-      early = c.undo_may_stop.ensures.early;
       files = c.undo_may_stop.ensures.files;
-      early_files = c.undo_may_stop.ensures.early_files;
       loose = c.other_files_do_not_matter.ensures.loose;
       restored = c.open_trees_lead_back.ensures.restored;
     }

@@ -1,9 +1,9 @@
 use Rattle.hgs_recover.proofs.Below.{Below}
-use Rattle.hgs_recover.proofs.Recovers.{covered-restored, open-clean, open-found, open-left, open-restored, open-stopped}
+use Rattle.hgs_recover.proofs.Recovers.{covered-restored, open-clean, open-files, open-found, open-left, open-restored, open-stopped}
 use Rattle.hgs_recover.proofs.laws.recovering_leads_back.Goals as goal
 
 pub returns : goal.returns
-returns c = record { found = open-found below; leads = open-restored below; restores = covered-restored below; swept = open-clean below; stops = open-stopped below; left = open-left below }
+returns c = record { found = open-found below; leads = open-restored below; restores = covered-restored below; swept = open-clean below; stops = open-stopped below; files = open-files below; left = open-left below }
   where
     below : Below
     below = record {
@@ -13,6 +13,7 @@ returns c = record { found = open-found below; leads = open-restored below; rest
       backups_read = λ text lines. (c.texts_read.ensures.backups text lines).1;
       leads = c.undo_leads_back.ensures.leads;
       parts = c.undo_may_stop.ensures.parts;
+      files = c.undo_may_stop.ensures.files;
       loose = c.other_files_do_not_matter.ensures.loose;
       restored = c.open_trees_lead_back.ensures.restored;
     }

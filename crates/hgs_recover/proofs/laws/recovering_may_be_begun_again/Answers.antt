@@ -13,6 +13,7 @@ returns c = attempts-lead below
       backups_read = λ text lines. (c.texts_read.ensures.backups text lines).1;
       leads = c.undo_leads_back.ensures.leads;
       parts = c.undo_may_stop.ensures.parts;
+      files = c.undo_may_stop.ensures.files;
       loose = c.other_files_do_not_matter.ensures.loose;
       restored = c.open_trees_lead_back.ensures.restored;
     }

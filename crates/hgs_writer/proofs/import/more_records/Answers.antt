@@ -1,6 +1,7 @@
-use Rattle.std.proofs.Common.{◌≡◌, ◌∷◌, [], Ok, Err, refl, sym, ◌∙◌, ap, subst, arith}
+use Rattle.std.proofs.Common.{◌≡◌, ◌∷◌, Ok, Err, refl, ◌∙◌, subst, arith}
 use Rattle.std.specs.List.{AllByRecursion}
-use Rattle.hgs_files.specs.Tree.{Tree, after_all}
+use Rattle.hgs_files.specs.Tree.{after_all}
+use Rattle.hgs_loading.specs.Store.{HaveGrown, view_logs}
 use Rattle.hgs_model.specs.Valid.{IsNewChange}
 use Rattle.hgs_overlay.specs.Layers.{laid_ops}
 use Rattle.hgs_writer.specs.Layered.{LaysMore, LaysNext}
@@ -16,6 +17,9 @@ loop-change-init g c =
     record {
       valid = c.requires.valid;
       goes = always-at-rest g.R.Reads.alone (g.R.Reads.seen c.args.overlay.now.files) (g.R.Reads.start c.args.overlay.now.files) (λ t. Goes t c.args.changes.now c.args.first c.args.changes.now c.args.first old old) (λ t. goes-begin t c.args.changes.now c.args.first old);
+      changelog = c.none-logs.ensures.entries.0;
+      manifest = c.none-logs.ensures.entries.1;
+      grown = always-at-rest g.R.Reads.alone (g.R.Reads.seen c.args.overlay.now.files) (g.R.Reads.start c.args.overlay.now.files) (λ t. HaveGrown (view_logs c.none-logs.result) (after_all (laid_ops old) t)) (λ t. c.none-logs.ensures.grown (after_all (laid_ops old) t));
       known = c.requires.known;
       same_start = refl;
       still = λ alone. refl;
@@ -40,6 +44,9 @@ loop-change-preserved g c =
           one.still one.same_start
           (λ t goes next. goes-on t c.args.changes.now c.loop-change.rest.now c.in-Some.behind.now c.in-Some.change.now c.args.first c.loop-change.last c.in-Ok.last old now new split goes next)
           i.goes one.comes;
+      changelog = one.changelog;
+      manifest = one.manifest;
+      grown = one.grown;
       known = one.known;
       same_start = one.same_start ∙ i.same_start;
       still = λ alone. one.still alone ∙ i.still alone;

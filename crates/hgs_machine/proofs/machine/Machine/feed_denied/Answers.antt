@@ -2,8 +2,8 @@ use Rattle.std.proofs.Common.{◌++◌, arith}
 use Rattle.std.proofs.lemmas.Option.{slice_get_within}
 use Rattle.hgs_machine.specs.declared.ended.Short.TheVariants.{Memory as OutOfMemory}
 use Rattle.hgs_machine.specs.declared.machine.Reply.TheVariants.{Memory}
-use Rattle.hgs_machine.specs.declared.machine.Stage.TheVariants.{Preparing, Beginning, Working, Publishing, Asking, Finishing, Undoing, Dropping, Sweeping, Removing}
-use Rattle.hgs_machine.proofs.Feeding.{as-failed, asking-not, drops-not, finishes-not, gives-up, gives-up-beginning, nothing-of-it, passes-over, publishes-none, sweeps, undoes-not, works-stopped}
+use Rattle.hgs_machine.specs.declared.machine.Stage.TheVariants.{Preparing, Beginning, Working, Publishing, Asking, Finishing, Undoing, Sweeping, Removing}
+use Rattle.hgs_machine.proofs.Feeding.{as-failed, asking-not, finishes-not, gives-up, gives-up-beginning, nothing-of-it, passes-over, publishes-none, sweeps, undoes-not, works-stopped}
 use Rattle.hgs_machine.proofs.Pieces.{none-done}
 use Rattle.hgs_machine.proofs.Replied.{at-stage, either, fewer-at, fits-at, is-gone, is-here}
 use Rattle.hgs_machine.proofs.machine.Machine.feed_denied.Goals as goal
@@ -25,10 +25,10 @@ returns-in-Finishing-clause-steps c = λ t log more h r.
 
 pub returns-in-Undoing-clause-steps : goal.returns-in-Undoing-clause-steps
 returns-in-Undoing-clause-steps c = λ t log more h r.
-    either c.in-Undoing.is (λ e. undoes-not t c.args.self.now c.sweep-in-Undoing.new.self log more e c.sweep-in-Undoing.ensures h (as-failed c.args.self.now Undoing more (at-stage _ c.args.self.now Undoing Memory more e tt r))) (λ e. drops-not t c.args.self.now c.sweep-in-Undoing.new.self log more e c.sweep-in-Undoing.ensures h (as-failed c.args.self.now Dropping more (at-stage _ c.args.self.now Dropping Memory more e tt r)))
+    undoes-not t c.args.self.now c.sweep-in-Undoing.new.self log more c.in-Undoing.is c.sweep-in-Undoing.ensures h (as-failed c.args.self.now Undoing more (at-stage _ c.args.self.now Undoing Memory more c.in-Undoing.is tt r))
 
 pub returns-in-Undoing-clause-fewer : goal.returns-in-Undoing-clause-fewer
-returns-in-Undoing-clause-fewer c = either c.in-Undoing.is (λ e. let at = fits-at c.args.self.now Undoing Memory e c.requires in let within = slice_get_within c.args.self.now.plan.undo.items c.args.self.now.place at.0 at.1 in fewer-at c.args.self.now c.sweep-in-Undoing.new.self _ Undoing e c.sweep-in-Undoing.ensures (omega arith)) (λ e. fewer-at c.args.self.now c.sweep-in-Undoing.new.self _ Dropping e c.sweep-in-Undoing.ensures (omega arith))
+returns-in-Undoing-clause-fewer c = let at = fits-at c.args.self.now Undoing Memory c.in-Undoing.is c.requires in let within = slice_get_within c.args.self.now.plan.undo.items c.args.self.now.place at.0 at.1 in fewer-at c.args.self.now c.sweep-in-Undoing.new.self _ Undoing c.in-Undoing.is c.sweep-in-Undoing.ensures (omega arith)
 
 pub returns-in-Sweeping-clause-steps : goal.returns-in-Sweeping-clause-steps
 returns-in-Sweeping-clause-steps c = λ t log more h r.

@@ -1,8 +1,8 @@
 use Rattle.std.proofs.Common.{◌+◌, ◌∙◌, ap, arith, refl}
 use Rattle.std.proofs.lemmas.Option.{slice_get_within}
 use Rattle.hgs_machine.specs.declared.machine.Reply.TheVariants.{Done}
-use Rattle.hgs_machine.specs.declared.machine.Stage.TheVariants.{Preparing, Beginning, Working, Publishing, Asking, Finishing, Undoing, Dropping, Sweeping, Removing}
-use Rattle.hgs_machine.proofs.Feeding.{asking-not, before-or-at, begins, drops, finishes, passes-done, prepares, publishes, undoes-on, works}
+use Rattle.hgs_machine.specs.declared.machine.Stage.TheVariants.{Preparing, Beginning, Working, Publishing, Asking, Finishing, Undoing, Sweeping, Removing}
+use Rattle.hgs_machine.proofs.Feeding.{asking-not, before-or-at, begins, finishes, passes-done, prepares, publishes, undoes-on, works}
 use Rattle.hgs_machine.proofs.Replied.{at-stage, either, fewer-at, fewer-doing, fewer-undone, left-preparing, left-working, fits-at, is-gone, is-here}
 use Rattle.hgs_machine.proofs.machine.Machine.feed_done.Goals as goal
 
@@ -48,10 +48,6 @@ pub returns-in-Undoing-clause-fewer : goal.returns-in-Undoing-clause-fewer
 returns-in-Undoing-clause-fewer c =
     let at = fits-at c.args.self.now Undoing Done c.in-Undoing.is c.requires in
     fewer-undone c.args.self.now c.undone.new.self _ c.in-Undoing.is (slice_get_within c.args.self.now.plan.undo.items c.args.self.now.place at.0 at.1) c.undone.ensures.more c.undone.ensures.last (before-or-at (c.args.self.now.place + 1) _)
-
-pub returns-in-Dropping-clause-steps : goal.returns-in-Dropping-clause-steps
-returns-in-Dropping-clause-steps c = λ t log more h r.
-    drops t c.args.self.now c.sweep.new.self log more c.in-Dropping.is c.sweep.ensures h (at-stage _ c.args.self.now Dropping Done more c.in-Dropping.is tt r)
 
 pub returns-in-Sweeping-clause-steps : goal.returns-in-Sweeping-clause-steps
 returns-in-Sweeping-clause-steps c = λ t log more h r.

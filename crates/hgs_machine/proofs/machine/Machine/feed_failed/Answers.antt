@@ -2,8 +2,8 @@ use Rattle.std.proofs.Common.{◌++◌, arith}
 use Rattle.std.proofs.lemmas.Option.{slice_get_within}
 use Rattle.hgs_machine.specs.declared.ended.Short.TheVariants.{Fault}
 use Rattle.hgs_machine.specs.declared.machine.Reply.TheVariants.{Failed}
-use Rattle.hgs_machine.specs.declared.machine.Stage.TheVariants.{Preparing, Beginning, Working, Publishing, Asking, Finishing, Undoing, Dropping, Sweeping, Removing}
-use Rattle.hgs_machine.proofs.Feeding.{asking-not, begins-not, drops-not, finishes-not, gives-up, passes-failed, sweeps, undoes-not, works-stopped}
+use Rattle.hgs_machine.specs.declared.machine.Stage.TheVariants.{Preparing, Beginning, Working, Publishing, Asking, Finishing, Undoing, Sweeping, Removing}
+use Rattle.hgs_machine.proofs.Feeding.{asking-not, begins-not, finishes-not, gives-up, passes-failed, sweeps, undoes-not, works-stopped}
 use Rattle.hgs_machine.proofs.Publishing.{unpublished}
 use Rattle.hgs_machine.proofs.Pieces.{done-in-part}
 use Rattle.hgs_machine.proofs.Replied.{at-stage, either, fewer-at, fits-at, is-gone, is-here}
@@ -11,14 +11,7 @@ use Rattle.hgs_machine.proofs.machine.Machine.feed_failed.Goals as goal
 
 pub returns-in-Preparing-clause-steps : goal.returns-in-Preparing-clause-steps
 returns-in-Preparing-clause-steps c = λ t log more h r.
-    sweeps t c.args.self.now c.sweep.new.self Fault (log ++ more) c.sweep.ensures h.planned (gives-up t c.args.self.now Failed log more c.in-Preparing.is h (λ op. done-in-part op more) (at-stage _ c.args.self.now Preparing Failed more c.in-Preparing.is tt r))
-
-pub returns-in-Beginning-clause-steps : goal.returns-in-Beginning-clause-steps
-returns-in-Beginning-clause-steps c = λ t log more h r.
-    begins-not t c.args.self.now c.drop_journal.new.self log more c.in-Beginning.is c.drop_journal.ensures h (at-stage _ c.args.self.now Beginning Failed more c.in-Beginning.is tt r)
-
-pub returns-in-Beginning-clause-fewer : goal.returns-in-Beginning-clause-fewer
-returns-in-Beginning-clause-fewer c = fewer-at c.args.self.now c.drop_journal.new.self _ Beginning c.in-Beginning.is c.drop_journal.ensures (let at = fits-at c.args.self.now Beginning Failed c.in-Beginning.is c.requires in let within = slice_get_within c.args.self.now.plan.ops.items c.args.self.now.done at.0 at.1 in omega arith)
+    either c.in-Preparing.is (λ e. sweeps t c.args.self.now c.sweep.new.self Fault (log ++ more) c.sweep.ensures h.planned (gives-up t c.args.self.now Failed log more e h (λ op. done-in-part op more) (at-stage _ c.args.self.now Preparing Failed more e tt r))) (λ e. begins-not t c.args.self.now c.sweep.new.self log more e c.sweep.ensures h (at-stage _ c.args.self.now Beginning Failed more e tt r))
 
 pub returns-in-Working-clause-steps : goal.returns-in-Working-clause-steps
 returns-in-Working-clause-steps c = λ t log more h r.
@@ -37,10 +30,10 @@ returns-in-Finishing-clause-steps c = λ t log more h r.
 
 pub returns-in-Undoing-clause-steps : goal.returns-in-Undoing-clause-steps
 returns-in-Undoing-clause-steps c = λ t log more h r.
-    either c.in-Undoing.is (λ e. undoes-not t c.args.self.now c.sweep-in-Undoing.new.self log more e c.sweep-in-Undoing.ensures h (at-stage _ c.args.self.now Undoing Failed more e tt r)) (λ e. drops-not t c.args.self.now c.sweep-in-Undoing.new.self log more e c.sweep-in-Undoing.ensures h (at-stage _ c.args.self.now Dropping Failed more e tt r))
+    undoes-not t c.args.self.now c.sweep-in-Undoing.new.self log more c.in-Undoing.is c.sweep-in-Undoing.ensures h (at-stage _ c.args.self.now Undoing Failed more c.in-Undoing.is tt r)
 
 pub returns-in-Undoing-clause-fewer : goal.returns-in-Undoing-clause-fewer
-returns-in-Undoing-clause-fewer c = either c.in-Undoing.is (λ e. let at = fits-at c.args.self.now Undoing Failed e c.requires in let within = slice_get_within c.args.self.now.plan.undo.items c.args.self.now.place at.0 at.1 in fewer-at c.args.self.now c.sweep-in-Undoing.new.self _ Undoing e c.sweep-in-Undoing.ensures (omega arith)) (λ e. fewer-at c.args.self.now c.sweep-in-Undoing.new.self _ Dropping e c.sweep-in-Undoing.ensures (omega arith))
+returns-in-Undoing-clause-fewer c = let at = fits-at c.args.self.now Undoing Failed c.in-Undoing.is c.requires in let within = slice_get_within c.args.self.now.plan.undo.items c.args.self.now.place at.0 at.1 in fewer-at c.args.self.now c.sweep-in-Undoing.new.self _ Undoing c.in-Undoing.is c.sweep-in-Undoing.ensures (omega arith)
 
 pub returns-in-Sweeping-clause-steps : goal.returns-in-Sweeping-clause-steps
 returns-in-Sweeping-clause-steps c = λ t log more h r.

@@ -1,0 +1,2 @@
+mod FollowedLemmas
+mod SourceLemmas

@@ -1,0 +1,4 @@
+pub mod Passing
+pub mod Shapes
+pub mod Under
+pub mod Cutting

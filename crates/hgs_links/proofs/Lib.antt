@@ -1,0 +1,4 @@
+pub mod LinkLemmas
+pub mod Cells
+pub mod Counting
+pub mod Ending

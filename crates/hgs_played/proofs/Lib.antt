@@ -1,0 +1,11 @@
+pub mod Going
+pub mod Ending
+pub mod Noting
+pub mod Stopping
+pub mod Refusing
+pub mod Events
+pub mod Showing
+pub mod Seeing
+pub mod Viewing
+pub mod Playing
+pub mod FirstLemmas

@@ -1,0 +1,4 @@
+pub mod Since
+pub mod Shown
+pub mod Loads
+pub mod Below
