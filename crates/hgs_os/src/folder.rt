@@ -25,7 +25,7 @@ pub struct Folder {
     places: BTreeMap<String, u64>,
     /// The number of the next change.
     changes: u64,
-    /// Whether the names of the whole store were made to last, those too that an earlier process changed.
+    /// Whether the names that an earlier process changed were made to last.
     settled: bool,
 }
 
@@ -168,35 +168,34 @@ impl Folder {
         }
     }
 
-    // Notes that the list of names of a folder changes now.
-    fn note_folder(&mut self, folder: &str) -> io::Result<()> {
+    // Notes that the list of names of the folder of a file changes now, before it does. Where there is no memory for that nothing is to
+    // be changed; an earlier note goes only when the new one stands, so none is lost.
+    fn note(&mut self, name: &str) -> io::Result<()> {
         let alloc = self.rt.alloc();
+        let Some(folder) = Path::new(name).parent() else {
+            return Ok(());
+        };
         let place = self.changes;
-        if let Some(earlier) = self.places.insert(String::from_str(alloc, folder)?, place)? {
+        self.changed
+            .insert(place, String::from_str(alloc, folder.as_str())?)?;
+        self.changes = place.saturating_add(1);
+        let folder = String::from_str(alloc, folder.as_str())?;
+        if let Some(earlier) = self.places.insert(folder, place)? {
             self.changed.remove(&earlier);
         }
-        self.changed
-            .insert(place, String::from_str(alloc, folder)?)?;
-        self.changes = place.saturating_add(1);
         Ok(())
     }
 
-    // Notes that the list of names of the folder of a file changes now, and those of the folders above that do not stand,
-    // which are made with it. What cannot be looked at, stands.
-    fn note(&mut self, name: &str) -> io::Result<()> {
-        for folder in Path::new(name).ancestors().skip(1) {
-            let folder = folder.as_str();
-            self.note_folder(folder)?;
-            match fs::metadata(&self.rt, folder) {
-                Err(error) if is_absent(&error) => {}
-                _ => break,
-            }
+    // The names in this folder last.
+    fn forget(&mut self, folder: &str) {
+        if let Some(place) = self.places.remove(folder) {
+            self.changed.remove(&place);
         }
-        Ok(())
     }
 
-    // Makes the folders on the way to a file. What cannot be looked at, stands, and so does the folder of no name, the current one.
-    fn make_folders(&self, name: &str) -> io::Result<()> {
+    // Makes the folders on the way to a file; each is a name in the one above it. What cannot be looked at, stands, and so does the
+    // folder of no name, the current one.
+    fn make_folders(&mut self, name: &str) -> io::Result<()> {
         let mut missing = Vec::new(self.rt.alloc());
         for folder in Path::new(name).ancestors().skip(1) {
             let folder = folder.as_str();
@@ -205,6 +204,7 @@ impl Folder {
             }
             match fs::metadata(&self.rt, folder) {
                 Err(error) if is_absent(&error) => {
+                    self.note(folder)?;
                     missing.push(String::from_str(self.rt.alloc(), folder)?)?;
                 }
                 _ => break,
@@ -236,7 +236,7 @@ impl Folder {
     }
 
     // Opens a file that may have to be made, with the folders on the way to it.
-    fn open_or_make(&self, how: &OpenOptions, name: &str) -> io::Result<File> {
+    fn open_or_make(&mut self, how: &OpenOptions, name: &str) -> io::Result<File> {
         match how.open(&self.rt, name) {
             Err(error) if error.kind() == ErrorKind::NotFound => {
                 self.make_folders(name)?;
@@ -258,31 +258,53 @@ impl Folder {
         file.set_permissions(Permissions::from_mode(wanted))
     }
 
-    // Writes a copy of a file beside it, and puts it into its place once the copy lasts.
+    // Writes a copy of a file beside it, over nothing that stands there, and puts it into its place once the copy lasts. What is written
+    // to the file behind this is in the copy alone, so its name is to last before.
     fn replace_by_copy(&self, name: &str, copy: &str) -> io::Result<()> {
-        fs::copy(&self.rt, name, copy)?;
-        File::open(&self.rt, copy)?.sync_all()?;
-        fs::rename(&self.rt, copy, name)
+        let mut from = self.open_file(name)?;
+        let mut to = OpenOptions::new()
+            .write(true)
+            .create_new(true)
+            .open(&self.rt, copy)?;
+        to.set_permissions(from.metadata()?.permissions())?;
+        io::copy(&mut from, &mut to)?;
+        to.sync_all()?;
+        fs::rename(&self.rt, copy, name)?;
+        match Path::new(name).parent() {
+            Some(folder) => self.settle_folder(folder.as_str()),
+            None => Ok(()),
+        }
     }
 
     // Makes a file ready to be changed in place, and answers whether it is still to be made. One that has several names gets
     // a copy of its own under this one: `hg clone` on one disk makes the files of the new store second names of the old one's,
     // and a change would reach into both. A copy that a stop left behind is removed. A link that leads nowhere is left alone.
-    fn make_own(&self, name: &str) -> io::Result<bool> {
+    fn make_own(&mut self, name: &str) -> io::Result<bool> {
         let names = match self.find(name)? {
             Found::Nothing => 0,
             Found::File { names, .. } => names,
             Found::Link(_) => return Err(ErrorKind::AlreadyExists.into()),
         };
+        if names != 1 {
+            self.note(name)?;
+        }
         let copy = format!(in self.rt.alloc(); "{name}.hg_store-copy")?;
-        let answer = if names > 1 {
-            self.replace_by_copy(name, copy.as_str())
-        } else {
-            Ok(())
-        };
         let _ = fs::remove_file(&self.rt, copy.as_str());
-        begun(answer)?;
+        if names > 1 {
+            let answer = self.replace_by_copy(name, copy.as_str());
+            let _ = fs::remove_file(&self.rt, copy.as_str());
+            begun(answer)?;
+        }
         Ok(names == 0)
+    }
+
+    // Opens a file that stood, to be read.
+    fn open_file(&self, name: &str) -> io::Result<File> {
+        let file = File::open(&self.rt, name)?;
+        if !file.metadata()?.is_file() {
+            return Err(ErrorKind::IsADirectory.into());
+        }
+        Ok(file)
     }
 
     /// Adds a part of a file to `into`, and answers how many bytes; none where the file is absent. The length that counts
@@ -348,7 +370,6 @@ impl Folder {
     /// Adds bytes at the end of a file, by one call of the system where it takes them whole.
     pub fn append(&mut self, path: &StorePath, bytes: &[u8]) -> io::Result<()> {
         let name = self.name_of(path)?;
-        self.note(name.as_str())?;
         let is_new = self.make_own(name.as_str())?;
         let mut file = self.open_or_make(
             OpenOptions::new().append(true).create(true),
@@ -363,7 +384,6 @@ impl Folder {
     /// Gives a file these bytes alone. One that it made and could not fill is removed again, as far as the system lets it.
     pub fn put(&mut self, path: &StorePath, bytes: &[u8]) -> io::Result<()> {
         let name = self.name_of(path)?;
-        self.note(name.as_str())?;
         let is_new = self.make_own(name.as_str())?;
         let mut how = OpenOptions::new();
         how.write(true).create(true).truncate(true);
@@ -412,7 +432,6 @@ impl Folder {
             _ => return Ok(()),
         }
         let name = self.name_of(path)?;
-        self.note(name.as_str())?;
         self.make_own(name.as_str())?;
         OpenOptions::new()
             .write(true)
@@ -423,8 +442,8 @@ impl Folder {
     pub fn rename(&mut self, from: &StorePath, to: &StorePath) -> io::Result<()> {
         let from = self.name_of(from)?;
         let to = self.name_of(to)?;
-        self.note(from.as_str())?;
         self.note(to.as_str())?;
+        self.note(from.as_str())?;
         self.make_folders(to.as_str())?;
         fs::rename(&self.rt, from.as_str(), to.as_str())
     }
@@ -440,30 +459,37 @@ impl Folder {
         }
     }
 
-    /// Makes the bytes of a file last. An absent file is an error.
+    /// Makes the bytes of a file last. An absent file is an error, and so is what is no file.
     pub fn sync(&self, path: &StorePath) -> io::Result<()> {
-        File::open(&self.rt, self.name_of(path)?)?.sync_all()
+        let name = self.name_of(path)?;
+        match self.find_file(name.as_str())? {
+            Found::File { .. } => self.open_file(name.as_str())?.sync_all(),
+            _ => Err(ErrorKind::NotFound.into()),
+        }
     }
 
-    // Makes the names in a folder last. The folder of no name is the current one.
+    // Makes the names in a folder last. The folder of no name is the current one. The dot behind the name keeps what is no folder from
+    // being opened, since opening a pipe waits for its other end: it has no names.
     fn settle_folder(&self, name: &str) -> io::Result<()> {
-        let opened = if name.is_empty() {
-            File::open(&self.rt, ".")
-        } else {
-            File::open(&self.rt, name)
-        };
-        match opened {
+        let name = if name.is_empty() { "." } else { name };
+        match File::open(&self.rt, format!(in self.rt.alloc(); "{name}/.")?.as_str()) {
             Ok(folder) => folder.sync_all(),
             Err(error) if is_absent(&error) => Ok(()),
             Err(error) => Err(error),
         }
     }
 
-    // Makes the names in a folder and in all below it last, those below first.
-    fn settle_below(&self, name: &str) -> io::Result<()> {
-        let mut folders = Vec::new(self.rt.alloc());
-        folders.push(String::from_str(self.rt.alloc(), name)?)?;
-        let mut at = 0;
+    // The folders in which an earlier process may have changed names that nobody made to last, those above first: the one in which
+    // this folder was made, this one, the store, and all below that.
+    fn all_folders(&self) -> io::Result<Vec<String>> {
+        let alloc = self.rt.alloc();
+        let mut folders = Vec::new(alloc);
+        if let Some(above) = Path::new(self.name.as_str()).parent() {
+            folders.push(String::from_str(alloc, above.as_str())?)?;
+        }
+        folders.push(String::from_str(alloc, &self.name)?)?;
+        let mut at = folders.len();
+        folders.push(format!(in alloc; "{}/store", self.name)?)?;
         for _ in 0..u64::MAX {
             if at >= folders.len() {
                 break;
@@ -471,13 +497,10 @@ impl Folder {
             self.add_folders(at, &mut folders)?;
             at += 1;
         }
-        for folder in folders.iter().rev() {
-            self.settle_folder(folder.as_str())?;
-        }
-        Ok(())
+        Ok(folders)
     }
 
-    // Adds the folders in one of these.
+    // Adds the folders in one of these. A name that is no text is no store's.
     fn add_folders(&self, at: usize, folders: &mut Vec<String>) -> io::Result<()> {
         let Some(folder) = folders.get(at) else {
             return Ok(());
@@ -488,7 +511,11 @@ impl Folder {
             Err(error) => return Err(error),
         };
         for entry in listing {
-            let entry = entry?;
+            let entry = match entry {
+                Ok(entry) => entry,
+                Err(error) if error.kind() == ErrorKind::InvalidFilename => continue,
+                Err(error) => return Err(error),
+            };
             if entry.file_type()?.is_dir() {
                 folders.push(String::from_str(self.rt.alloc(), entry.path().as_str())?)?;
             }
@@ -496,13 +523,23 @@ impl Folder {
         Ok(())
     }
 
+    // Makes the names last that an earlier process may have changed, those below first, so that what a folder leads to is whole.
+    fn settle_all(&mut self) -> io::Result<()> {
+        let folders = self.all_folders()?;
+        for folder in folders.iter().rev() {
+            self.settle_folder(folder.as_str())?;
+            self.forget(folder.as_str());
+        }
+        self.settled = true;
+        Ok(())
+    }
+
     /// Makes the names last in each folder where this object may have changed some, in the order in which they were last
-    /// changed. The first time it does so before in all folders of the store, since a process that was stopped may have
-    /// changed names there that nobody made to last.
+    /// changed. The first time it does so before in all folders of the store, the one that it is in and the one above that, since a
+    /// process that was stopped may have changed names there that nobody made to last. What failed is done again the next time.
     pub fn settle(&mut self) -> io::Result<()> {
         if !self.settled {
-            self.settle_below(format!(in self.rt.alloc(); "{}/store", self.name)?.as_str())?;
-            self.settled = true;
+            self.settle_all()?;
         }
         for (_, folder) in self.changed.iter() {
             self.settle_folder(folder.as_str())?;

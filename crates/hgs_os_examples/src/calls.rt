@@ -172,11 +172,69 @@ fn folders_that_were_made_settle(rt: HostRuntime) -> Result<(), Fail> {
     Ok(())
 }
 
-const FOLDER_AS_FILE: [Row; 6] = [
+// What another object made and did not make to last, and then what a new one settles: all of that, and then what it changed itself.
+const LEFT: [Row; 2] = [
+    ("store/data/sub/a.i", Call::Append(b"text"), "done"),
+    ("b", Call::CreateNew(b"text"), "made"),
+];
+
+const TAKEN_UP: [Row; 6] = [
+    ("b", Call::Settle, "done"),
+    ("c", Call::CreateNew(b"text"), "made"),
+    ("store/d", Call::CreateNew(b"text"), "made"),
+    ("c", Call::Remove, "done"),
+    ("store/d", Call::Append(b"text"), "done"),
+    ("b", Call::Settle, "done"),
+];
+
+#[test]
+fn a_new_object_settles_what_another_left(rt: HostRuntime) -> Result<(), Fail> {
+    let above = new_folder(&rt)?;
+    let folder = format!(in rt.alloc(); "{above}/.hg")?;
+    let mut files = given(OsFiles::new(rt, folder.as_str()))?;
+    let other = first_other(&rt, &mut files, &LEFT)?;
+    assert!(rt; other.is_none());
+    let mut files = given(OsFiles::new(rt, folder.as_str()))?;
+    let other = first_other(&rt, &mut files, &TAKEN_UP)?;
+    assert!(rt; other.is_none());
+    given(fs::remove_dir_all(&rt, above.as_str()))?;
+    Ok(())
+}
+
+// Each folder gets a note, and the first two another one. `tests/calls.py` refuses memory at each place of these in turn: what was
+// changed all the same is settled.
+const CHANGES: [(&str, Call); 7] = [
+    ("one/a", Call::Append(b"text")),
+    ("two/a", Call::Append(b"text")),
+    ("one/b", Call::Append(b"text")),
+    ("three/a", Call::Append(b"text")),
+    ("two/b", Call::CreateNew(b"text")),
+    ("two/b", Call::Rename("one/b")),
+    ("three/a", Call::Remove),
+];
+
+#[test]
+fn names_settle_though_memory_was_refused(rt: HostRuntime) -> Result<(), Fail> {
+    let folder = new_folder(&rt)?;
+    let mut files = given(OsFiles::new(rt, folder.as_str()))?;
+    let ready = files.settle().is_ok();
+    for (name, call) in CHANGES {
+        said(&rt, &mut files, name, call)?;
+    }
+    let settled = files.settle().is_ok();
+    let again = files.settle().is_ok();
+    assert!(rt; ready && (settled || again));
+    given(fs::remove_dir_all(&rt, folder.as_str()))?;
+    Ok(())
+}
+
+const FOLDER_AS_FILE: [Row; 8] = [
     ("a/b", Call::Put(b"text"), "done"),
     ("a", Call::Size, "fault"),
     ("a", Call::Append(b"text"), "fault"),
     ("a", Call::Read(0), "fault"),
+    ("a", Call::Sync, "fault"),
+    ("c", Call::Sync, "fault"),
     ("a/b/c", Call::Read(0), "absent"),
     ("a/b", Call::Read(0), "text"),
 ];
@@ -192,8 +250,9 @@ fn folders_in_place_of_files_are_faults(rt: HostRuntime) -> Result<(), Fail> {
 }
 
 // As Mercurial's locks are.
-const LINKED: [Row; 8] = [
+const LINKED: [Row; 9] = [
     ("wlock", Call::Size, "6"),
+    ("wlock", Call::Sync, "fault"),
     ("wlock", Call::Read(1), "ox:77"),
     ("wlock", Call::CreateNew(b"mine"), "there"),
     ("wlock", Call::Append(b"text"), "fault"),
@@ -211,6 +270,36 @@ fn links_that_lead_nowhere_stand(rt: HostRuntime) -> Result<(), Fail> {
     given(symlink(&rt, "box:77", name.as_str()))?;
     let other = first_other(&rt, &mut files, &LINKED)?;
     assert!(rt; other.is_none());
+    given(fs::remove_dir_all(&rt, folder.as_str()))?;
+    Ok(())
+}
+
+const NO_FILE: [Row; 7] = [
+    ("a", Call::Size, "fault"),
+    ("a", Call::Read(0), "fault"),
+    ("a", Call::Append(b"text"), "fault"),
+    ("a", Call::Put(b"text"), "fault"),
+    ("a", Call::Cut(0), "fault"),
+    ("a", Call::Sync, "fault"),
+    ("a", Call::CreateNew(b"text"), "there"),
+];
+
+// A device, or the pipe that `tests/calls.py` makes and whose other end nobody opens. Neither is opened, nor taken for the folder.
+#[test]
+fn what_is_no_file_is_not_opened(rt: HostRuntime) -> Result<(), Fail> {
+    let above = given(env::temp_dir(&rt))?;
+    let pipe = format!(in rt.alloc(); "{}/hg_store-test-pipe", above.as_str())?;
+    let is_there = given(fs::exists(&rt, pipe.as_str()))?;
+    let other = if is_there { pipe.as_str() } else { "/dev/zero" };
+    let folder = new_folder(&rt)?;
+    let name = format!(in rt.alloc(); "{folder}/a")?;
+    given(symlink(&rt, other, name.as_str()))?;
+    let mut files = given(OsFiles::new(rt, folder.as_str()))?;
+    let found = first_other(&rt, &mut files, &NO_FILE)?;
+    assert!(rt; found.is_none());
+    let mut files = given(OsFiles::new(rt, name.as_str()))?;
+    let settled = files.settle().is_ok();
+    assert!(rt; settled);
     given(fs::remove_dir_all(&rt, folder.as_str()))?;
     Ok(())
 }
@@ -272,6 +361,40 @@ fn second_names_keep_their_bytes(rt: HostRuntime) -> Result<(), Fail> {
         let is_left = given(fs::exists(&rt, left.as_str()))?;
         assert!(rt; text.as_str() == "text" && !is_left);
     }
+    given(fs::remove_dir_all(&rt, folder.as_str()))?;
+    Ok(())
+}
+
+const BESIDE: [Row; 2] = [
+    ("a", Call::Put(b"text"), "done"),
+    ("b", Call::Put(b"kept"), "done"),
+];
+
+const COPIED: [Row; 5] = [
+    ("a", Call::Append(b" more"), "done"),
+    ("a", Call::Sync, "done"),
+    ("a", Call::Settle, "done"),
+    ("a", Call::Read(0), "text more"),
+    ("b", Call::Read(0), "kept"),
+];
+
+// A link stands where the copy of a file with two names is to stand: it is not followed.
+#[test]
+fn copies_are_made_over_nothing(rt: HostRuntime) -> Result<(), Fail> {
+    let folder = new_folder(&rt)?;
+    let mut files = given(OsFiles::new(rt, folder.as_str()))?;
+    let other = first_other(&rt, &mut files, &BESIDE)?;
+    assert!(rt; other.is_none());
+    let one = format!(in rt.alloc(); "{folder}/a")?;
+    let two = format!(in rt.alloc(); "{folder}/a-2")?;
+    let copy = format!(in rt.alloc(); "{folder}/a.hg_store-copy")?;
+    given(fs::hard_link(&rt, one.as_str(), two.as_str()))?;
+    given(symlink(&rt, "b", copy.as_str()))?;
+    let other = first_other(&rt, &mut files, &COPIED)?;
+    assert!(rt; other.is_none());
+    let text = given(fs::read_to_string(&rt, two.as_str()))?;
+    let is_left = given(fs::exists(&rt, copy.as_str()))?;
+    assert!(rt; text.as_str() == "text" && !is_left);
     given(fs::remove_dir_all(&rt, folder.as_str()))?;
     Ok(())
 }
