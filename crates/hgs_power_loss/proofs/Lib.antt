@@ -1,0 +1,3 @@
+mod DiskLemmas
+mod LeftLemmas
+mod LawLemmas
