@@ -26,11 +26,11 @@ COUNT = 100_000
 PART = 100
 
 
-def build(folder):
-    """The program, built in this folder over the crates that it names and what they stand on."""
+def build(folder, source="tail_program.txt", names=NAMES):
+    """The program of this source, built in this folder over the crates that it names and what they stand on."""
     with open(f"{TOP}/crates.txt") as file:
         stands_on = dict(line.split(":", 1) for line in file if not line.startswith("#"))
-    below, left = set(), NAMES.split()
+    below, left = set(), names.split()
     while left:
         name = left.pop()
         if name in stands_on and name not in below:
@@ -39,13 +39,17 @@ def build(folder):
     for crate in below:
         shutil.copytree(f"{TOP}/crates/{crate}", f"{folder}/crates/{crate}")
     os.makedirs(f"{folder}/crates/tail_bench/src")
-    shutil.copy(f"{TOP}/bench/tail_program.txt", f"{folder}/crates/tail_bench/src/main.rt")
+    shutil.copy(f"{TOP}/bench/{source}", f"{folder}/crates/tail_bench/src/main.rt")
     shutil.copy(f"{TOP}/HANDLES", folder)
     with open(f"{folder}/crates.txt", "w") as file:
         file.writelines(f"{name}:{names}" for name, names in stands_on.items() if name in below)
-        file.write(f"tail_bench: {NAMES}\n")
-    subprocess.run(["rt", "run"], cwd=f"{folder}/crates/tail_bench", check=True, stdout=subprocess.DEVNULL)
-    return f"{folder}/crates/tail_bench/out/tail_bench"
+        file.write(f"tail_bench: {names}\n")
+    program = f"{folder}/crates/tail_bench/out/tail_bench"
+    # it also runs the program once, in a folder that is no repository
+    subprocess.run(["rt", "run"], cwd=f"{folder}/crates/tail_bench", check=False, stdout=subprocess.DEVNULL)
+    if not os.path.exists(program):
+        sys.exit(f"{program} was not built")
+    return program
 
 
 def refreshes(program, folder):

@@ -1,5 +1,5 @@
 //! Index entries: 64 bytes for each revision, all numbers big-endian (Mercurial's help page `internals.revlogs`).
-ghost use Rattle.std.specs.Prelude.{◌≡◌, ◌+◌, ◌<◌, ◌^◌, length, Some, None};
+ghost use Rattle.std.specs.Prelude.{◌≡◌, ◌+◌, ◌<◌, ◌≤◌, ◌^◌, length, Some, None};
 ghost use Rattle.std.specs.Int.{from_be_bytes};
 ghost use Rattle.hgs_index.specs.declared.entry.Entry.{Entry};
 ghost use Rattle.hgs_index.specs.declared.entry.Header.{Header};
@@ -84,6 +84,14 @@ fn nonzero(bytes: &[u8]) -> bool
     bytes.iter().any(|b| *b != 0)
 }
 
+// Whether one of four bytes is not zero.
+fn nonzero_at(bytes: &[u8; 64], at: usize) -> bool
+    requires { at ≤ 60 }
+    ensures { result ≡ is_nonzero (part at 4 bytes.now) }
+{
+    u32_at(bytes, at) != 0
+}
+
 fn negative_in(bytes: &[u8; 64]) -> bool
     ensures { result ≡ has_negative bytes.now }
 {
@@ -95,10 +103,23 @@ fn negative_in(bytes: &[u8; 64]) -> bool
         || no_parent(u32_at(bytes, 28))
 }
 
+// Whether one of the bytes behind the node is not zero.
+fn nonzero_behind(bytes: &[u8; 64]) -> bool
+    ensures { result ≡ is_nonzero (part 52 12 bytes.now) }
+{
+    if nonzero_at(bytes, 52) {
+        return true;
+    }
+    if nonzero_at(bytes, 56) {
+        return true;
+    }
+    nonzero_at(bytes, 60)
+}
+
 fn padding_in(bytes: &[u8; 64], rev: u32) -> bool
     ensures { result ≡ has_padding bytes.now rev }
 {
-    nonzero(&bytes[52..64]) || (rev == 0 && nonzero(&bytes[4..6]))
+    nonzero_behind(bytes) || (rev == 0 && nonzero(&bytes[4..6]))
 }
 
 fn offset(bytes: &[u8; 64], rev: u32) -> u64

@@ -1,3 +1,4 @@
+pub mod FrontLemmas
 pub mod ModelLemmas
 pub mod PrintLemmas
 pub mod RetractLemmas

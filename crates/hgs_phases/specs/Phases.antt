@@ -51,6 +51,10 @@ pub record AreOwn (roots : List Root) (entries : List Entry) (phases : List Phas
   pub count : length phases ≡ length entries
   pub each : (rev : ℕ) → rev < length entries → slice_index_or phases rev Public ≡ own_phase roots entries rev
 
+-- the phases of so many changesets in front are public
+abbrev pub AreFrontPublic : ℕ → List Phase → Type 0
+AreFrontPublic n phases = (rev : ℕ) → rev < n → slice_index_or phases rev Public ≡ Public
+
 -- the phases with that of one changeset raised to a phase, if it is below
 abbrev pub raised : List Phase → ℕ → Phase → List Phase
 raised phases rev phase = slice_set phases rev (greater (slice_index_or phases rev Public) phase)

@@ -1,6 +1,6 @@
 //! The phase of each changeset.
-ghost use Rattle.std.specs.Prelude.{◌≡◌, ◌<◌, ◌++◌, ◌∷◌, [], List, length, slice_get, slice_index_or, Some, IfOk, OnOk, OnErr};
-ghost use Rattle.hgs_phases.specs.Phases.{parent_phase, phases_by, raised, raised_root, AreOwn};
+ghost use Rattle.std.specs.Prelude.{◌≡◌, ◌<◌, ◌≤◌, ◌++◌, ◌∷◌, [], List, length, slice_get, slice_index_or, Some, IfOk, OnOk, OnErr};
+ghost use Rattle.hgs_phases.specs.Phases.{parent_phase, phases_by, raised, raised_root, AreFrontPublic, AreOwn};
 ghost use Rattle.hgs_model.specs.declared.phase.Phase.TheVariants.{Public};
 ghost use Rattle.hgs_model.specs.Phase.{greater};
 ghost use Rattle.hgs_revlog.specs.Log.{place_of};
@@ -82,6 +82,18 @@ fn own_phases(alloc: Global, roots: &[Root], known: &Revlog) -> Result<Vec<Phase
     Ok(phases)
 }
 
+// The first changeset that is not public by itself; the number of all where each is.
+fn first_above(phases: &[Phase]) -> usize
+    ensures below { AreFrontPublic result phases.now }
+    ensures within { result ≤ length phases.now }
+{
+    let mut rev = 0;
+    while let Some(Phase::Public) = phases.get(rev) {
+        rev += 1;
+    }
+    rev
+}
+
 /// The greater of the phases of a changeset's parents.
 pub(crate) fn inherited(phases: &[Phase], entry: &Entry) -> Phase
     ensures { result ≡ greater (parent_phase phases.now entry.now.p1) (parent_phase phases.now entry.now.p2) }
@@ -92,12 +104,14 @@ pub(crate) fn inherited(phases: &[Phase], entry: &Entry) -> Phase
 impl Roots {
     /// The phases that the roots give to the changesets of a changelog. Roots of unknown nodes are passed over.
     ///
-    /// The time is that of a look-up for each root and of one pass over the changesets.
+    /// The time is that of a look-up for each root and of one pass over the changesets from the first on at which a root stands.
     pub fn phases_of(&self, alloc: Global, known: &Revlog) -> Result<Phases, AllocError>
         ensures { IfOk result (λ phases. phases ≡ phases_by self.now known.now.entries) }
     {
         let mut phases = own_phases(alloc, &self.roots, known)?;
-        for rev in 0..known.len() {
+        let count = known.len();
+        let first = first_above(&phases) as u32;
+        for rev in first..count {
             let greatest = inherited(&phases[..rev as usize], known.entry(rev));
             raise(&mut phases, rev, greatest);
         }

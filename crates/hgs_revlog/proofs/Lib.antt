@@ -1,4 +1,5 @@
 pub mod ApartLemmas
+pub mod ChainLemmas
 pub mod EntriesLemmas
 pub mod FittingLemmas
 pub mod FormLemmas

@@ -129,7 +129,7 @@ earlier_taken log bytes e any h earlier =
 
 -- ---- nodes
 
-own_more : (entries : List index_entry.Entry) (e : index_entry.Entry) → place_of entries e.node.0 ≡ None → HaveOwnNodes entries → HaveOwnNodes (entries ++ e ∷ [])
+pub own_more : (entries : List index_entry.Entry) (e : index_entry.Entry) → place_of entries e.node.0 ≡ None → HaveOwnNodes entries → HaveOwnNodes (entries ++ e ∷ [])
 own_more entries e fresh own rev x there = elim (get-push entries e rev x there) [
   | inl b ↦ position_push_some (λ y. same y.node.0 x.node.0) entries e rev (own rev x b.0)
   | inr b ↦ ap (λ (y : index_entry.Entry). place_of (entries ++ e ∷ []) y.node.0) (sym b.1)

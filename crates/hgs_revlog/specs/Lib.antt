@@ -1,11 +1,11 @@
 pub mod Add
+pub mod Chains
 pub mod Fault
 pub mod Held
 pub mod Indexed
 pub mod Load
 pub mod Loaded
 pub mod Log
-pub mod Numbered
 pub mod Places
 pub mod Text
 pub mod Theorems

@@ -4,6 +4,7 @@
 #![tactic(auto)]
 
 pub mod add;
+mod chains;
 pub mod fault;
 pub mod laws;
 mod places;

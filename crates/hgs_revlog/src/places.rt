@@ -1,120 +1,94 @@
 //! The revision of each node.
-ghost use Rattle.std.specs.Prelude.{◌≡◌, ◌≤◌, true, length, IfOk};
+ghost use Rattle.std.specs.Prelude.{◌≡◌, ◌≤◌, length, List, ℕ, IfOk};
+ghost use Rattle.std.specs.BTreeMap.{get};
 ghost use Rattle.std.specs.Cmp.Lexicographic.{slice_cmp};
-ghost use Rattle.std.specs.List.Sorted.{IsStrictlySortedBy};
-ghost use Rattle.std.specs.Map.{keys_of};
-ghost use Rattle.std.proofs.lemmas.Map.Keys.{IsStrictlySortedBy-prop};
 ghost use Rattle.std.specs.Ordering.{nat_cmp};
 ghost use Rattle.hgs_revlog.specs.Load.{most_revisions};
-ghost use Rattle.hgs_revlog.specs.Numbered.{numbered};
 
+use crate::chains::Chains;
 use hgs_index::entry::Entry;
 use std::alloc::{AllocError, Global};
 use std::collections::BTreeMap;
 
-/// The revision of each node: of those that were there when an index was loaded in an array in the order of nodes, of those
-/// that came since in a tree.
+/// The revision of each node: of those that were there when an index was loaded by chains, of those that came since in a tree.
 ///
-/// Whoever wrote the index chose the nodes, so there is no hash: without a secret seed nodes can be chosen that all hash alike.
+/// Whoever wrote the index chose the nodes, and may have chosen them so that chains are long: then all are in the tree.
 #[derive(Drop)]
 pub(crate) struct Places {
-    sorted: Vec<([u8; 20], u32)>,
+    chains: Chains,
     since: BTreeMap<[u8; 20], u32>,
-    ghost ascending: { IsStrictlySortedBy (slice_cmp nat_cmp) (keys_of sorted.items) } by { IsStrictlySortedBy-prop (slice_cmp nat_cmp) (keys_of sorted.items) },
 }
 
-// Each node with its revision, in the order of revisions.
-fn numbered(alloc: Global, entries: &[Entry]) -> Result<Vec<([u8; 20], u32)>, AllocError>
-    requires { length entries.now ≤ most_revisions }
-    ensures { IfOk result (λ rows. rows.items ≡ numbered 0 entries.now) }
+// The same revisions once more.
+fn copy_of(since: &BTreeMap<[u8; 20], u32>) -> Result<BTreeMap<[u8; 20], u32>, AllocError>
+    ensures { IfOk result (λ copy. (node : List ℕ) → get (slice_cmp nat_cmp) copy node ≡ get (slice_cmp nat_cmp) since.now node) }
 {
-    let mut rows = Vec::with_capacity(alloc, entries.len())?;
-    let mut rest = entries;
-    while let Some((entry, behind)) = rest.split_first() {
-        let rev = rows.len() as u32;
-        rows.push((entry.node.0, rev))?;
-        rest = behind;
-    }
-    Ok(rows)
-}
-
-// Whether each node is below the next one.
-fn ascend(rows: &[([u8; 20], u32)]) -> bool
-    ensures { result ≡ true → IsStrictlySortedBy (slice_cmp nat_cmp) (keys_of rows.now) }
-{
-    let mut at = 1;
-    while at < rows.len() {
-        if !rows[at - 1].0.cmp(&rows[at].0).is_lt() {
-            return false;
-        }
-        at += 1;
-    }
-    true
+    Ok(since.clone()?)
 }
 
 impl Places {
-    ghost use Rattle.std.specs.Prelude.{List, ℕ, Some, None, if◌then◌else◌, IfSome, OnOk, OnErr};
+    ghost use Rattle.std.specs.Prelude.{Some, None, if◌then◌else◌, IfSome, OnOk, OnErr};
     ghost use Rattle.std.specs.BTreeMap.{is_at};
-    ghost use Rattle.hgs_revlog.specs.Loaded.{HaveOwnNodes};
+    ghost use Rattle.hgs_index.specs.declared.entry.Entry.{Entry as IndexEntry};
+    ghost use Rattle.hgs_revlog.specs.Chains.{AreChains};
     ghost use Rattle.hgs_revlog.specs.Log.{place_of};
-    ghost use Rattle.hgs_revlog.specs.Places.{place_in};
+    ghost use Rattle.hgs_revlog.specs.Places.{chained, place_in};
 
     pub(crate) fn new(alloc: Global) -> Places
-        ensures { (node : List ℕ) → place_in result node ≡ None }
+        ensures chains { (entries : List IndexEntry) → AreChains result.chains (chained result entries) }
+        ensures none { (entries : List IndexEntry) (node : List ℕ) → place_in result entries node ≡ None }
     {
         Places {
-            sorted: Vec::new(alloc),
+            chains: Chains::new(alloc),
             since: BTreeMap::new(alloc),
         }
     }
 
-    /// The revisions of the nodes of these entries, or none where a node stands twice.
+    /// The revisions of the nodes of these entries, or none where a node stands twice or a chain is long.
     ///
-    /// The time is that of sorting the nodes, whatever they are.
+    /// The time is that of one pass.
     pub(crate) fn of(alloc: Global, entries: &[Entry]) -> Result<Option<Places>, AllocError>
         requires { length entries.now ≤ most_revisions }
-        ensures places { IfOk result (λ found. IfSome found (λ places. (node : List ℕ) → place_in places node ≡ place_of entries.now node)) }
-        ensures own { IfOk result (λ found. IfSome found (λ places. HaveOwnNodes entries.now)) }
+        ensures chains { IfOk result (λ found. IfSome found (λ places. AreChains places.chains entries.now)) }
+        ensures places { IfOk result (λ found. IfSome found (λ places. (node : List ℕ) → place_in places entries.now node ≡ place_of entries.now node)) }
     {
-        let mut rows = numbered(alloc, entries)?;
-        rows.sort_unstable();
-        if !ascend(&rows) {
-            return Ok(None);
+        match Chains::of(alloc, entries)? {
+            Some(chains) => Ok(Some(Places {
+                chains,
+                since: BTreeMap::new(alloc),
+            })),
+            None => Ok(None),
         }
-        Ok(Some(Places {
-            sorted: rows,
-            since: BTreeMap::new(alloc),
-        }))
     }
 
-    /// The revision that has this node.
-    pub(crate) fn get(&self, node: &[u8; 20]) -> Option<u32>
-        ensures { result ≡ place_in self.now node.now }
+    /// The revision that has this node, of these entries.
+    pub(crate) fn get(&self, entries: &[Entry], node: &[u8; 20]) -> Option<u32>
+        requires { AreChains self.now.chains (chained self.now entries.now) }
+        ensures { result ≡ place_in self.now entries.now node.now }
     {
-        match self.sorted.binary_search_by(|row| row.0.cmp(node)) {
-            Ok(at) => Some(self.sorted[at].1),
-            Err(_) => self.since.get(node).copied(),
+        match self.chains.find(&entries[..self.chains.len()], node) {
+            Some(rev) => Some(rev),
+            None => self.since.get(node).copied(),
         }
     }
 
     /// Gives a node that has none its revision. Changes nothing where there is no memory.
     pub(crate) fn put(&mut self, node: [u8; 20], rev: u32) -> Result<(), AllocError>
-        requires { place_in self.old node ≡ None }
-        ensures ok { OnOk result ((q : List ℕ) → place_in self.new q ≡ (if is_at (slice_cmp nat_cmp node) q then Some rev else place_in self.old q)) }
-        ensures kept { OnErr result ((q : List ℕ) → place_in self.new q ≡ place_in self.old q) }
+        ensures ok { OnOk result ((entries : List IndexEntry) (q : List ℕ) → place_in self.old entries node ≡ None → place_in self.new entries q ≡ (if is_at (slice_cmp nat_cmp node) q then Some rev else place_in self.old entries q)) }
+        ensures chains { self.new.chains ≡ self.old.chains }
+        ensures kept { OnErr result ((entries : List IndexEntry) (q : List ℕ) → place_in self.new entries q ≡ place_in self.old entries q) }
     {
         self.since.insert(node, rev)?;
         Ok(())
     }
 
     pub(crate) fn copy(&self) -> Result<Places, AllocError>
-        ensures { IfOk result (λ copy. (node : List ℕ) → place_in copy node ≡ place_in self.now node) }
+        ensures chains { IfOk result (λ copy. (entries : List IndexEntry) → AreChains self.now.chains (chained self.now entries) → AreChains copy.chains (chained copy entries)) }
+        ensures places { IfOk result (λ copy. (entries : List IndexEntry) (node : List ℕ) → place_in copy entries node ≡ place_in self.now entries node) }
     {
-        let mut sorted = Vec::new(*self.sorted.allocator());
-        sorted.extend_from_slice(&self.sorted)?;
         Ok(Places {
-            sorted,
-            since: self.since.clone()?,
+            chains: self.chains.copy()?,
+            since: copy_of(&self.since)?,
         })
     }
 }

@@ -380,7 +380,7 @@ impl Revlog {
     pub fn rev_of(&self, node: &Node) -> Option<u32>
         ensures { result ≡ place_of self.now.entries node.now.0 }
     {
-        self.places.get(&node.0)
+        self.places.get(&self.entries, &node.0)
     }
 
     /// Whether the chunks stand in the index, each behind its entry.

@@ -2,6 +2,8 @@ use Rattle.std.proofs.Common.{◌≡◌, ◌≤◌, length, sym, ◌∙◌, ap, 
 use Rattle.std.specs.Prelude.{slice_get}
 use Rattle.hgs_revlog.specs.Load.{most_revisions}
 use Rattle.hgs_revlog.specs.Log.{place_of, stored_sum}
+use Rattle.hgs_revlog.specs.Chains.{AreChains}
+use Rattle.hgs_revlog.specs.Places.{chained, place_in}
 use Rattle.hgs_revlog.proofs.revlog.Revlog.copy.Goals as goal
 
 pub invariant_of-result : goal.invariant_of-result
@@ -12,7 +14,8 @@ invariant_of-result c =
       sum = c.self.invariant.sum ∙ ap stored_sum (sym same);
       short = c.self.invariant.short;
       low = λ rev e there. c.self.invariant.low rev e (ap (λ es. slice_get es rev) (sym same) ∙ there);
-      places = λ q. c.in_ok-copy.ensures q ∙ c.self.invariant.places q ∙ ap (λ es. place_of es q) (sym same);
+      chains = c.in_ok-copy.ensures.chains c.in_ok-copy_of.field-0.items (subst (λ es. AreChains c.self.inside.places.chains (chained c.self.inside.places es)) (sym same) c.self.invariant.chains);
+      places = λ q. c.in_ok-copy.ensures.places c.in_ok-copy_of.field-0.items q ∙ ap (λ es. place_in c.self.inside.places es q) same ∙ c.self.invariant.places q ∙ ap (λ es. place_of es q) (sym same);
     }
 
 pub returns : goal.returns
