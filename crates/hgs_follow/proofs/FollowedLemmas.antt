@@ -13,7 +13,7 @@ pub followed-least : (files : Filelogs) (a : At) (has : At → Bool) → has a �
 followed-least files a has first closed _ start = first
 followed-least files a has first closed _ (further {b = m} {c = n} k p) = closed m n (followed-least files a has first closed m k) p
 
-abbrev at : List ℕ → ℕ → At
+abbrev pub at : List ℕ → ℕ → At
 at path rev = record { path = path; rev = rev }
 
 none-is-some : {A : Type 0} (o : Option A) (x : A) → o ≡ None → o ≡ Some x → ⊥
@@ -33,7 +33,7 @@ down : (files : Filelogs) (path : List ℕ) (rev : ℕ) → IsNeverCopied files 
 down files path rev plain _ start = (refl, itself)
 down files path rev plain _ (further {b = m} {c = n} k p) = one-down files path rev plain m n (down files path rev plain m k) p
 
-up : (files : Filelogs) (path : List ℕ) (x y : ℕ) → IsAncestor (parents_of (files path)) x y → IsFollowed files (at path y) (at path x)
+pub up : (files : Filelogs) (path : List ℕ) (x y : ℕ) → IsAncestor (parents_of (files path)) x y → IsFollowed files (at path y) (at path x)
 up files path x _ itself = start
 up files path x _ (of_parent {p = p} {b = y} is k) = followed-trans files (at path y) (at path p) (at path x) (further start (parent refl is)) (up files path x p k)
 

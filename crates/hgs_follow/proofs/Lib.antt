@@ -1,2 +1,10 @@
+mod ChainLemmas
 mod FollowedLemmas
+mod GraphLemmas
+mod ListLemmas
+mod MapLemmas
+mod OrderLemmas
+mod SearchLemmas
 mod SourceLemmas
+mod TextLemmas
+mod WalkLemmas

@@ -2,5 +2,10 @@
 #![tactic(auto)]
 
 pub mod examples;
+pub mod filelogs;
 pub mod laws;
+pub mod line;
+pub mod search;
 pub mod source;
+pub mod text;
+pub mod walk;
