@@ -1,48 +1,27 @@
 -- What a call adds, of the only answer of its question.
-use Rattle.std.specs.Prelude.{ℕ, List, [], ◌∷◌, Result, Ok, Err}
-use Rattle.std.specs.List.{AllByRecursion, AllZip}
+use Rattle.std.specs.Prelude.{ℕ, List, Result, Ok, Some}
 use Rattle.hgs_bytes.specs.Bytes.{IsPrefixOf}
-use Rattle.std.specs.Prelude.{Some}
 use Rattle.hgs_files.specs.declared.op.Op.{Op}
-use Rattle.hgs_index.specs.Manifest.{Row}
-use Rattle.hgs_model.specs.Repo.{Changeset, TreeFile}
 use Rattle.hgs_load.specs.declared.answer.ReadAnswer.{ReadAnswer}
-use Rattle.hgs_load.specs.declared.answer.ReadAnswer.TheVariants.{UnknownPath}
 use Rattle.hgs_load.specs.Asks.{AddsAnswer, AddsGiven, Asks}
-use Rattle.hgs_reader.specs.Contents.{cat_asks, files_asks, files_text}
-use Rattle.hgs_reader.specs.Line.{line_asks, line_text}
 use Rattle.hgs_load.specs.View.{View}
-use Rattle.hgs_views.specs.Answered.{IsAnswered, IsFileAnswered, OnlyAnswers}
+use Rattle.hgs_model.specs.Repo.{Changeset, Repo}
+use Rattle.hgs_reader.specs.Contents.{cat_asks, files_asks}
+use Rattle.hgs_reader.specs.Line.{line_asks}
+use Rattle.hgs_shown.specs.Answers.{body_answer, body_at, log_line, tree_text}
+use Rattle.hgs_views.specs.Answered.{OnlyAnswers}
 use Rattle.hgs_views.specs.Course.{Course}
-use Rattle.hgs_headline.specs.AddsCommitted.{Adds, AddsCommitted, IsRowOf}
+use Rattle.hgs_views.specs.Says.{TellsOf}
+use Rattle.hgs_headline.specs.AddsCommitted.{Adds, AddsCommitted}
 
 module _ (law : (x : Course) (first from to last : List Op) (question : Asks (Result (List ℕ) ReadAnswer)) (given : Result (List ℕ) ReadAnswer) (old new : List ℕ) (r : Result Unit ReadAnswer) → OnlyAnswers x first last question given → IsPrefixOf first from → IsPrefixOf to last → AddsAnswer (Some from) x.start (Some to) question old new r → AddsGiven given old new r)
-    (x : Course) (first last : List Op) (view : View) (changesets : List Changeset) (rev : ℕ) where
+    (x : Course) (first last : List Op) (view : View) (r : Repo) (rev : ℕ) where
   adds : (question : Asks (Result (List ℕ) ReadAnswer)) (given : Result (List ℕ) ReadAnswer) → OnlyAnswers x first last question given → Adds x.start first last question given
   adds question given only from to old new r p q a = law x first from to last question given old new r only p q a
 
-  rows-of : (tree : List TreeFile) (rows : List Row) → AllZip (IsFileAnswered x first last view changesets rev) tree rows → AllZip (IsRowOf changesets) tree rows
-  rows-of [] [] all = tt
-  rows-of (f ∷ tree) (row ∷ rows) all = (record { path = all.0.path; flag = all.0.flag; placed = all.0.placed }, rows-of tree rows all.1)
-  rows-of [] (row ∷ rows) all = absurd all
-  rows-of (f ∷ tree) [] all = absurd all
-
-  bodies-of : (tree : List TreeFile) (rows : List Row) → AllZip (IsFileAnswered x first last view changesets rev) tree rows → AllByRecursion (λ (f : TreeFile). Adds x.start first last (cat_asks view rev f.path) (Ok f.body)) tree
-  bodies-of [] rows all = tt
-  bodies-of (f ∷ tree) (row ∷ rows) all = (adds (cat_asks view rev f.path) (Ok f.body) all.0.body, bodies-of tree rows all.1)
-  bodies-of (f ∷ tree) [] all = absurd all
-
-  pub adds-committed : (c : Changeset) → IsAnswered x first last view changesets rev c → AddsCommitted x.start first last view changesets rev c
-  adds-committed c a = record {
-    change = a.change;
-    tells = a.tells;
-    entry = a.entry;
-    node = a.node;
-    parents = a.parents;
-    line = adds (line_asks view rev) (Ok (line_text rev a.entry a.change)) a.line;
-    rows = a.rows;
-    rows_of = rows-of c.tree a.rows a.files;
-    files = adds (files_asks view rev) (Ok (files_text a.rows)) a.lines;
-    bodies = bodies-of c.tree a.rows a.files;
-    others = λ path out. adds (cat_asks view rev path) (Err UnknownPath) (a.others path out);
+  pub adds-committed : (c : Changeset) → TellsOf x first last view r rev c → AddsCommitted x.start first last view r rev c
+  adds-committed c tells = record {
+    line = adds (line_asks view rev) (Ok (log_line r rev c)) tells.line;
+    files = adds (files_asks view rev) (Ok (tree_text r rev (Some c))) tells.files;
+    body = λ path. adds (cat_asks view rev path) (body_answer (body_at r rev path)) (tells.body path);
   }

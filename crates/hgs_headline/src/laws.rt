@@ -9,7 +9,6 @@ ghost use Rattle.hgs_index.specs.Inline.{is_inline};
 ghost use Rattle.hgs_model.specs.History.{changeset_nodes};
 ghost use Rattle.hgs_model.specs.IsRepo.{IsRepo};
 ghost use Rattle.hgs_model.specs.Names.{named as model_named};
-ghost use Rattle.hgs_model.specs.Phase.{phase_number};
 ghost use Rattle.hgs_model.specs.Repo.{Changeset, Repo};
 ghost use Rattle.hgs_revlog.specs.Log.{nodes_of};
 ghost use Rattle.hgs_stands.specs.Places.{changelog_index};
@@ -19,16 +18,14 @@ ghost use Rattle.hgs_legal.specs.Numbers.{b_of, n_of, repo_at, w_of};
 ghost use Rattle.hgs_load.specs.declared.answer.ReadAnswer.{ReadAnswer};
 ghost use Rattle.hgs_load.specs.Asks.{Answers, MayAnswer};
 ghost use Rattle.hgs_load.specs.Beyond.{AnswersBeyond, RefreshesBeyond};
-ghost use Rattle.hgs_reader.specs.Heads.{heads_text};
 ghost use Rattle.hgs_load.specs.Load.{Refreshes};
 ghost use Rattle.hgs_reader.specs.Names.{named};
 ghost use Rattle.hgs_load.specs.Open.{open_asks};
 ghost use Rattle.hgs_load.specs.Refresh.{refresh_asks};
-ghost use Rattle.hgs_reader.specs.Shown.{marks_text, parents_text};
 ghost use Rattle.hgs_load.specs.View.{View};
-ghost use Rattle.hgs_shown.specs.Shown.{IsViewOf};
 ghost use Rattle.hgs_views.specs.Answered.{IsAnswered};
 ghost use Rattle.hgs_views.specs.Course.{IsCourse, OpensAlong, ReadsAlong};
+ghost use Rattle.hgs_views.specs.Says.{SaysOf, TellsOf};
 ghost use Rattle.hgs_views.specs.Seen.{Given, IsLoadedBetween, NoneFell, Numbers, Refreshed, seen};
 ghost use Rattle.hgs_headline.specs.AddsCommitted.{AddsCommitted};
 ghost use Rattle.hgs_headline.specs.Again.{GivenAgain};
@@ -39,7 +36,7 @@ use hgs_stands::laws::{filelogs_stand_apart, files_are_not_loose};
 use hgs_views::laws::{
     calls_of_open, calls_of_refresh, calls_that_add_a_text, changelogs_keep_their_form,
     contents_of_views, loads_answer_views, refreshes_answer_views, sessions_do_not_fall_back,
-    views_of_one_repository_answer_alike, views_show_repositories,
+    views_show_repositories, views_tell_their_repository,
 };
 
 /// Each legal log from a clean tree is one that writers make. Behind each front of such a log stands the state to which the
@@ -96,23 +93,25 @@ pub fn numbers_of_loads()
 {}
 
 /// At any later moment of the log such a view's questions answer of each of its changesets what was committed, and nothing
-/// else. Its names, its changesets, its bookmarks, its working parents and its phases are those of one repository, and it
-/// answers of them as each view does that was read of files at rest that stand for that repository.
+/// else: the texts of one repository, each file with its node. Its names, its changesets, its heads, its bookmarks, its working parents
+/// and its phases are that repository's, and what is said of them are its texts.
 pub fn views_beside_writers()
     ensures committed { (h : WritersLog) (began ended first last : List Op) (v : Numbers) (view : View) (rev : ℕ) (c : Changeset) → IsPrefixOf last h.log → OpensAlong (course_of h) first last → ReadsAlong (course_of h) first last → IsLoadedBetween (course_of h) began ended v view → IsPrefixOf ended first → IsPrefixOf first last →
         slice_get (repo_at h.last v.read).changesets rev ≡ Some c → IsAnswered (course_of h) first last view (repo_at h.last v.read).changesets rev c }
     ensures shown { (h : WritersLog) (first last : List Op) (v : Numbers) (view : View) → IsPrefixOf last h.log → IsLoadedBetween (course_of h) first last v view → IsRepo (seen (course_of h) v) × ((name : List ℕ) → named view name ≡ model_named (seen (course_of h) v) name) × (length view.changelog.entries ≡ length (repo_at h.last v.read).changesets) × (nodes_of view.changelog.entries ≡ changeset_nodes (repo_at h.last v.read).changesets) }
-    ensures alike { (h : WritersLog) (first last : List Op) (v : Numbers) (view : View) (u : Tree) (other : View) → IsPrefixOf last h.log → IsLoadedBetween (course_of h) first last v view → IsViewOf other u (seen (course_of h) v) → (heads_text view ≡ heads_text other) × (marks_text view ≡ marks_text other) × (parents_text view ≡ parents_text other) × (map phase_number view.phases ≡ map phase_number other.phases) }
+    ensures says { (h : WritersLog) (first last : List Op) (v : Numbers) (view : View) → IsPrefixOf last h.log → IsLoadedBetween (course_of h) first last v view → SaysOf view (seen (course_of h) v) }
+    ensures tells { (h : WritersLog) (began ended first last : List Op) (v : Numbers) (view : View) (rev : ℕ) (c : Changeset) → IsPrefixOf last h.log → OpensAlong (course_of h) first last → ReadsAlong (course_of h) first last → IsLoadedBetween (course_of h) began ended v view → IsPrefixOf ended first → IsPrefixOf first last →
+        slice_get (repo_at h.last v.read).changesets rev ≡ Some c → TellsOf (course_of h) first last view (seen (course_of h) v) rev c }
 {
     writers_logs_are_courses();
     contents_of_views();
     views_show_repositories();
-    views_of_one_repository_answer_alike();
+    views_tell_their_repository();
 }
 
 /// So it is of calls that were told the lists: `open` and `refresh` give such a view, or they met a fault of the files or
 /// found no memory, and never damage; a session keeps its view then. And each later call for a line, for the files of a
-/// changeset or for the bytes of one adds what was committed.
+/// changeset or for the bytes of one adds the text of the repository that the view shows.
 pub fn calls_beside_writers()
     ensures opened { (h : WritersLog) (first last : List Op) (r : Result View ReadAnswer) → IsPrefixOf last h.log → OpensAlong (course_of h) first last → Answers (λ session. session) (Some first) h.start (Some last) open_asks r → Given (λ view. (v : Numbers) × IsLoadedBetween (course_of h) first last v view) r }
     ensures refreshed { (h : WritersLog) (began ended first last : List Op) (v : Numbers) (old : View) (r : Result View ReadAnswer) → IsPrefixOf last h.log → OpensAlong (course_of h) first last → IsLoadedBetween (course_of h) began ended v old → IsPrefixOf ended first → Answers (λ session. session) (Some first) h.start (Some last) (refresh_asks old) r →
@@ -120,7 +119,7 @@ pub fn calls_beside_writers()
     ensures session { (h : WritersLog) (began ended first last : List Op) (v : Numbers) (old new : View) (r : Result Unit ReadAnswer) → IsPrefixOf last h.log → OpensAlong (course_of h) first last → IsLoadedBetween (course_of h) began ended v old → IsPrefixOf ended first →
         Refreshes (Some first) h.start (Some last) (refresh_asks old) old new r → Refreshed (λ view. (w : Numbers) × IsLoadedBetween (course_of h) first last w view × NoneFell v w) old new r }
     ensures committed { (h : WritersLog) (began ended first last : List Op) (v : Numbers) (view : View) (rev : ℕ) (c : Changeset) → IsPrefixOf last h.log → OpensAlong (course_of h) first last → ReadsAlong (course_of h) first last → IsLoadedBetween (course_of h) began ended v view → IsPrefixOf ended first → IsPrefixOf first last →
-        slice_get (repo_at h.last v.read).changesets rev ≡ Some c → AddsCommitted h.start first last view (repo_at h.last v.read).changesets rev c }
+        slice_get (repo_at h.last v.read).changesets rev ≡ Some c → AddsCommitted h.start first last view (seen (course_of h) v) rev c }
 {
     writers_logs_are_courses();
     calls_of_open();

@@ -1,5 +1,5 @@
 -- Where no call on the files was refused, nothing is left behind.
-use Rattle.std.proofs.Common.{inl, ◌≡◌, ◌≤◌, ◌<◌, ℕ, Bool, true, false, List, [], ◌∷◌, ◌++◌, refl, ap, sym, ◌∙◌, subst, arith}
+use Rattle.std.proofs.Common.{inl, ◌≡◌, ◌≤◌, ◌<◌, ℕ, Bool, true, false, List, [], ◌∷◌, ◌++◌, refl, sym, ◌∙◌, subst, arith}
 use Rattle.std.specs.Prelude.{Option, Result, Ok, Err, is_some}
 use Rattle.std.specs.List.{AllByRecursion, FoldsTo}
 use Rattle.hgs_answers.specs.declared.answer.Answer.{Answer}

@@ -1,5 +1,5 @@
 -- Questions of a session beside writers.
-use Rattle.std.proofs.Common.{◌≡◌, ◌⊎◌, ◌≤◌, ◌<◌, ℕ, zero, suc, List, [], ◌∷◌, ◌++◌, length, refl, sym, ◌∙◌, ap, subst, inl, inr, arith}
+use Rattle.std.proofs.Common.{◌≡◌, ◌⊎◌, ◌≤◌, ◌<◌, ℕ, List, [], ◌∷◌, ◌++◌, length, sym, ◌∙◌, ap, subst, inl, inr}
 use Rattle.std.specs.Prelude.{IfSome, None, Ok, Err, Option, Result, Some, slice_get}
 use Rattle.std.specs.List.{AllByRecursion}
 use Rattle.hgs_bytes.specs.Bytes.{IsPrefixOf}
@@ -14,19 +14,24 @@ use Rattle.hgs_load.specs.Refresh.{refresh_asks}
 use Rattle.hgs_load.specs.Theorems.AskLemmas.{prefix-refl, prefix-trans}
 use Rattle.hgs_load.specs.View.{View}
 use Rattle.hgs_load.specs.declared.answer.ReadAnswer.{ReadAnswer}
+use Rattle.hgs_load.specs.declared.answer.ReadAnswer.TheVariants.{Fault}
 use Rattle.hgs_model.specs.IsRepo.{IsRepo}
 use Rattle.hgs_model.specs.Names.{named as model_named}
 use Rattle.hgs_model.specs.Repo.{Changeset, Repo}
-use Rattle.hgs_questions.specs.Asked.{Asked, Tells, broken, cut, forgone, loaded, unloaded, untold, whole}
-use Rattle.hgs_questions.specs.Questions.{load_asks}
-use Rattle.hgs_reader.specs.Names.{named}
+use Rattle.hgs_questions.specs.Asked as asked_by
+use Rattle.hgs_questions.specs.Asked.{Asked, Tells, broken, forgone, loaded, unloaded}
+use Rattle.hgs_questions.specs.Questions.{front_asks, load_asks}
+use Rattle.hgs_questions.specs.Said.{behind, refused, said}
 use Rattle.hgs_script.specs.declared.job.Question.{Question}
+use Rattle.hgs_script.specs.declared.job.Question.TheVariants as questions
 use Rattle.hgs_script.specs.declared.result.Answered.{Answered}
-use Rattle.hgs_views.specs.Answered.{IsAnswered}
 use Rattle.hgs_views.specs.Course.{OpensAlong, ReadsAlong}
+use Rattle.hgs_views.specs.Says.{SaysOf, TellsOf}
 use Rattle.hgs_views.specs.Seen.{IsLoadedBetween, NoneFell, Numbers, seen}
 use Rattle.hgs_history.specs.Beside.{AreNoOlder, IsAnsweredOf, IsKnown, IsNotLoaded, IsStatusBeside}
-use Rattle.hgs_history.proofs.Texts.{question-status}
+use Rattle.hgs_history.specs.Said as said_of
+use Rattle.hgs_history.specs.Said.{IsOf, front_of}
+use Rattle.hgs_history.proofs.Texts.{answer-status, element, log-told, question-told}
 
 -- what the crates below say of loads and views
 pub record Below : Type 0 where
@@ -35,21 +40,16 @@ pub record Below : Type 0 where
       → (w : Numbers) × (view : View) × (y ≡ Ok view) × IsLoadedBetween (course_of h) first last w view × NoneFell v w
   pub numbers : (h : WritersLog) (front from last : List Op) (v : Numbers) (view : View) → IsPrefixOf last h.log → IsPrefixOf front from → IsLoadedBetween (course_of h) from last v view
       → (b_of (state_after h front) ≤ v.marked) × (w_of (state_after h front) ≤ v.worked) × (n_of (state_after h front) ≤ v.read) × (n_of (state_after h front) ≤ v.rooted)
-  pub committed : (h : WritersLog) (began ended first last : List Op) (v : Numbers) (view : View) (rev : ℕ) (c : Changeset) → IsPrefixOf last h.log → OpensAlong (course_of h) first last → ReadsAlong (course_of h) first last → IsLoadedBetween (course_of h) began ended v view → IsPrefixOf ended first → IsPrefixOf first last
-      → slice_get (repo_at h.last v.read).changesets rev ≡ Some c → IsAnswered (course_of h) first last view (repo_at h.last v.read).changesets rev c
-  pub shown : (h : WritersLog) (first last : List Op) (v : Numbers) (view : View) → IsPrefixOf last h.log → IsLoadedBetween (course_of h) first last v view
-      → IsRepo (seen (course_of h) v) × ((name : List ℕ) → named view name ≡ model_named (seen (course_of h) v) name) × (length view.changelog.entries ≡ length (repo_at h.last v.read).changesets)
+  pub tells : (h : WritersLog) (began ended first last : List Op) (v : Numbers) (view : View) (rev : ℕ) (c : Changeset) → IsPrefixOf last h.log → OpensAlong (course_of h) first last → ReadsAlong (course_of h) first last → IsLoadedBetween (course_of h) began ended v view → IsPrefixOf ended first → IsPrefixOf first last
+      → slice_get (repo_at h.last v.read).changesets rev ≡ Some c → TellsOf (course_of h) first last view (seen (course_of h) v) rev c
+  pub repository : (h : WritersLog) (first last : List Op) (v : Numbers) (view : View) → IsPrefixOf last h.log → IsLoadedBetween (course_of h) first last v view → IsRepo (seen (course_of h) v)
+  pub says : (h : WritersLog) (first last : List Op) (v : Numbers) (view : View) → IsPrefixOf last h.log → IsLoadedBetween (course_of h) first last v view → SaysOf view (seen (course_of h) v)
   pub there : (r : Repo) (name : List ℕ) (rev : ℕ) → IsRepo r → model_named r name ≡ Some rev → rev < length r.changesets
 
 -- a list that begins another, in both forms
 covered : (h : WritersLog) (w : Numbers) (told : List (List Op)) (from : List Op) → ((front : List Op) → IsPrefixOf front from → AreNoOlder h w front) → Covers told from → AllByRecursion (AreNoOlder h w) told
 covered h w [] from each c = tt
 covered h w (front ∷ told) from each c = (each front (c.0.0, sym c.0.1), covered h w told from each c.1)
-
-element : {A : Type 0} (xs : List A) (i : ℕ) → i < length xs → (x : A) × (slice_get xs i ≡ Some x)
-element [] i few = absurd (omega (arith, few))
-element (x ∷ xs) zero few = (x, refl)
-element (x ∷ xs) (suc i) few = element xs i (omega (arith, few))
 
 module _ (b : Below) (h : WritersLog) (told : List (List Op)) (first last : List Op) (on : IsPrefixOf last h.log) (opens : OpensAlong (course_of h) first last) (reads : ReadsAlong (course_of h) first last) where
   opens-between : (from mid : List Op) → IsPrefixOf first from → IsPrefixOf mid last → OpensAlong (course_of h) from mid
@@ -86,24 +86,43 @@ module _ (b : Below) (h : WritersLog) (told : List (List Op)) (first last : List
     first-mid : IsPrefixOf first mid
     first-mid = prefix-trans first from mid p from-mid
 
-    known : (rev : ℕ) → rev < length (repo_at h.last w.read).changesets → (c : Changeset) × IsAnswered (course_of h) mid last view (repo_at h.last w.read).changesets rev c
+    shown : Repo
+    shown = seen (course_of h) w
+
+    on-mid : IsPrefixOf mid h.log
+    on-mid = prefix-trans mid last h.log q on
+
+    known : (rev : ℕ) → rev < length (seen (course_of h) w).changesets → (c : Changeset) × (slice_get (seen (course_of h) w).changesets rev ≡ Some c) × TellsOf (course_of h) mid last view (seen (course_of h) w) rev c
     known rev few =
         let c = element (repo_at h.last w.read).changesets rev few in (
           c.0,
-          b.committed h from mid mid last w view rev c.0 on (λ log between. opens log (record { begins = prefix-trans first mid log first-mid between.begins; ends = between.ends }))
+          c.1,
+          b.tells h from mid mid last w view rev c.0 on (λ log between. opens log (record { begins = prefix-trans first mid log first-mid between.begins; ends = between.ends }))
               (λ log between. reads log (record { begins = prefix-trans first mid log first-mid between.begins; ends = between.ends })) l (prefix-refl mid) q c.1,
         )
 
-    named-there : (name : List ℕ) (rev : ℕ) → named view name ≡ Some rev → rev < length (repo_at h.last w.read).changesets
-    named-there name rev e =
-        let s = b.shown h from mid w view (prefix-trans mid last h.log q on) l in
-        b.there (seen (course_of h) w) name rev s.0 (sym (s.1 name) ∙ e)
+    named-there : (name : List ℕ) (rev : ℕ) → model_named (seen (course_of h) w) name ≡ Some rev → rev < length (seen (course_of h) w).changesets
+    named-there name rev e = b.there (seen (course_of h) w) name rev (b.repository h from mid w view on-mid l) e
 
-    tells-status : (question : Question) (faults_old faults_new : ℕ) (answered : Answered) → Tells (Some mid) h.start (Some last) view question faults_old faults_new answered → IsStatusBeside answered.status
-    tells-status question faults_old faults_new answered (whole m) =
-        question-status (course_of h) mid last view (repo_at h.last w.read).changesets known named-there question answered (b.shown h from mid w view (prefix-trans mid last h.log q on) l).2 m
-    tells-status question faults_old faults_new answered (cut count text m rose e) = inr (inr (inl (ap (λ (a : Answered). a.status) e)))
-    tells-status question faults_old faults_new answered (untold e) = inr (inr (inr (inr (inl (ap (λ (a : Answered). a.status) e)))))
+    -- the front before the line of a fault
+    front-told : (question : Question) (count : ℕ) (text : List ℕ) → MayAnswer h.start mid (front_asks view question count) last (said text) → text ≡ front_of (seen (course_of h) w) question count
+    front-told (questions.Phase name) count text m = ap (λ (a : Answered). a.text) m.1
+    front-told questions.Log count text m = ap (λ (a : Answered). a.text) (log-told (course_of h) mid last view (seen (course_of h) w) (b.says h from mid w view on-mid l) known named-there count (said text) m)
+    front-told questions.Heads count text m = ap (λ (a : Answered). a.text) m.1
+    front-told questions.Bookmarks count text m = ap (λ (a : Answered). a.text) m.1
+    front-told questions.Parents count text m = ap (λ (a : Answered). a.text) m.1
+    front-told (questions.Files name) count text m = ap (λ (a : Answered). a.text) m.1
+    front-told (questions.Cat name path) count text m = ap (λ (a : Answered). a.text) m.1
+
+    told-of : (question : Question) (faults_old faults_new : ℕ) (answered : Answered) → Tells (Some mid) h.start (Some last) view question faults_old faults_new answered → IsOf (seen (course_of h) w) question faults_old faults_new answered
+    told-of question faults_old faults_new answered (asked_by.whole m) = said_of.whole (question-told (course_of h) mid last view (seen (course_of h) w) (b.says h from mid w view on-mid l) known named-there question answered m)
+    told-of question faults_old faults_new answered (asked_by.cut count text m rose e) = said_of.cut count rose (e ∙ ap (λ t. behind t (refused Fault)) (front-told question count text m))
+    told-of question faults_old faults_new answered (asked_by.untold e) = said_of.untold e
+
+    status-of : (r : Repo) (question : Question) (faults_old faults_new : ℕ) (answered : Answered) → IsOf r question faults_old faults_new answered → IsStatusBeside answered.status
+    status-of r question faults_old faults_new answered (said_of.whole e) = subst (λ (a : Answered). IsStatusBeside a.status) (sym e) (answer-status r question)
+    status-of r question faults_old faults_new answered (said_of.cut count rose e) = inr (inr (inl (ap (λ (a : Answered). a.status) e)))
+    status-of r question faults_old faults_new answered (said_of.untold e) = inr (inr (inr (inr (inl (ap (λ (a : Answered). a.status) e)))))
 
   -- ---- the whole
 
@@ -113,6 +132,7 @@ module _ (b : Below) (h : WritersLog) (told : List (List Op)) (first last : List
   answered-of old v new question faults_old faults_new answered view mid known q m is tells =
       let came = load-comes old v m.0 mid (Ok view) known m.1 q m.3 in
       let l : IsLoadedBetween (course_of h) m.0 mid came.0 view = subst (IsLoadedBetween (course_of h) m.0 mid came.0) (ok-is view came.1 came.2) came.3 in
+      let of = told-of m.0 mid came.0 view m.1 q l question faults_old faults_new answered tells in
       record {
         view = view;
         numbers = came.0;
@@ -125,8 +145,9 @@ module _ (b : Below) (h : WritersLog) (told : List (List Op)) (first last : List
         since_seen = older first m.0 mid came.0 view q m.1 l;
         since_told = covered h came.0 told m.0 (λ front p. older front m.0 mid came.0 view q p l) m.2;
         none_fell = came.4;
+        says = of;
         tells = tells;
-        status = tells-status m.0 mid came.0 view m.1 q l question faults_old faults_new answered tells;
+        status = status-of m.0 mid came.0 view m.1 q l (seen (course_of h) came.0) question faults_old faults_new answered of;
       }
 
   some-is : (a c : List Op) → Some a ≡ Some c → a ≡ c

@@ -1,18 +1,15 @@
 -- Two workers that find a lock held meet what the laws ask.
-use Rattle.std.proofs.Common.{◌≡◌, ◌≤◌, ◌+◌, ℕ, zero, suc, List, [], ◌∷◌, Some, None, refl, subst, arith, true}
+use Rattle.std.proofs.Common.{◌≡◌, ◌≤◌, ◌+◌, ℕ, List, [], ◌∷◌, Some, None, refl, arith, true}
 use Rattle.std.specs.List.{AllByRecursion}
 use Rattle.std.specs.Prelude.{codes, min}
 use Rattle.hgs_files.specs.Reads.{greatest}
-use Rattle.hgs_files.specs.Tree.{Tree}
 use Rattle.hgs_machine.specs.Locks.{IsTurnedAway, at_wlock}
 use Rattle.hgs_machine.specs.Refusals.{WereRefused}
 use Rattle.hgs_machine.specs.declared.locks.LockRefusal.TheVariants.{Held}
-use Rattle.hgs_model.specs.Repo.{Repo, empty_repo}
-use Rattle.hgs_model.specs.declared.command.Command.{Command}
+use Rattle.hgs_model.specs.Repo.{empty_repo}
 use Rattle.hgs_ops.specs.Samples.{delete_here, requires_text}
 use Rattle.hgs_script.specs.Script.{IsShare}
-use Rattle.hgs_script.specs.declared.job.Job.TheVariants.{Change}
-use Rattle.hgs_session.specs.Calls.{AreInOrder, IsCall, Makes, job_in, name_of}
+use Rattle.hgs_session.specs.Calls.{AreInOrder, IsCall, Makes, name_of}
 use Rattle.hgs_session.specs.Desk.{said_by}
 use Rattle.hgs_session.specs.Jobs.{IsFresh, Progress, changed, changes}
 use Rattle.hgs_session.specs.Session.{HasEnded, IsSession}

@@ -11,7 +11,8 @@ use Rattle.hgs_questions.specs.Asked.{Tells}
 use Rattle.hgs_questions.specs.Said.{IsOneOf, lost, refused}
 use Rattle.hgs_script.specs.declared.job.Question.{Question}
 use Rattle.hgs_script.specs.declared.result.Answered.{Answered}
-use Rattle.hgs_views.specs.Seen.{IsLoadedBetween, NoneFell, Numbers}
+use Rattle.hgs_views.specs.Seen.{IsLoadedBetween, NoneFell, Numbers, seen}
+use Rattle.hgs_history.specs.Said.{IsOf}
 
 -- A view has these numbers: it was loaded before this place of the log.
 pub record IsKnown (h : WritersLog) (first : List Op) (v : Numbers) (view : View) : Type 0 where
@@ -31,8 +32,8 @@ pub record AreNoOlder (h : WritersLog) (v : Numbers) (front : List Op) : Type 0 
 abbrev pub IsStatusBeside : ℕ → Type 0
 IsStatusBeside status = IsOneOf (0 ∷ 12 ∷ 16 ∷ 23 ∷ 30 ∷ []) status
 
--- The question is answered of a view that was loaded for it: none of its numbers is below the view's before, or below that of the
--- log as it was seen or told when the load began.
+-- The question is answered of a view that was loaded for it, with the text of the repository that this view shows: none of its numbers
+-- is below the view's before, or below that of the log as it was seen or told when the load began.
 pub record IsAnsweredOf (h : WritersLog) (told : List (List Op)) (first last : List Op) (old : Option View) (v : Numbers) (new : Option View) (question : Question) (faults_old faults_new : ℕ) (answered : Answered) : Type 0 where
   pub view : View
   pub numbers : Numbers
@@ -45,6 +46,7 @@ pub record IsAnsweredOf (h : WritersLog) (told : List (List Op)) (first last : L
   pub since_seen : AreNoOlder h numbers first
   pub since_told : AllByRecursion (AreNoOlder h numbers) told
   pub none_fell : IfSome old (λ view. NoneFell v numbers)
+  pub says : IsOf (seen (course_of h) numbers) question faults_old faults_new answered
   pub tells : Tells (Some mid) h.start (Some last) view question faults_old faults_new answered
   pub status : IsStatusBeside answered.status
 

@@ -4,11 +4,9 @@ use Rattle.std.specs.List.{FoldsTo}
 use Rattle.hgs_answers.specs.declared.outcome.Outcome.{Outcome}
 use Rattle.hgs_answers.specs.declared.outcome.Outcome.TheVariants.{Abandoned, CopyOver, Done, LockHeld, NeedsForce, NothingChanged, UnknownPath, UnknownRevision}
 use Rattle.hgs_files.specs.declared.op.Op.{Op}
-use Rattle.hgs_files.specs.Tree.{Tree}
 use Rattle.hgs_journal.specs.Names.{journal_path}
 use Rattle.hgs_legal.specs.LegalLog.{State, Turn, current}
 use Rattle.hgs_legal.specs.Numbers.{acknowledged_of, b_of, n_of, w_of}
-use Rattle.hgs_model.specs.Repo.{Repo}
 use Rattle.hgs_model.specs.Step.{Next, step}
 use Rattle.hgs_model.specs.declared.command.Refusal.{Refusal}
 use Rattle.hgs_model.specs.declared.command.Refusal.TheVariants as refusals
@@ -17,7 +15,6 @@ use Rattle.hgs_script.specs.declared.job.Job.{Job}
 use Rattle.hgs_script.specs.declared.job.Job.TheVariants.{Change}
 use Rattle.hgs_script.specs.declared.result.PublishedJob.{PublishedJob}
 use Rattle.hgs_session.specs.Calls.{Beginning, Call, IsCall, Stage, job_in, name_of, published_of, unsure_of}
-use Rattle.hgs_stands.specs.Stands.{Stands}
 use Rattle.hgs_writer.specs.Made.{HasNoLocks}
 use Rattle.hgs_writer.specs.Alone.{IsBarred, IsOutcomeOf, ReadsWithin}
 use Rattle.hgs_writer.specs.Limits.{LoadsWithin}

@@ -3,4 +3,5 @@ pub mod Once
 pub mod Workers
 pub mod Kept
 pub mod Samples
+pub mod Said
 pub mod Beside

@@ -1,5 +1,6 @@
 -- A session of two workers over a new store whose `wlock` another process holds.
-use Rattle.std.specs.Prelude.{ℕ, List, [], ◌∷◌, Some, None, codes, true}
+use Rattle.std.specs.Prelude.{ℕ, List, [], ◌∷◌, ◌++◌, Some, None, codes, true}
+use Rattle.hgs_bytes.specs.Text.{lines}
 use Rattle.hgs_answers.specs.declared.outcome.Outcome.TheVariants.{LockHeld}
 use Rattle.hgs_files.specs.Tree.{Tree}
 use Rattle.hgs_model.specs.declared.command.Command.TheVariants.{Commit}
@@ -47,3 +48,21 @@ held_states = told_once ∷ told_once ∷ []
 
 abbrev pub held_result : SessionResult
 held_result = record { published = []; unsure = None; replies = (said_by delete_here (held_call 0) ∷ []) ∷ (said_by delete_here (held_call 1) ∷ []) ∷ [] }
+
+-- ---- the two changesets that Mercurial wrote
+
+-- fields with tabs between
+abbrev tabbed : List (List ℕ) → List ℕ
+tabbed [] = []
+tabbed (field ∷ []) = field
+tabbed (field ∷ more) = field ++ 9 ∷ tabbed more
+
+abbrev pub log_of_two_drafts : List ℕ
+log_of_two_drafts = lines (
+    tabbed (codes "1" ∷ codes "37bdf19219c0e69b87d6371fabfaf5c3a63794d9" ∷ codes "0" ∷ codes "-1" ∷ codes "60" ∷ codes "0" ∷ codes "test" ∷ codes "b" ∷ [])
+    ∷ tabbed (codes "0" ∷ codes "cb9a9f314b8b07ba71012fcdbc544b5a4d82ff5b" ∷ codes "-1" ∷ codes "-1" ∷ codes "0" ∷ codes "0" ∷ codes "test" ∷ codes "a" ∷ [])
+    ∷ []
+    )
+
+abbrev pub files_of_second : List ℕ
+files_of_second = lines (codes "b789fdd96dc2f3bd229c1dd8eedf0fc60e2b68e3 - a" ∷ codes "1e88685f5ddec574a34c70af492f95b6debc8741 - b" ∷ [])

@@ -1,10 +1,15 @@
 //! The laws tried on a session. Each function is one example; none does anything but to name the laws that it rests on.
-ghost use Rattle.std.specs.Prelude.{[], List, Some};
+ghost use Rattle.std.specs.Prelude.{◌≡◌, [], List, Some, codes};
 ghost use Rattle.std.specs.List.{AllByRecursion};
 ghost use Rattle.hgs_files.specs.Tree.{Tree};
 ghost use Rattle.hgs_files.specs.declared.op.Op.{Op};
 ghost use Rattle.hgs_history.specs.Kept.{KeepsHistory};
-ghost use Rattle.hgs_history.specs.Samples.{held_calls, held_result, held_session, held_states, held_store, nothing_done, two_commits, two_jobs};
+ghost use Rattle.hgs_history.specs.Said.{answer_of};
+ghost use Rattle.hgs_history.specs.Samples.{files_of_second, held_calls, held_result, held_session, held_states, held_store, log_of_two_drafts, nothing_done, two_commits, two_jobs};
+ghost use Rattle.hgs_load.specs.declared.answer.ReadAnswer.TheVariants.{UnknownPath};
+ghost use Rattle.hgs_questions.specs.Said.{refused, said, unknown};
+ghost use Rattle.hgs_script.specs.declared.job.Question.TheVariants.{Cat, Files, Log};
+ghost use Rattle.hgs_stands.specs.Samples.{two_drafts};
 ghost use Rattle.hgs_legal.specs.ListsPaths.{ListsOnlyPaths, ListsPaths};
 ghost use Rattle.hgs_model.specs.Repo.{empty_repo};
 ghost use Rattle.hgs_legal.specs.LegalLog.{IsLegal};
@@ -42,3 +47,12 @@ pub fn two_workers_may_commit()
     new_repositories_list_paths();
     sessions_make_legal_logs();
 }
+
+/// What questions are answered with, of the two changesets that Mercurial 6.3.2 wrote: the second is the newest, and the first has no
+/// file `b`.
+pub fn answers_of_two_drafts()
+    ensures log { answer_of two_drafts Log ≡ said log_of_two_drafts }
+    ensures files { answer_of two_drafts (Files (codes "1")) ≡ said files_of_second }
+    ensures unknown_name { answer_of two_drafts (Files (codes "2")) ≡ unknown }
+    ensures unknown_path { answer_of two_drafts (Cat (codes "main") (codes "b")) ≡ refused UnknownPath }
+{}

@@ -1,19 +1,18 @@
 -- Texts that a session keeps while writers are at work.
-use Rattle.std.specs.Prelude.{◌≡◌, ℕ, List, [], false, Some, Result, Ok, Err, slice_get}
-use Rattle.std.specs.List.{AllByRecursion, AllZip}
-use Rattle.hgs_bytes.specs.Bytes.{IsPrefixOf, among}
+use Rattle.std.specs.Prelude.{◌≡◌, ℕ, List, [], Some, Result, Ok, slice_get}
+use Rattle.std.specs.List.{AllByRecursion}
+use Rattle.hgs_bytes.specs.Bytes.{IsPrefixOf}
 use Rattle.hgs_files.specs.declared.op.Op.{Op}
 use Rattle.hgs_files.specs.Tree.{Tree}
-use Rattle.hgs_index.specs.Manifest.{Row}
-use Rattle.hgs_model.specs.Repo.{Changeset, TreeFile, tree_paths}
+use Rattle.hgs_model.specs.Repo.{Changeset, Repo}
 use Rattle.hgs_load.specs.declared.answer.ReadAnswer.{ReadAnswer}
-use Rattle.hgs_load.specs.declared.answer.ReadAnswer.TheVariants.{UnknownPath}
 use Rattle.hgs_load.specs.Asks.{MayAnswer}
 use Rattle.hgs_load.specs.View.{View}
 use Rattle.hgs_reader.specs.Contents as plain
 use Rattle.hgs_recent.specs.Questions.{changeset_use_asks, files_asks, cat_asks}
 use Rattle.hgs_recent.specs.Texts.{Texts}
-use Rattle.hgs_headline.specs.AddsCommitted.{Adds, IsRowOf}
+use Rattle.hgs_shown.specs.Answers.{body_answer, body_at, tree_text}
+use Rattle.hgs_headline.specs.AddsCommitted.{Adds}
 use Rattle.hgs_views.specs.Answered.{OnlyAnswers}
 use Rattle.hgs_views.specs.Course.{Course}
 use Rattle.hgs_views.specs.Seen.{IsLoadedBetween, Numbers}
@@ -44,11 +43,8 @@ pub record AnswerAlike (x : Course) (first last : List Op) (texts : Texts) (view
   pub files : (answered : Result (List ℕ) ReadAnswer) → OnlyAnswers x first last (plain.files_asks view rev) answered → OnlyAnswers x first last (files_asks texts view rev) answered
   pub cat : (path : List ℕ) (answered : Result (List ℕ) ReadAnswer) → OnlyAnswers x first last (plain.cat_asks view rev path) answered → OnlyAnswers x first last (cat_asks texts view rev path) answered
 
--- The calls of a session that keeps these texts add, of this revision, the lines of its files and the body of each; every other
--- path is unknown.
-pub record AddsBeside (start : Tree) (first last : List Op) (texts : Texts) (view : View) (changesets : List Changeset) (rev : ℕ) (c : Changeset) : Type 0 where
-  pub rows : List Row
-  pub rows_of : AllZip (IsRowOf changesets) c.tree rows
-  pub files : Adds start first last (files_asks texts view rev) (Ok (plain.files_text rows))
-  pub bodies : AllByRecursion (λ (f : TreeFile). Adds start first last (cat_asks texts view rev f.path) (Ok f.body)) c.tree
-  pub others : (path : List ℕ) → among path (tree_paths c.tree) ≡ false → Adds start first last (cat_asks texts view rev path) (Err UnknownPath)
+-- The calls of a session that keeps these texts add, of this changeset of the repository, the lines of its files, each with the node
+-- that was committed, and the body of each; every other path is unknown.
+pub record AddsBeside (start : Tree) (first last : List Op) (texts : Texts) (view : View) (r : Repo) (rev : ℕ) (c : Changeset) : Type 0 where
+  pub files : Adds start first last (files_asks texts view rev) (Ok (tree_text r rev (Some c)))
+  pub body : (path : List ℕ) → Adds start first last (cat_asks texts view rev path) (body_answer (body_at r rev path))

@@ -12,7 +12,7 @@ ghost use Rattle.hgs_recalled.specs.Recalled.{WereRead, AnswerAlike, AddsBeside}
 ghost use Rattle.hgs_recent.specs.Questions.{changeset_use_asks, Keeps};
 ghost use Rattle.hgs_recent.specs.Texts.{Texts};
 ghost use Rattle.hgs_views.specs.Course.{Course, IsCourse, OpensAlong, ReadsAlong};
-ghost use Rattle.hgs_views.specs.Seen.{IsLoadedBetween, Numbers};
+ghost use Rattle.hgs_views.specs.Seen.{IsLoadedBetween, Numbers, seen};
 
 use hgs_headline::laws::{views_beside_writers, writers_logs_are_courses};
 use hgs_views::laws::{calls_that_add_a_text, contents_of_views};
@@ -34,11 +34,11 @@ pub fn kept_texts_answer_alike()
     contents_of_views();
 }
 
-/// So it is over the log that writers make: each call for the files of a changeset, or for the bytes of one, adds what was
-/// committed, whichever texts the session kept of its earlier calls.
+/// So it is over the log that writers make: each call for the files of a changeset, or for the bytes of one, adds the text of the
+/// repository that the view shows, whichever texts the session kept of its earlier calls.
 pub fn kept_texts_beside_writers()
     ensures { (h : WritersLog) (began ended first last : List Op) (v : Numbers) (view : View) (rev : ℕ) (c : Changeset) (texts : Texts) → IsPrefixOf last h.log → OpensAlong (course_of h) [] last → ReadsAlong (course_of h) [] last → IsLoadedBetween (course_of h) began ended v view → IsPrefixOf ended first → IsPrefixOf first last →
-        slice_get (repo_at h.last v.read).changesets rev ≡ Some c → WereRead (course_of h) [] first texts → AddsBeside h.start first last texts view (repo_at h.last v.read).changesets rev c }
+        slice_get (repo_at h.last v.read).changesets rev ≡ Some c → WereRead (course_of h) [] first texts → AddsBeside h.start first last texts view (seen (course_of h) v) rev c }
 {
     writers_logs_are_courses();
     views_beside_writers();

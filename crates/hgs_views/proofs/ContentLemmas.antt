@@ -348,6 +348,7 @@ module _ (x : Course) (first last : List Op) (is : IsCourse x first last) (opens
             parents = parents e.0 e.1;
             line = only-answers (line_asks view rev) (Ok (line_text rev e.0 h.change)) (line-only e.0 e.1);
             rows = h.rows;
+            rows_are = h.rows_are;
             tree = only-answers (tree_asks view rev) (Ok h.rows) tree-only;
             lines = only-answers (files_asks view rev) (Ok (files_text h.rows)) files-only;
             files = files-answered d.tree h.rows (law.used (x.repo c).changesets rev d found) (law.tracked (x.repo c).changesets rev d repo_is.changesets found) h.unpacks (small seen r).bodies (law.rows [] h.rows h.ascend) h.files;

@@ -11,7 +11,8 @@ pub mod ContentLemmas
 pub mod SeenLemmas
 pub mod CourseLemmas
 pub mod AppendLemmas
-pub mod AlikeLemmas
+pub mod SaidLemmas
+pub mod TellsLemmas
 pub mod GrowLemmas
 pub mod PublicLemmas
 pub mod NewLemmas

@@ -1,5 +1,5 @@
 -- What a view's questions answer while writers are at work.
-use Rattle.std.specs.Prelude.{◌≡◌, ℕ, List, false, Ok, Err, Some, slice_get}
+use Rattle.std.specs.Prelude.{◌≡◌, ℕ, List, false, Ok, Err, Some, slice_get, take}
 use Rattle.std.specs.List.{AllZip}
 use Rattle.hgs_bytes.specs.Bytes.{IsPrefixOf, among}
 use Rattle.hgs_files.specs.declared.op.Op.{Op}
@@ -7,7 +7,7 @@ use Rattle.hgs_index.specs.declared.entry.Entry.{Entry}
 use Rattle.hgs_index.specs.ChangeText.{Change}
 use Rattle.hgs_index.specs.Manifest.{Row}
 use Rattle.hgs_model.specs.Held.{IsPlacedIn}
-use Rattle.hgs_model.specs.History.{changeset_nodes, history}
+use Rattle.hgs_model.specs.History.{changeset_nodes, history, rows_of}
 use Rattle.hgs_model.specs.Repo.{Changeset, TreeFile, tree_paths}
 use Rattle.hgs_load.specs.declared.answer.ReadAnswer.TheVariants.{UnknownPath}
 use Rattle.hgs_load.specs.Asks.{Asks, MayAnswer}
@@ -29,7 +29,8 @@ pub record IsFileAnswered (x : Course) (first last : List Op) (view : View) (cha
   pub placed : IsPlacedIn (history changesets).filelog f row
   pub body : OnlyAnswers x first last (cat_asks view rev f.path) (Ok f.body)
 
--- The questions of this view of these changesets answer, of this revision, what the changeset says, the rows of its files and each body, and of every other path that it is unknown, and nothing else.
+-- The questions of this view of these changesets answer, of this revision, what the changeset says, the rows that its files have behind
+-- the changesets before it, and each body, and of every other path that it is unknown, and nothing else.
 pub record IsAnswered (x : Course) (first last : List Op) (view : View) (changesets : List Changeset) (rev : ℕ) (c : Changeset) : Type 0 where
   pub change : Change
   pub tells : Tells change c
@@ -40,6 +41,7 @@ pub record IsAnswered (x : Course) (first last : List Op) (view : View) (changes
   pub parents : (entry.p1, entry.p2) ≡ c.parents
   pub line : OnlyAnswers x first last (line_asks view rev) (Ok (line_text rev entry change))
   pub rows : List Row
+  pub rows_are : rows ≡ rows_of (history (take rev changesets)) c
   pub tree : OnlyAnswers x first last (tree_asks view rev) (Ok rows)
   pub lines : OnlyAnswers x first last (files_asks view rev) (Ok (files_text rows))
   pub files : AllZip (IsFileAnswered x first last view changesets rev) c.tree rows

@@ -1,7 +1,9 @@
 -- Courses on which numbers rise.
-use Rattle.std.specs.Prelude.{ℕ, zero, suc, None, Some, length, map}
+use Rattle.std.specs.Prelude.{ℕ, zero, suc, List, [], ◌∷◌, ◌++◌, None, Some, codes, length, map, pos}
 use Rattle.hgs_files.specs.Tree.{Tree, bytes_at, with_file}
-use Rattle.hgs_model.specs.Repo.{Repo}
+use Rattle.hgs_index.specs.Revision.{Parents}
+use Rattle.hgs_index.specs.declared.kinds.Flag.TheVariants.{Plain}
+use Rattle.hgs_model.specs.Repo.{Changeset, Repo}
 use Rattle.hgs_stands.specs.Places.{bookmarks_path, dirstate_path, changelog_index}
 use Rattle.hgs_stands.specs.Samples.{two_drafts_files}
 use Rattle.hgs_views.specs.Course.{Course}
@@ -42,3 +44,12 @@ no_files path = None
 -- the files of two drafts, without a bookmark and without working parents
 abbrev pub unmarked_files : Tree
 unmarked_files = with_file (with_file two_drafts_files bookmarks_path None) dirstate_path None
+
+-- ---- a file that is changed and changed back
+
+-- a changeset with one file `a` of one letter
+abbrev with_letter : Parents → List ℕ → Changeset
+with_letter parents letter = record { parents = parents; tree = record { path = codes "a"; flag = Plain; prefix = []; body = letter ++ 10 ∷ [] } ∷ []; user = codes "test"; seconds = pos 0; offset = pos 0; extras = []; description = letter }
+
+abbrev pub changed_back : Repo
+changed_back = record { changesets = with_letter (None, None) (codes "a") ∷ with_letter (Some 0, None) (codes "b") ∷ with_letter (Some 1, None) (codes "a") ∷ []; phases = 1 ∷ 1 ∷ 1 ∷ []; bookmarks = []; working = (None, None) }

@@ -6,8 +6,6 @@ ghost use Rattle.hgs_files.specs.declared.op.Op.TheVariants.{Append, Remove};
 ghost use Rattle.hgs_files.specs.Tree.{Tree, bytes_at, after_all};
 ghost use Rattle.hgs_model.specs.Names.{named as model_named};
 ghost use Rattle.hgs_reader.specs.Names.{named};
-ghost use Rattle.hgs_reader.specs.Heads.{heads_text};
-ghost use Rattle.hgs_reader.specs.Shown.{marks_text, parents_text};
 ghost use Rattle.hgs_shown.specs.Shown.{IsViewOf};
 ghost use Rattle.hgs_load.specs.declared.answer.ReadAnswer.{ReadAnswer};
 ghost use Rattle.hgs_load.specs.Asks.{Asks, answer, then_asks, MayAnswer, Answers, AddsAnswer, AddsGiven};
@@ -20,6 +18,7 @@ ghost use Rattle.hgs_load.specs.Refresh.{refresh_asks};
 ghost use Rattle.hgs_load.specs.View.{View, pieces_then, piece_length, most_pieces};
 ghost use Rattle.hgs_views.specs.Answered.{IsAnswered, OnlyAnswers};
 ghost use Rattle.hgs_views.specs.Course.{Course, IsBetween, IsCourse, OpensAlong, ReadsAlong, IsStep, KeepsFronts, AreSame, tree_after, whole_files, still};
+ghost use Rattle.hgs_views.specs.Says.{SaysOf, TellsOf};
 ghost use Rattle.hgs_views.specs.Samples.{committing, publishing};
 ghost use Rattle.hgs_reader.specs.Find.{text_asks};
 ghost use Rattle.hgs_index.specs.Inline.{is_inline};
@@ -36,7 +35,7 @@ ghost use Rattle.hgs_stands.specs.Places.{changelog_index, roots_path};
 ghost use Rattle.hgs_stands.specs.Shows.{Shows};
 ghost use Rattle.hgs_stands.specs.Stands.{HoldsChangesets, Stands, changeset_entries};
 
-use hgs_index::laws::{ancestor_test, held_index_length, nodes_are_counted};
+use hgs_index::laws::{ancestor_test, held_index_length, nodes_are_counted, nodes_have_places};
 use hgs_index::texts::{change_prints_then_reads, manifest_prints_then_reads};
 use hgs_model::history_laws::{changesets_are_held, histories_go_on, used_paths_have_revisions};
 use hgs_model::laws::{ancestors_of_a_front, changelog_is_whole};
@@ -269,13 +268,28 @@ pub fn appends_are_steps()
     ensures { (x : Course) (first log : List Op) (path bytes : List ℕ) → IsPrefixOf first log → IsCourse x first log → among path whole_files ≡ false → AreSame x log (log ++ Append path bytes ∷ []) → IsCourse x first (log ++ Append path bytes ∷ []) }
 {}
 
-/// Views of one repository, over whatever trees, give the same heads, bookmarks, working parents and phases.
-pub fn views_of_one_repository_answer_alike()
-    ensures { (t u : Tree) (r : Repo) (view other : View) → IsViewOf view t r → IsViewOf other u r → (heads_text view ≡ heads_text other) × (marks_text view ≡ marks_text other) × (parents_text view ≡ parents_text other) × (map phase_number view.phases ≡ map phase_number other.phases) }
+/// What the view of a repository says, over whatever tree, are that repository's texts.
+pub fn views_say_their_repository()
+    ensures { (t : Tree) (r : Repo) (view : View) → IsRepo r → IsViewOf view t r → SaysOf view r }
 {
+    names_of_what_is_shown();
     parents_of_entries();
     entries_of_revisions();
     places_of_nodes();
+    nodes_have_places();
+    changelog_is_whole();
+}
+
+/// So a view that was loaded while writers are at work says the texts of the repository that it shows. At any later moment its
+/// questions are answered with this repository's texts of each changeset, and with nothing else.
+pub fn views_tell_their_repository()
+    ensures says { (x : Course) (first last : List Op) (v : Numbers) (view : View) → IsCourse x first last → IsLoadedBetween x first last v view → SaysOf view (seen x v) }
+    ensures tells { (x : Course) (began ended first last : List Op) (v : Numbers) (view : View) (rev : ℕ) (c : Changeset) → IsCourse x began last → OpensAlong x first last → ReadsAlong x first last → IsLoadedBetween x began ended v view →
+        IsPrefixOf ended first → IsPrefixOf first last → slice_get (x.repo v.read).changesets rev ≡ Some c → TellsOf x first last view (seen x v) rev c }
+{
+    views_show_repositories();
+    views_say_their_repository();
+    contents_of_views();
 }
 
 /// Where the phase roots of such files are removed, that is a course on which each number rises.

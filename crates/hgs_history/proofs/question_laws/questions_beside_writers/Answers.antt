@@ -7,8 +7,9 @@ returns c = λ h told first last old v new question faults_old faults_new answer
       opened = c.loads_beside_writers.ensures.opened;
       refreshed = c.loads_beside_writers.ensures.refreshed;
       numbers = c.ends_beside_writers.ensures.numbers;
-      committed = c.views_beside_writers.ensures.committed;
-      shown = λ k from to w view p l. (let s = c.views_beside_writers.ensures.shown k from to w view p l in (s.0, s.1, s.2));
+      tells = c.views_beside_writers.ensures.tells;
+      repository = λ k from to w view p l. (c.views_beside_writers.ensures.shown k from to w view p l).0;
+      says = c.views_beside_writers.ensures.says;
       there = c.named_is_there.ensures;
     } in
     asked below h told first last on opens reads old v new question faults_old faults_new answered known is
