@@ -13,7 +13,7 @@ import subprocess
 import sys
 
 # `rt` sums a crate's files once for each path of crates.txt that leads down to it
-MOST_PATHS = 107_000
+MOST_PATHS = 112_000
 # one edit of a crate costs what its check from nothing does; of several each costs a check, and all of them one of the crate and another at the end
 MOST_EDITS, MOST_OF_A_CRATE, MOST_WITH_EDITS = 73, 5, 37
 

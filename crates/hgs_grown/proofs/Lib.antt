@@ -1,2 +1,3 @@
 mod GrowLemmas
 mod GoLemmas
+mod StopLemmas

@@ -1,5 +1,5 @@
 -- The changesets of a generator, committed one after another.
-use Rattle.std.specs.Prelude.{◌≡◌, ◌<◌, ◌⊎◌, ℕ, zero, suc, ◌+◌, Bool, true, ◌&&◌, List, [], ◌++◌, Option, Some, None, Result, Ok, Err}
+use Rattle.std.specs.Prelude.{◌≡◌, ◌<◌, ◌≤◌, ◌⊎◌, ℕ, zero, suc, ◌+◌, Bool, true, ◌&&◌, List, [], ◌++◌, Option, Some, None, Result, Ok, Err}
 use Rattle.std.specs.Option.{option_and_then}
 use Rattle.hgs_answers.specs.declared.answer.Answer.{Answer}
 use Rattle.hgs_answers.specs.declared.outcome.Outcome.{Outcome}
@@ -16,6 +16,9 @@ use Rattle.hgs_model.specs.declared.command.Command.TheVariants.{Commit}
 use Rattle.hgs_model.specs.Repo.{Repo}
 use Rattle.hgs_model.specs.Step.{Next, step}
 use Rattle.hgs_model.specs.declared.command.Refusal.{Refusal}
+use Rattle.hgs_ops.specs.Operations.{strays}
+use Rattle.hgs_stands.specs.Open.{IsOpen}
+use Rattle.hgs_stands.specs.Stands.{Stands}
 use Rattle.hgs_writer.specs.Refusals.{refusals_of}
 use Rattle.hgs_writer.specs.Written.{IsWritten}
 use Rattle.hgs_grown.specs.declared.commits.Stop.{Stop}
@@ -87,3 +90,7 @@ next_repo (Err e) = None
 abbrev pub grown : ℕ → ℕ → Repo → Option Repo
 grown seed zero r = Some r
 grown seed (suc n) r = option_and_then (λ s. next_repo (step s (Commit (generated seed n)))) (grown seed n r)
+
+-- The files stand for what the repository becomes by some of the first so many changesets, or can be taken back to that.
+abbrev pub IsGrownTo : ℕ → ℕ → Repo → Tree → Type 0
+IsGrownTo seed count r t = (made : ℕ) × (s : Repo) × (made ≤ count) × (grown seed made r ≡ Some s) × (Stands t s ⊎ IsOpen strays t s)

@@ -6,6 +6,7 @@ use Rattle.hgs_files.specs.declared.yard.Left.TheVariants.{Whole, Parts}
 use Rattle.hgs_files.specs.Tree.{Tree}
 use Rattle.hgs_files.specs.Yard.{IfWhole}
 use Rattle.hgs_top.specs.Given.{ReadsAsked}
+use Rattle.hgs_top.specs.Growth.{GrowsRepository}
 use Rattle.hgs_top.specs.Histories.{MakesHistory}
 use Rattle.hgs_top.specs.Orders.{IsAtEnd, IsRead, KeepsInput, Obeys}
 use Rattle.hgs_top.specs.Play.{PlaysAsked}
@@ -78,6 +79,11 @@ asked_reads (Err place) is status left h = absurd (cc is)
 pub asked_makes_none : (words : List (List ℕ)) → is_session (request_of_words words) ≡ true → (input : Option (List ℕ)) (old new : Option (List Op)) (start : Tree) → MakesHistory words input old new start
 asked_makes_none words is input None new start = tt
 asked_makes_none words is input (Some log) new start = λ job asked told. let e : is_session (Ok (to_do job)) ≡ true = sym (ap is_session asked) ∙ is in absurd (cc e)
+
+-- nor was `gen`
+pub asked_grows_none : (words : List (List ℕ)) → is_session (request_of_words words) ≡ true → (old new : Option (List Op)) (start : Tree) (status : ℕ) → GrowsRepository words old new start status
+asked_grows_none words is None new start status = tt
+asked_grows_none words is (Some log) new start status = λ seed count asked bare none. let e : is_session (Ok (to_generate seed count)) ≡ true = sym (ap is_session asked) ∙ is in absurd (cc e)
 
 -- ---- something else is asked for
 

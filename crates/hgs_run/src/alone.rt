@@ -6,6 +6,7 @@ ghost use Rattle.hgs_files.specs.Yard.{IfWhole};
 ghost use Rattle.hgs_machine.specs.Refusals.{WereRefused};
 ghost use Rattle.hgs_session.specs.Session.{IsWhole};
 ghost use Rattle.hgs_top.specs.Given.{ReadsAsked};
+ghost use Rattle.hgs_top.specs.Growth.{GrowsRepository};
 ghost use Rattle.hgs_top.specs.Histories.{MakesHistory};
 ghost use Rattle.hgs_top.specs.Orders.{IsRead, KeepsInput, Obeys};
 ghost use Rattle.hgs_top.specs.Play.{PlaysAsked};
@@ -16,7 +17,7 @@ ghost use Rattle.hgs_top.specs.Words.{is_session, request_of_words};
 use crate::ran::Ran;
 use hgs_files::streams::{Sink, Source};
 use hgs_files::yard::{Left, Yard};
-use hgs_top::laws::runs_make_histories;
+use hgs_top::laws::{runs_grow_repositories, runs_make_histories};
 use hgs_top::run::run_words;
 use hgs_verify::progress::Progress;
 use std::alloc::Global;
@@ -46,6 +47,7 @@ pub fn run_alone<T: Threads + Sync, Y: Yard, S: Source, K: Sink, P: Progress>(
     ensures sink { result.status ≡ 19 → Rose (K.faults out.old) (K.faults out.new) }
     ensures orders { IfWhole result.left (λ y. Obeys (λ n. WereRefused n (Y.A.faults (Y.files yard)) (Y.A.faults (Y.files y)) (Y.A.denied (Y.files yard)) (Y.A.denied (Y.files y))) (request_of_words (map string_bytes words.now)) (S.left input.old) (Y.A.log (Y.files yard)) (Y.A.log (Y.files y)) (Y.A.start (Y.files yard)) result.status (K.written out.old) (K.written out.new)) }
     ensures history { IfWhole result.left (λ y. MakesHistory (map string_bytes words.now) (S.left input.old) (Y.A.log (Y.files yard)) (Y.A.log (Y.files y)) (Y.A.start (Y.files yard))) }
+    ensures growth { IfWhole result.left (λ y. GrowsRepository (map string_bytes words.now) (Y.A.log (Y.files yard)) (Y.A.log (Y.files y)) (Y.A.start (Y.files yard)) result.status) }
     ensures given { IfWhole result.left (λ y. ReadsAsked (request_of_words (map string_bytes words.now)) (Y.A.given (Y.files yard)) (Y.A.given (Y.files y)) (Y.A.seen (Y.files yard)) (Y.A.start (Y.files yard)) (Y.A.seen (Y.files y))) }
     ensures same_start { IfWhole result.left (λ y. Y.A.start (Y.files y) ≡ Y.A.start (Y.files yard)) }
     ensures input { KeepsInput (request_of_words (map string_bytes words.now)) (S.left input.old) (S.left input.new) (S.faults input.old) (S.faults input.new) }
@@ -54,6 +56,7 @@ pub fn run_alone<T: Threads + Sync, Y: Yard, S: Source, K: Sink, P: Progress>(
     ensures whole { IsWhole result.left }
 {
     runs_make_histories();
+    runs_grow_repositories();
     let (mut files, rest) = yard.alone();
     let status = run_words(rt, alloc, words, &mut files, input, out, progress);
     Ran {

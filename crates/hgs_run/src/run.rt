@@ -9,6 +9,7 @@ ghost use Rattle.hgs_script.specs.Script.{CanBeRun};
 ghost use Rattle.hgs_script.specs.declared.script.Script.{Script};
 ghost use Rattle.hgs_session.specs.Session.{AreCounted, AreOfOneStart, IfParts, IsAt, IsWhole, LeftAs, MayRun, RestsOn};
 ghost use Rattle.hgs_top.specs.Given.{ReadsAsked};
+ghost use Rattle.hgs_top.specs.Growth.{GrowsRepository};
 ghost use Rattle.hgs_top.specs.Histories.{MakesHistory};
 ghost use Rattle.hgs_top.specs.Orders.{IsRead, KeepsInput, Obeys};
 ghost use Rattle.hgs_top.specs.Play.{PlaysAsked};
@@ -56,6 +57,7 @@ where
     ensures sink { result.status ≡ 19 → Rose (K.faults out.old) (K.faults out.new) }
     ensures orders { IfWhole result.left (λ y. Obeys (λ n. WereRefused n (Y.A.faults (Y.files yard)) (Y.A.faults (Y.files y)) (Y.A.denied (Y.files yard)) (Y.A.denied (Y.files y))) (request_of_words (map string_bytes words.now)) (S.left input.old) (Y.A.log (Y.files yard)) (Y.A.log (Y.files y)) (Y.A.start (Y.files yard)) result.status (K.written out.old) (K.written out.new)) }
     ensures history { IfWhole result.left (λ y. MakesHistory (map string_bytes words.now) (S.left input.old) (Y.A.log (Y.files yard)) (Y.A.log (Y.files y)) (Y.A.start (Y.files yard))) }
+    ensures growth { IfWhole result.left (λ y. GrowsRepository (map string_bytes words.now) (Y.A.log (Y.files yard)) (Y.A.log (Y.files y)) (Y.A.start (Y.files yard)) result.status) }
     ensures given { IfWhole result.left (λ y. ReadsAsked (request_of_words (map string_bytes words.now)) (Y.A.given (Y.files yard)) (Y.A.given (Y.files y)) (Y.A.seen (Y.files yard)) (Y.A.start (Y.files yard)) (Y.A.seen (Y.files y))) }
     ensures same_start { IfWhole result.left (λ y. KeepsStart (request_of_words (map string_bytes words.now)) (Y.A.start (Y.files yard)) (Y.A.start (Y.files y))) }
     ensures input { KeepsInput (request_of_words (map string_bytes words.now)) (S.left input.old) (S.left input.new) (S.faults input.old) (S.faults input.new) }

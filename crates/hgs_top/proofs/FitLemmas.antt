@@ -1,12 +1,14 @@
 -- The words of a command that sets a bookmark have a name that a bookmark can have.
-use Rattle.std.proofs.Common.{◌≡◌, ℕ, ◌+◌, Bool, true, false, List, [], ◌∷◌, Option, Some, None, Result, Ok, Err, refl, sym, subst}
-use Rattle.std.specs.Prelude.{if◌then◌else◌, IfOk, ⊤, codes, is_some, not, ◌&&◌}
+use Rattle.std.proofs.Common.{◌≡◌, ℕ, ◌+◌, Bool, true, false, List, [], ◌∷◌, Option, Some, None, Result, Ok, Err, refl, sym, subst, arith}
+use Rattle.std.specs.Prelude.{if◌then◌else◌, IfOk, ⊤, codes, is_some, not, nat_le, nat_lt, unwrap_or, ◌&&◌, ◌≤◌, ◌<◌, ◌^◌}
+use Rattle.std.proofs.lemmas.Bool.{leb-true, ltb-true}
+use Rattle.hgs_input.specs.Read.{number_up_to}
 use Rattle.hgs_bytes.specs.Bytes.{same, begins_with}
 use Rattle.hgs_index.specs.MarkName.{is_mark_name}
 use Rattle.hgs_top.specs.declared.operands.Operand.{Operand}
 use Rattle.hgs_top.specs.declared.operands.Operand.TheVariants as operand_kinds
 use Rattle.hgs_top.specs.declared.pages.Page.{Page}
-use Rattle.hgs_top.specs.Words.{Job, do_init, do_commit, do_import, do_recover, do_move, do_mark, do_unmark, Request, to_answer, to_do, to_play, to_session, to_verify, to_generate, operands, operand, with_operand, asked_with, alone_named, alone_else, about_named, bookmark_with, branches_with, steps_of, verify_with, jobs_of, phase_with, phase_or_move, moved_with, behind_word, request_named, request_of_words, page_named, page_else}
+use Rattle.hgs_top.specs.Words.{Job, do_init, do_commit, do_import, do_recover, do_move, do_mark, do_unmark, Request, to_answer, to_do, to_play, to_session, to_verify, to_generate, operands, operand, with_operand, asked_with, alone_named, alone_else, about_named, bookmark_with, branches_with, count_of, kept_where, seed_of, steps_of, verify_with, jobs_of, phase_with, phase_or_move, moved_with, behind_word, request_named, request_of_words, page_named, page_else}
 
 abbrev pub IsFitJob : Job → Type 0
 IsFitJob do_init = ⊤
@@ -23,7 +25,7 @@ IsFitRequest (to_do job) = IsFitJob job
 IsFitRequest to_play = ⊤
 IsFitRequest to_session = ⊤
 IsFitRequest (to_verify jobs) = ⊤
-IsFitRequest (to_generate seed count) = ⊤
+IsFitRequest (to_generate seed count) = (seed < 2 ^ 64) × (count ≤ 5000)
 
 either : (b : Bool) (x y : Result Request ℕ) → IfOk x IsFitRequest → IfOk y IsFitRequest → IfOk (if b then x else y) IsFitRequest
 either true x y hx hy = hx
@@ -32,6 +34,10 @@ either false x y hx hy = hy
 with-operands : (f : List (List ℕ) → Request) (r : Result (List (List ℕ)) ℕ) → ((words : List (List ℕ)) → r ≡ Ok words → IsFitRequest (f words)) → IfOk (asked_with f r) IsFitRequest
 with-operands f (Ok words) h = h words refl
 with-operands f (Err place) h = tt
+
+and-right : (a b : Bool) → (a && b) ≡ true → b ≡ true
+and-right true b e = e
+and-right false b e = cc
 
 first-word : (word : List ℕ) (r : Result (List (List ℕ)) ℕ) (words : List (List ℕ)) → with_operand word r ≡ Ok words → operand words 0 ≡ word
 first-word word (Ok rest) (w ∷ words) h = cc
@@ -75,6 +81,30 @@ branches-fit (Some []) words = tt
 branches-fit (Some (word ∷ behind)) words = either (is_some (steps_of word)) _ _ (with-operands _ (operands false [] 3 behind) (λ found h. tt)) tt
 branches-fit None words = with-operands _ (operands false [] 1 words) (λ found h. tt)
 
+-- ---- numbers
+
+kept-small : (fit : ℕ → Bool) (o : Option ℕ) (other most : ℕ) → other ≤ most → ((n : ℕ) → fit n ≡ true → n ≤ most) → unwrap_or (kept_where fit o) other ≤ most
+kept-small fit None other most h within = h
+kept-small fit (Some n) other most h within = by (fit n) refl
+  where
+    by : (b : Bool) → fit n ≡ b → unwrap_or (if b then Some n else (let none : Option ℕ = None in none)) other ≤ most
+    by true e = within n e
+    by false e = h
+
+either-small : (b : Bool) (x y : Option ℕ) (other most : ℕ) → unwrap_or x other ≤ most → unwrap_or y other ≤ most → unwrap_or (if b then x else y) other ≤ most
+either-small true x y other most hx hy = hx
+either-small false x y other most hx hy = hy
+
+seed-small : (word : List ℕ) → unwrap_or (seed_of word) 0 < 2 ^ 64
+seed-small word =
+    let most : ℕ = 18446744073709551615 in
+    let h = either-small (same word (codes "18446744073709551615")) (Some most) (kept_where (λ n. nat_lt n most) (number_up_to 18446744073709551614 word)) 0 most (omega arith)
+    (kept-small (λ n. nat_lt n most) (number_up_to 18446744073709551614 word) 0 most (omega arith) (λ n e. let l = ltb-true n most e in omega (arith, l))) in
+    omega (arith, h)
+
+count-small : (word : List ℕ) → unwrap_or (count_of word) 1 ≤ 5000
+count-small word = kept-small (λ n. nat_le 1 n && nat_le n 5000) (number_up_to 5000 word) 1 5000 (omega arith) (λ n e. leb-true n 5000 (and-right (nat_le 1 n) (nat_le n 5000) e))
+
 about-fits : (name : List ℕ) (words : List (List ℕ)) → IfOk (about_named name words) IsFitRequest
 about-fits name words =
     either (same name (codes "files")) _ _ (with-operands _ (operands false (operand_kinds.Any ∷ []) 1 words) (λ found h. tt))
@@ -84,7 +114,7 @@ about-fits name words =
     (either (same name (codes "phase")) _ _ (phase-fits (behind_word (codes "--force") words) words)
     (either (same name (codes "bookmark")) _ _ (bookmark-fits (behind_word (codes "--delete") words) words)
     (either (same name (codes "verify")) _ _ (verify-fits (behind_word (codes "--jobs") words) words)
-    (either (same name (codes "gen")) _ _ (with-operands _ (operands false (operand_kinds.Seed ∷ operand_kinds.Count ∷ []) 1 words) (λ found h. tt)) tt)))))))
+    (either (same name (codes "gen")) _ _ (with-operands _ (operands false (operand_kinds.Seed ∷ operand_kinds.Count ∷ []) 1 words) (λ found h. (seed-small (operand found 0), count-small (operand found 1)))) tt)))))))
 
 abbrev IsFitOption : Option Request → Type 0
 IsFitOption None = ⊤

@@ -6,7 +6,8 @@ pub mod EndedLemmas
 pub mod FitLemmas
 pub mod FoundLemmas
 pub mod GivenLemmas
-pub mod HistoryLemmas
+pub mod GrowthLemmas
+mod HistoryLemmas
 pub mod IndexLemmas
 pub mod InitLemmas
 pub mod InputLemmas

@@ -107,21 +107,25 @@ recovery-ended taken left log new start (Recovered x) comes = λ r here. (
 
 -- ---- a new repository
 
-module _ (taken : Taken) (left : Option (List ℕ)) (log : List Op) (new : Option (List Op)) (start : Tree) (bare : IsBare (after_all log start)) (none : after_all log start requires_path ≡ None) where
-  abbrev IsComing : Type 0
+-- where making one may stop
+abbrev pub NewStops : Type 0
+NewStops = (t : Tree) (done left d : List Op) → IsBare t → IsDone init_operations done left → IsStopped done d → (after_all d t requires_path ≡ t requires_path) ⊎ IsNew (after_all d t)
+
+module _ (new_stops : NewStops) (left : Option (List ℕ)) (log : List Op) (new : Option (List Op)) (start : Tree) (bare : IsBare (after_all log start)) (none : after_all log start requires_path ≡ None) where
+  abbrev pub IsComing : Type 0
   IsComing = (done : List Op) × (new ≡ Some (log ++ done)) × ((d : List Op) → IsStopped done d → (after_all d (after_all log start) requires_path ≡ None) ⊎ IsNew (after_all d (after_all log start)))
 
   nothing-made : new ≡ Some log → IsComing
   nothing-made e = ([], e ∙ ap (λ l. Some l) (sym (append-nil log)), λ d stop. inl (ap (λ (l : List Op). after_all l (after_all log start) requires_path) stop ∙ none))
 
   some-made : (done rest : List Op) → new ≡ Some (log ++ done) → IsDone init_operations done rest → IsComing
-  some-made done rest is h = (done, is, λ d stop. by d (taken.new_stops (after_all log start) done rest d bare h stop))
+  some-made done rest is h = (done, is, λ d stop. by d (new_stops (after_all log start) done rest d bare h stop))
     where
       by : (d : List Op) → (after_all d (after_all log start) requires_path ≡ after_all log start requires_path) ⊎ IsNew (after_all d (after_all log start)) → (after_all d (after_all log start) requires_path ≡ None) ⊎ IsNew (after_all d (after_all log start))
       by d (inl e) = inl (e ∙ none)
       by d (inr made) = inr made
 
-  new-ended : (ended : Ended) → ComesTo do_init left (Some log) new start ended → IsComing
+  pub new-ended : (ended : Ended) → ComesTo do_init left (Some log) new start ended → IsComing
   new-ended Made comes = some-made comes.2.0 [] comes.2.1 comes.2.2
   new-ended Exists comes = nothing-made comes.2
   new-ended (NotMade fault) (job, inl e) = nothing-made e
@@ -135,7 +139,7 @@ module _ (taken : Taken) (left : Option (List ℕ)) (log : List Op) (new : Optio
 -- ---- each
 
 makes : (taken : Taken) (words : List (List ℕ)) (job : Job) (left : Option (List ℕ)) (log : List Op) (new : Option (List Op)) (start : Tree) → request_of_words words ≡ Ok (to_do job) → IsTold job left → (ended : Ended) → ComesTo job left (Some log) new start ended → Makes job left log new start
-makes taken words do_init left log new start asked told ended comes = λ bare none. new-ended taken left log new start bare none ended comes
+makes taken words do_init left log new start asked told ended comes = λ bare none. new-ended taken.new_stops left log new start bare none ended comes
 makes taken words do_recover left log new start asked told ended comes = recovery-ended taken left log new start ended comes
 makes taken words do_commit left log new start asked told ended comes = command-ended taken words do_commit left log new start asked tt told ended comes
 makes taken words do_import left log new start asked told ended comes = command-ended taken words do_import left log new start asked tt told ended comes

@@ -1,5 +1,6 @@
 pub mod Branches
 pub mod Given
+pub mod Growth
 pub mod Histories
 pub mod History
 pub mod IndexLaws

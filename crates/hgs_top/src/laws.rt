@@ -30,10 +30,12 @@ ghost use Rattle.hgs_model.specs.Valid.{IsValid};
 ghost use Rattle.hgs_model.specs.declared.command.Command.{Command};
 ghost use Rattle.hgs_stands.specs.Stands.{Stands};
 ghost use Rattle.hgs_legal.specs.ListsPaths.{ListsOnlyPaths};
+ghost use Rattle.hgs_top.specs.Growth.{GrowsRepository};
 ghost use Rattle.hgs_top.specs.Histories.{GoesOnAs, IsBare, IsNew, IsTold, MakesHistory};
 ghost use Rattle.hgs_top.specs.Orders.{ComesTo, IsCommandOf, Obeys, init_operations};
 ghost use Rattle.hgs_top.specs.declared.ended.Ended.TheVariants.{Answered};
 
+use hgs_grown::laws::{growing_may_stop_anywhere, grown_repositories_stand};
 use hgs_input::laws::{read_imports_are_imports, read_records_are_records};
 use hgs_legal::list_laws::new_repositories_list_paths;
 use hgs_load::laws::{files_are_read_whole, separate_indexes_are_asked};
@@ -126,6 +128,17 @@ pub fn runs_make_histories()
     new_repositories_are_empty();
     recovering_leads_back();
     nothing_but_leftovers_is_removed();
+}
+
+/// So of a run that generates a repository where none of its files stood: wherever it is stopped there is no `requires` yet, or the files
+/// stand for what an empty repository becomes by some of the changesets, or can be taken back to that; and where it ends with a report,
+/// they stand for what it becomes by all.
+pub fn runs_grow_repositories()
+    ensures { (words : List (List ℕ)) (left : Option (List ℕ)) (old new : Option (List Op)) (start : Tree) (status : ℕ) (written_old written_new : Option (List ℕ)) (faults_old faults_new denied_old denied_new : ℕ) → Obeys (λ n. WereRefused n faults_old faults_new denied_old denied_new) (request_of_words words) left old new start status written_old written_new → GrowsRepository words old new start status }
+{
+    new_repositories_are_empty();
+    grown_repositories_stand();
+    growing_may_stop_anywhere();
 }
 
 /// A run that verifies and ends with 0 or 29 has written the whole report of the tree, of which no part passes a limit, and ends

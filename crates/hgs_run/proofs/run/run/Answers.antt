@@ -2,7 +2,7 @@ use Rattle.std.proofs.Common.{map, sym, ◌∙◌}
 use Rattle.std.specs.String.{string_bytes}
 use Rattle.hgs_machine.specs.Refusals.{WereRefused}
 use Rattle.hgs_top.specs.Words.{request_of_words}
-use Rattle.hgs_run.proofs.Asked.{asked_for, asked_gives, asked_input, asked_keeps_yard, asked_makes_none, asked_obeys, asked_of_repository, asked_plays, asked_reads, asked_says, asked_starts, if_whole, if_whole_map, others_ask_none, others_keep_start, others_keep_yard}
+use Rattle.hgs_run.proofs.Asked.{asked_for, asked_gives, asked_grows_none, asked_input, asked_keeps_yard, asked_makes_none, asked_obeys, asked_of_repository, asked_plays, asked_reads, asked_says, asked_starts, if_whole, if_whole_map, others_ask_none, others_keep_start, others_keep_yard}
 use Rattle.hgs_run.proofs.run.run.Goals as goal
 
 pub run_session-requires-clause-allows : goal.run_session-requires-clause-allows
@@ -13,6 +13,12 @@ returns-then-asks_session-clause-history g c =
     let is = sym c.asks_session.ensures ∙ c.if-asks_session.true in
     if_whole c.run_session.result.left
     (λ y. asked_makes_none (map string_bytes c.args.words.now) is (g.S.Source.left c.args.input.now) (g.Y.A.Files.log (g.Y.Yard.files c.args.yard)) (g.Y.A.Files.log (g.Y.Yard.files y)) (g.Y.A.Reads.start (g.Y.Yard.files c.args.yard)))
+
+pub returns-then-asks_session-clause-growth : goal.returns-then-asks_session-clause-growth
+returns-then-asks_session-clause-growth g c =
+    let is = sym c.asks_session.ensures ∙ c.if-asks_session.true in
+    if_whole c.run_session.result.left
+    (λ y. asked_grows_none (map string_bytes c.args.words.now) is (g.Y.A.Files.log (g.Y.Yard.files c.args.yard)) (g.Y.A.Files.log (g.Y.Yard.files y)) (g.Y.A.Reads.start (g.Y.Yard.files c.args.yard)) c.run_session.result.status)
 
 pub returns-then-asks_session-clause-repository : goal.returns-then-asks_session-clause-repository
 returns-then-asks_session-clause-repository g c = asked_of_repository (request_of_words (map string_bytes c.args.words.now)) (sym c.asks_session.ensures ∙ c.if-asks_session.true) _ _ _ _ _ _
